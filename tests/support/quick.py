@@ -31,7 +31,6 @@ FAULTS = (
     (["sort"], "1\n1 2\n.\n", 1),
 )
 
-TEST = re.compile(r"^test (\S+) \.\.\. (\w+)", re.M)
 CASE = re.compile(r"^case=(\S+) run=(\S+) status=(\d+) .*output=(\S+)", re.M)
 COUNT = re.compile(r"(\d+) passed, (\d+) failed\n\Z")
 
@@ -78,21 +77,6 @@ def left_to_the_gate():
     scripts = dict.fromkeys(re.findall(r"\btests/\w+\b(?!/)", (TOP / ".ci/run").read_text()))
     others = [name for name in scripts if name not in (*SCRIPTS, "tests/quick")]
     return ["every proof, and the must-fail edits", *others, "the rows of vectors on great lengths", "bench_growth"]
-
-
-class Tests:
-    """The tests of a crate."""
-
-    command = ["rt", "try", "--test"]
-
-    def __init__(self, copy, crate):
-        self.name = f"the tests of {crate}"
-        self.folder = copy / "crates" / crate
-        self.wanted = sum(file.read_text().count("#[test]") for file in self.folder.glob("src/**/*.rt"))
-
-    def counts(self, said, status):
-        passed = sum(word == "ok" for _, word in TEST.findall(said))
-        return passed, max(self.wanted - passed, int(status != 0))
 
 
 class Cases:
@@ -192,13 +176,10 @@ def run(parts):
 def main(copy):
     shutil.copytree(TOP / "crates", copy / "crates", ignore=shutil.ignore_patterns("out"))
     shutil.copy(TOP / "crates.txt", copy)
-    sources = sorted((copy / "crates").glob("*/src/**/*.rt"))
-    tested = {file.relative_to(copy).parts[1] for file in sources if "#[test]" in file.read_text()}
 
     # The longest parts come first, so that the processors end together.
     parts = []
     if WORDS != ["rest"]:
-        parts += [Tests(copy, crate) for crate in sorted(tested)]
         parts += [Cases(copy, "vectors", cases_of_vectors())]
         parts += [Cases(copy, "versions_program", cases_of_runs(*runs.VERSIONS, *runs.MISSPELT))]
         parts += [Cases(copy, "vers", cases_of_vers())]

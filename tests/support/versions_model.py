@@ -22,23 +22,24 @@ SHOWN = 60
 SHORT = {"r": "reverse", "u": "unique", "k": "key", "t": "field-separator", "z": "zero-terminated", "n": "count"}
 SHORT.update(g="group", v="invert-match")
 ENDS = {"zero-terminated", "crlf"}
-PLACE = {"key", "field-separator", "tags", "prefix", "scheme"} | ENDS
+NAMING = {"tags", "prefix"}
+PLACE = {"key", "field-separator", "scheme"} | NAMING | ENDS
 LINES = {"min-stability", "match", "invalid", "invalid-to", "progress"} | PLACE
 VALUED = (LINES | {"count", "group", "scheme-column"}) - {"tags", "progress"} - ENDS
 # The options of each command, and how many words it takes.
 COMMANDS = {
     "sort": ({"reverse", "unique", "scheme-column"} | LINES, 0, None),
     "newest": ({"count", "group", "scheme-column"} | LINES, 0, None),
-    "filter": ({"invert-match"} | LINES, 1, None),
-    "show": ({"json"} | ENDS, 0, None),
-    "key": ({"scheme"} | ENDS, 0, None),
-    "test": ({"scheme"}, 2, 3),
-    "compare": ({"explain", "scheme"}, 2, 2),
-    "why": ({"scheme"} | ENDS, 1, None),
+    "filter": ({"invert-match"} | LINES, 0, None),
+    "show": ({"json"} | NAMING | ENDS, 0, None),
+    "key": ({"scheme"} | NAMING | ENDS, 0, None),
+    "test": ({"scheme"} | NAMING, 2, 3),
+    "compare": ({"explain", "scheme"} | NAMING, 2, 2),
+    "why": ({"scheme"} | NAMING | ENDS, 1, None),
     "implies": ({"scheme"}, 2, 2),
     "meets": ({"scheme"}, 2, 2),
     "diff": ({"lists", "group", "invalid"} | PLACE, 2, 2),
-    "next": (ENDS, 1, None),
+    "next": (NAMING | ENDS, 1, None),
 }
 
 
@@ -108,8 +109,7 @@ class Run:
         """The version of each line, or None."""
         found = {}
         for group in self.by_scheme(list(enumerate(lines)), 1):
-            columns = [self.column(line, number) for _, line in group]
-            texts = (self.of_mixed if self.scheme == "mixed" else self.of_scheme)(columns)
+            texts = self.spelled([self.column(line, number) for _, line in group])
             keys = versions.sort_keys(texts, scheme=self.scheme)
             found.update((place, text) for (place, _), text, key in zip(group, texts, keys) if key)
         return [found.get(place) for place in range(len(lines))]
@@ -127,8 +127,12 @@ class Run:
                 self.scheme = name
                 yield group
 
+    def spelled(self, columns):
+        """The texts in columns that are to be versions, or None."""
+        return (self.of_mixed if self.scheme == "mixed" else self.of_scheme)(columns)
+
     def of_mixed(self, columns):
-        """The texts in columns that are to be versions, or None: those in tags by the library, for mixed alone."""
+        """The same of mixed: in tags by the library, which has that for mixed alone."""
         found = [readable(column) for column in columns]
         if "tags" in self.options:
             # The name before a version may be of any bytes.
@@ -148,7 +152,7 @@ class Run:
 
     def version(self, word, status=1):
         try:
-            return versions.Version(word, scheme=self.scheme)
+            return versions.Version(self.spelled([word.encode()])[0] or "", scheme=self.scheme)
         except versions.InvalidVersion:
             raise Ended(status, b"not a version: " + shown(word.encode())) from None
 
@@ -229,28 +233,32 @@ class Run:
 
         return self.lines(files, "fail", arrange)
 
-    def filter(self, wanted, *files):
-        wanted, keeps = self.version_set(wanted), "invert-match" not in self.options
-        return self.lines(files, "skip", lambda rows: matching(rows, wanted, keeps))
+    def filter(self, *words):
+        if not words:
+            return self.lines([], "skip", lambda rows: rows)
+        wanted, keeps = self.version_set(words[0]), "invert-match" not in self.options
+        return self.lines(words[1:], "skip", lambda rows: matching(rows, wanted, keeps))
 
     # One version or two.
 
     def each(self, words, answer):
-        """The answers of the versions that words or lines name, each in lines."""
+        """The answers of the versions that words or lines name, each in lines: by the text and its version."""
         if words and words != ("-",):
-            for word in words:
-                self.version(word)
+            given = [word.encode() for word in words]
+            found = [self.version(word) for word in words]
         else:
             lines = self.input([])
-            words = self.texts(lines, None)
-            self.bad(lines, words, "fail")
-        return b"".join(line.encode() + self.end() for word in words for line in answer(self.version(word)))
+            given, texts = [self.column(line, None) for line in lines], self.texts(lines, None)
+            self.bad(lines, texts, "fail")
+            found = [versions.Version(text, scheme=self.scheme) for text in texts]
+        answers = [line for text, one in zip(given, found) for line in answer(text, one)]
+        return b"".join((line if isinstance(line, bytes) else line.encode()) + self.end() for line in answers)
 
     def show(self, *words):
         return self.each(words, as_json if "json" in self.options else as_lines)
 
     def key(self, *words):
-        return self.each(words, lambda one: [one.key.hex()])
+        return self.each(words, lambda _, one: [one.key.hex()])
 
     def why(self, wanted, *words):
         found = self.version_set(wanted)
@@ -258,11 +266,11 @@ class Run:
         members = [MEMBER.findall(alternative) for alternative in wanted.split("||")]
         alternatives = [[(text, self.version_set(text)) for text in texts] for texts in members]
 
-        def lines(one):
+        def lines(given, one):
             if one in found:
-                return [f"{one} matches"]
+                return [given + b" matches"]
             first = [next(text for text, member in members if one not in member) for members in alternatives]
-            return [f"{one} is left out by {' and by '.join(first)}"]
+            return [given + b" is left out by " + " and by ".join(first).encode()]
 
         return head + self.each(words, lines)
 
@@ -271,11 +279,11 @@ class Run:
             raise WRONG
         place = PLACES.index(place) if place in PLACES else int(place)
 
-        def answer(one):
+        def answer(given, one):
             try:
-                return [f"{one.next(place)}"]
+                return [given.removesuffix(str(one).encode()) + str(one.next(place)).encode()]
             except (ValueError, OverflowError):
-                raise Ended(1, b"no version comes next at that place: " + shown(str(one).encode())) from None
+                raise Ended(1, b"no version comes next at that place: " + shown(given)) from None
 
         return self.each(words, answer)
 
@@ -384,6 +392,9 @@ def parsed(command, words):
                 letters = "" if attached is not None else letters
     if not least <= len(rest) <= (len(rest) if most is None else most) or not are_right(command, options):
         raise WRONG
+    # `filter` needs a set, but where the stability alone is asked for.
+    if command == "filter" and not rest and ("min-stability" not in options or "invert-match" in options):
+        raise WRONG
     return options, rest
 
 
@@ -401,7 +412,7 @@ def are_right(command, options):
         and not ("tags" in options and "prefix" in options)
         and not ("explain" in options and "scheme" in options)
         and not ("scheme-column" in options and ("scheme" in options or "match" in options))
-        and (command != "diff" or "lists" in options or not options)
+        and (command != "diff" or "lists" in options or not {*options} - NAMING)
     )
 
 
@@ -449,10 +460,10 @@ def fields(one):
     }
 
 
-def as_json(one):
+def as_json(_, one):
     return [json.dumps({"version": str(one), **fields(one)}, separators=(",", ":"))]
 
 
-def as_lines(one):
+def as_lines(_, one):
     found = {name.replace("_", "-"): value for name, value in fields(one).items() if value is not None}
     return [f"{one}", *(f"  {name}: {value}" for name, value in found.items())]

@@ -45,6 +45,7 @@ pub record ArePlain (options : LineOptions) : Type 0 where
 -- one version is asked
 pub record AsksOne (version : List ℕ) (options : EachOptions) : Type 0 where
   pub version_is : map (λ word. word.now) options.versions.items ≡ version ∷ []
+  pub naming_is : options.naming ≡ Bare
   pub end_is : options.end ≡ line_feed
   pub crlf_is : options.crlf ≡ false
 
@@ -62,8 +63,9 @@ Means (name ∷ []) (Lines (Sort reverse unique) options) =
 Means (name ∷ word ∷ []) (Each (Key scheme) options) =
     IsName (codes "key") name × (scheme ≡ Mixed) × AsksOne word options
 Means (name ∷ word ∷ []) (Match list) = IsName (codes "match") name × (list.now ≡ word)
-Means (name ∷ a ∷ b ∷ []) (Compare scheme first second) =
-    IsName (codes "cmp") name × (scheme ≡ Mixed) × (first.now ≡ a) × (second.now ≡ b)
+Means (name ∷ a ∷ b ∷ []) (Compare spelling first second) =
+    IsName (codes "cmp") name × (spelling.naming ≡ Bare) × (spelling.scheme ≡ Mixed) × (first.now ≡ a)
+    × (second.now ≡ b)
 Means words other = ⊥
 
 -- the words are no command; there may also be no memory for their task

@@ -4,8 +4,8 @@ ghost use Rattle.vers_words.specs.Words.{are_command, ArePlain, Means};
 
 use std::alloc::{AllocError, Global};
 use version_commands::{
-    Arrangement, Choice, EachOptions, Invalid, Labels, LineOptions, Naming, Question, Task,
-    VersionPlace,
+    Arrangement, Choice, EachOptions, Invalid, Labels, LineOptions, Naming, Question, Spelling,
+    Task, VersionPlace,
 };
 use version_schemes::Scheme;
 use version_tasks::Stability;
@@ -21,7 +21,10 @@ pub fn task_of<'w>(alloc: Global, words: &'w [String]) -> Result<Option<Task<'w>
         [name, word] if name.as_str() == "key" => Ok(Some(key_task(alloc, word.as_str())?)),
         [name, word] if name.as_str() == "match" => Ok(Some(Task::Match(word.as_str()))),
         [name, first, second] if name.as_str() == "cmp" => Ok(Some(Task::Compare(
-            Scheme::Mixed,
+            Spelling {
+                naming: Naming::Bare,
+                scheme: Scheme::Mixed,
+            },
             first.as_str(),
             second.as_str(),
         ))),
@@ -55,6 +58,7 @@ fn key_task<'w>(alloc: Global, version: &'w str) -> Result<Task<'w>, AllocError>
     versions.push(version)?;
     let options = EachOptions {
         versions,
+        naming: Naming::Bare,
         end: b'\n',
         crlf: false,
     };

@@ -5,13 +5,13 @@ use Rattle.std.specs.Prelude.{◌≡◌, ◌⊎◌, ⊤, ℕ, List, [], ◌∷�
 use Rattle.std.specs.Io.KnownBytes.{Consumes, IsAtEnd}
 use Rattle.version_commands.specs.Arranged.{policy}
 use Rattle.version_commands.specs.Choice.{wrong_set}
-use Rattle.version_commands.specs.Each.{AreTexts, IsFirstWithoutNext, reads_by, scheme_of}
+use Rattle.version_commands.specs.Each.{AreTexts, IsFirstWithoutNext, reads_by, version_asked}
 use Rattle.version_commands.specs.Fault.{first_wrong, ComesOfLines, ComesOfMatching, ComesOfPut, ComesOfReading, ComesOfSets, ComesOfStandard, ComesOfTestOfSet, ComesOfTestOfSets, ComesOfTestOfTwo, ComesOfWords}
 use Rattle.version_commands.specs.Inputs.{joined, names_read, AreInputs, Reading}
 use Rattle.version_commands.specs.Lists.{bad_lines_of, lines_of_list, names_of}
 use Rattle.version_commands.specs.Ordered.{versions_by}
 use Rattle.version_commands.specs.Picked.{Versions}
-use Rattle.version_commands.specs.Place.{reads_of}
+use Rattle.version_commands.specs.Place.{reads_of, spelled, spelled_mixed}
 use Rattle.version_commands.specs.Quote.{quoted}
 use Rattle.version_commands.specs.Sets.{IsWrongSet}
 use Rattle.version_commands.specs.declared.faults.Fault.{Fault}
@@ -20,6 +20,7 @@ use Rattle.version_commands.specs.declared.options.Arrangement.{Arrangement}
 use Rattle.version_commands.specs.declared.options.EachOptions.{EachOptions}
 use Rattle.version_commands.specs.declared.options.LineOptions.{LineOptions}
 use Rattle.version_commands.specs.declared.options.Lists.{Lists}
+use Rattle.version_commands.specs.declared.options.Naming.{Naming}
 use Rattle.version_commands.specs.declared.options.Question.{Question}
 use Rattle.version_commands.specs.declared.options.Question.TheVariants.{Why}
 use Rattle.version_commands.specs.declared.options.Task.{Task}
@@ -28,7 +29,6 @@ use Rattle.version_commands.specs.declared.options.Invalid.TheVariants.{Fail}
 use Rattle.version_commands.specs.declared.set.WrongSet.{WrongSet}
 use Rattle.version_lines.specs.Lines.{lines_of}
 use Rattle.version_lines.specs.Sort.{version_in}
-use Rattle.version_schemes.specs.declared.scheme.Scheme.TheVariants.{Mixed}
 
 -- the faults of a run over the lines of an input: of the lines that have no version, or of the file
 -- for these
@@ -62,31 +62,32 @@ ComesOfQuestion question fault.Memory = ⊤
 ComesOfQuestion question other = ⊥
 
 -- the first of some texts whose version has no next, as a message shows it
-abbrev pub QuotesFirstWithoutNext : Question → ℕ → List (List ℕ) → List ℕ → Type 0
-QuotesFirstWithoutNext question end texts shown =
-    (text : List ℕ) × IsFirstWithoutNext question end texts text × (shown ≡ quoted text)
+abbrev pub QuotesFirstWithoutNext : Question → Naming → ℕ → List (List ℕ) → List ℕ → Type 0
+QuotesFirstWithoutNext question naming end texts shown =
+    (text : List ℕ) × IsFirstWithoutNext question naming end texts text × (shown ≡ quoted text)
 
 -- the faults of answering to some texts
-abbrev pub ComesOfAnswering : Question → ℕ → List (List ℕ) → Fault → Type 0
-ComesOfAnswering question end texts other = (other ≡ fault.Memory)
+abbrev pub ComesOfAnswering : Question → Naming → ℕ → List (List ℕ) → Fault → Type 0
+ComesOfAnswering question naming end texts other = (other ≡ fault.Memory)
     ⊎ ((text : String Global) × (other ≡ fault.NoNext text)
-    × QuotesFirstWithoutNext question end texts (string_bytes text))
+    × QuotesFirstWithoutNext question naming end texts (string_bytes text))
 
 -- the faults of `show`, `key`, `why` and `next`: of a word that is no version, or without words of
 -- standard input or a line of it, of a version that none comes next to, or of the set of `why`
 abbrev pub ComesOfAsking : Question → EachOptions → Option (List ℕ) → Fault → Type 0
 ComesOfAsking question options old (fault.NotVersion text) =
-    first_wrong (scheme_of question) (map (λ word. word.now) options.versions.items) ≡ Some text.now
+    first_wrong (version_asked question options.naming) (map (λ word. word.now) options.versions.items)
+    ≡ Some text.now
 ComesOfAsking question options old (fault.BadLine number text ends more) =
     (options.versions.items ≡ []) × (new : Option (List ℕ)) × (input : List ℕ)
     × Consumes old new input × IsAtEnd new
-    × ComesOfLines Fail options.crlf (version_in (reads_by (scheme_of question) options.crlf)) (lines_of options.end input)
+    × ComesOfLines Fail options.crlf (version_in (reads_by question options.naming options.crlf)) (lines_of options.end input)
     (fault.BadLine number text ends more)
 ComesOfAsking question options old (fault.Read name) =
     (options.versions.items ≡ []) × (name.now ≡ codes "-")
 ComesOfAsking question options old (fault.NoNext text) =
     (new : Option (List ℕ)) × (texts : List (List ℕ)) × AreTexts options old new texts
-    × QuotesFirstWithoutNext question options.end texts (string_bytes text)
+    × QuotesFirstWithoutNext question options.naming options.end texts (string_bytes text)
 ComesOfAsking question options old other = ComesOfQuestion question other
 
 -- the faults of the lines without a version of a list
@@ -112,16 +113,18 @@ abbrev pub ComesOf : Task → Reading → Option (List ℕ) → Fault → Type 0
 ComesOf (task.Lines arrangement options) reads old fault =
     ComesOfArranging arrangement options reads old fault
 ComesOf (task.Each question options) reads old fault = ComesOfAsking question options old fault
-ComesOf (task.TestTwo scheme a operator b) reads old fault =
-    ComesOfTestOfTwo (first_wrong scheme (a.now ∷ b.now ∷ [])) fault
-ComesOf (task.TestSet scheme version set) reads old fault = ComesOfTestOfSet scheme version.now set.now fault
+ComesOf (task.TestTwo spelling a operator b) reads old fault =
+    ComesOfTestOfTwo (first_wrong (spelled spelling) (a.now ∷ b.now ∷ [])) fault
+ComesOf (task.TestSet spelling version set) reads old fault =
+    ComesOfTestOfSet spelling version.now set.now fault
 ComesOf (task.Implies scheme one other) reads old fault = ComesOfTestOfSets scheme one.now other.now fault
 ComesOf (task.Meets scheme one other) reads old fault = ComesOfTestOfSets scheme one.now other.now fault
-ComesOf (task.Compare scheme a b) reads old fault =
-    ComesOfWords (first_wrong scheme (a.now ∷ b.now ∷ [])) fault
-ComesOf (task.Explain a b) reads old fault = ComesOfWords (first_wrong Mixed (a.now ∷ b.now ∷ [])) fault
-ComesOf (task.Difference a b) reads old fault =
-    ComesOfWords (first_wrong Mixed (a.now ∷ b.now ∷ [])) fault
+ComesOf (task.Compare spelling a b) reads old fault =
+    ComesOfWords (first_wrong (spelled spelling) (a.now ∷ b.now ∷ [])) fault
+ComesOf (task.Explain naming a b) reads old fault =
+    ComesOfWords (first_wrong (spelled_mixed naming) (a.now ∷ b.now ∷ [])) fault
+ComesOf (task.Difference naming a b) reads old fault =
+    ComesOfWords (first_wrong (spelled_mixed naming) (a.now ∷ b.now ∷ [])) fault
 ComesOf (task.Lists lists) reads old fault = ComesOfChanges lists reads old fault
 ComesOf (task.Match list) reads old fault = ComesOfMatching list.now fault
 ComesOf (task.Label labels) reads old fault = ComesOfStandard fault

@@ -43,9 +43,9 @@ abbrev pub wanted_of : Scheme → Option (Bor (List ℕ)) → Option (PlainAny �
 wanted_of scheme None = Some (λ v. true)
 wanted_of scheme (Some word) = option_map is_of (keys_of scheme word.now)
 
--- which versions `filter` keeps, if the arrangement is one; None if its word is no set
+-- which versions `filter` keeps, if the arrangement is one with a set; None if its word is none
 abbrev pub passes_of : Scheme → Arrangement → Option (PlainAny → Bool)
-passes_of scheme (arrangement.Filter word inverted) =
+passes_of scheme (arrangement.Filter (Some word) inverted) =
     option_map (is_of_or_not inverted) (keys_of scheme word.now)
 passes_of scheme other = Some (λ v. true)
 
@@ -61,9 +61,9 @@ abbrev pub wrong_word : Scheme → Option (Bor (List ℕ)) → Option (List ℕ)
 wrong_word scheme None = None
 wrong_word scheme (Some word) = if is_some (keys_of scheme word.now) then None else Some word.now
 
--- the word of the set of `filter`
+-- the word of the set of `filter`, if there is one
 abbrev pub filter_word : Arrangement → Option (Bor (List ℕ))
-filter_word (arrangement.Filter word inverted) = Some word
+filter_word (arrangement.Filter word inverted) = word
 filter_word other = None
 
 -- the first word that is no set where one should stand

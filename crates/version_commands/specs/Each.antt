@@ -6,12 +6,13 @@ use Rattle.version_commands.specs.Json.{json_line}
 use Rattle.version_commands.specs.Key.{key_line}
 use Rattle.version_commands.specs.Next.{WritesNext}
 use Rattle.version_commands.specs.Pieces.{Adds}
-use Rattle.version_commands.specs.Place.{line_text}
+use Rattle.version_commands.specs.Place.{before_named, line_text, named_text}
 use Rattle.version_commands.specs.Sets.{keys_of}
 use Rattle.version_commands.specs.Show.{show_text}
 use Rattle.version_commands.specs.Why.{IsWhyHead, IsWhyLine}
 use Rattle.version_commands.specs.declared.each.Answers.{Answers}
 use Rattle.version_commands.specs.declared.options.EachOptions.{EachOptions}
+use Rattle.version_commands.specs.declared.options.Naming.{Naming}
 use Rattle.version_commands.specs.declared.options.Question.{Question}
 use Rattle.version_commands.specs.declared.options.Question.TheVariants.{Show, Json, Key, Why, Next}
 use Rattle.version_lines.specs.Lines.{lines_of}
@@ -31,21 +32,29 @@ scheme_of (Key scheme) = scheme
 scheme_of (Why scheme set) = scheme
 scheme_of (Next place) = Mixed
 
+-- the version that a text is to it
+abbrev pub version_asked : Question → Naming → List ℕ → Option PlainAny
+version_asked question naming text = any_of (scheme_of question) (named_text naming text)
+
 -- how lines are read
-abbrev pub reads_by : Scheme → Bool → Reads
-reads_by scheme crlf = record { scheme = scheme; text_of = line_text crlf }
+abbrev pub reads_by : Question → Naming → Bool → Reads
+reads_by question naming crlf =
+    record { scheme = scheme_of question; text_of = λ line. named_text naming (line_text crlf line) }
 
 -- something holds of the version of the scheme mixed that a version is
 abbrev pub OfMixed : PlainAny → (PlainVersioning → Type 0) → Type 0
 OfMixed v Holds = (w : PlainVersioning) × (versioning_of v.text ≡ Some w) × Holds w
 
--- what is written for a version, and whether there is an answer: only `next` may have none
-abbrev pub IsAnswer : Question → ℕ → PlainAny → Bool → List ℕ → Type 0
-IsAnswer Show end v found answer = OfMixed v (λ w. (found ≡ true) × (answer ≡ show_text end w))
-IsAnswer Json end v found answer = OfMixed v (λ w. (found ≡ true) × (answer ≡ json_line end w))
-IsAnswer (Key scheme) end v found answer = (found ≡ true) × (answer ≡ key_line end v)
-IsAnswer (Why scheme set) end v found answer = (found ≡ true) × IsWhyLine end set.now v answer
-IsAnswer (Next place) end v found answer = OfMixed v (λ w. WritesNext end w place found answer)
+-- what is written for a text and its version, and whether there is an answer: only `next` may have none, which
+-- keeps what stands before the version
+abbrev pub IsAnswer : Question → Naming → ℕ → List ℕ → PlainAny → Bool → List ℕ → Type 0
+IsAnswer Show naming end text v found answer = OfMixed v (λ w. (found ≡ true) × (answer ≡ show_text end w))
+IsAnswer Json naming end text v found answer = OfMixed v (λ w. (found ≡ true) × (answer ≡ json_line end w))
+IsAnswer (Key scheme) naming end text v found answer = (found ≡ true) × (answer ≡ key_line end v)
+IsAnswer (Why scheme set) naming end text v found answer =
+    (found ≡ true) × IsWhyLine end set.now text v answer
+IsAnswer (Next place) naming end text v found answer =
+    OfMixed v (λ w. WritesNext end (before_named naming text) w place found answer)
 
 -- the set of `why` is one, and this is it, by its ends
 abbrev pub HasSet : Question → Option (List (List ℕ)) → Type 0
@@ -56,11 +65,11 @@ HasSet (Key scheme) set = ⊤
 HasSet (Next place) set = ⊤
 
 -- each text is a version, and the answers to them follow one another
-abbrev pub AreAnswered : Question → ℕ → List (List ℕ) → List ℕ → Type 0
-AreAnswered question end [] output = output ≡ []
-AreAnswered question end (text ∷ texts) output =
-    (v : PlainAny) × (answer : List ℕ) × (rest : List ℕ) × (any_of (scheme_of question) text ≡ Some v)
-    × IsAnswer question end v true answer × AreAnswered question end texts rest
+abbrev pub AreAnswered : Question → Naming → ℕ → List (List ℕ) → List ℕ → Type 0
+AreAnswered question naming end [] output = output ≡ []
+AreAnswered question naming end (text ∷ texts) output =
+    (v : PlainAny) × (answer : List ℕ) × (rest : List ℕ) × (version_asked question naming text ≡ Some v)
+    × IsAnswer question naming end text v true answer × AreAnswered question naming end texts rest
     × (output ≡ answer ++ rest)
 
 -- the question asks for the version next to one that has none
@@ -69,22 +78,25 @@ HasNoNext (Next place) (Some v) = OfMixed v (λ w. NoNext w place)
 HasNoNext other v = ⊥
 
 -- the first of some texts whose version has no next, so that there are answers to those before it
-abbrev pub IsFirstWithoutNext : Question → ℕ → List (List ℕ) → List ℕ → Type 0
-IsFirstWithoutNext question end texts text =
+abbrev pub IsFirstWithoutNext : Question → Naming → ℕ → List (List ℕ) → List ℕ → Type 0
+IsFirstWithoutNext question naming end texts text =
     (before after : List (List ℕ)) × (answers : List ℕ) × (texts ≡ before ++ text ∷ after)
-    × AreAnswered question end before answers × HasNoNext question (any_of (scheme_of question) text)
+    × AreAnswered question naming end before answers × HasNoNext question (version_asked question naming text)
 
 -- the texts are answered after a head, or this is the first of them whose version has no next
-abbrev pub AnsweredOr : Question → ℕ → List ℕ → List (List ℕ) → List ℕ → Option (Bor (List ℕ)) → Type 0
-AnsweredOr question end head texts output None = Adds (AreAnswered question end texts) head output
-AnsweredOr question end head texts output (Some text) = IsFirstWithoutNext question end texts text.now
+abbrev pub AnsweredOr : Question → Naming → ℕ → List ℕ → List (List ℕ) → List ℕ → Option (Bor (List ℕ))
+    → Type 0
+AnsweredOr question naming end head texts output None = Adds (AreAnswered question naming end texts) head output
+AnsweredOr question naming end head texts output (Some text) =
+    IsFirstWithoutNext question naming end texts text.now
 
 -- the same since the first of these answers
 pub record HaveAnswered (first now : Answers) (texts : List (List ℕ)) : Type 0 where
   pub question_is : now.question ≡ first.question
+  pub naming_is : now.naming ≡ first.naming
   pub end_is : now.end ≡ first.end
   pub crlf_is : now.crlf ≡ first.crlf
-  pub answers_are : AnsweredOr first.question first.end first.output.items texts now.output.items
+  pub answers_are : AnsweredOr first.question first.naming first.end first.output.items texts now.output.items
       now.unanswered
 
 -- what stands before the answers: of `why`, that no version is in the set
@@ -119,5 +131,5 @@ pub record IsAnswered (question : Question) (options : EachOptions) (old new : O
   pub answers : List ℕ
   pub texts_are : AreTexts options old new texts
   pub head_is : IsHead question options.end head
-  pub answers_are : AreAnswered question options.end texts answers
+  pub answers_are : AreAnswered question options.naming options.end texts answers
   pub output_is : output ≡ head ++ answers

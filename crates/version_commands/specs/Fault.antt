@@ -6,6 +6,7 @@ use Rattle.std.specs.Option.{option_map_or, option_or}
 use Rattle.version_commands.specs.declared.options.Invalid.{Invalid}
 use Rattle.version_commands.specs.declared.options.Invalid.TheVariants as invalid
 use Rattle.version_commands.specs.declared.options.LineOptions.{LineOptions}
+use Rattle.version_commands.specs.declared.options.Spelling.{Spelling}
 use Rattle.version_commands.specs.declared.pick.BadLines.{BadLines}
 use Rattle.version_commands.specs.declared.set.WrongSet.{WrongSet}
 use Rattle.version_lines.specs.declared.input.Trouble.{Trouble}
@@ -13,11 +14,11 @@ use Rattle.version_lines.specs.declared.input.Trouble.TheVariants as trouble
 use Rattle.version_commands.specs.Bad.{Reports}
 use Rattle.version_commands.specs.Inputs.{IsRefused, Reading}
 use Rattle.version_commands.specs.Picked.{bad_lines, good_before, Versions}
+use Rattle.version_commands.specs.Place.{spelled}
 use Rattle.version_commands.specs.Quote.{quoted}
 use Rattle.version_commands.specs.Sets.{IsWrongSet, keys_of}
 use Rattle.version_rules.specs.requirement.Requirements.{requirements_of}
 use Rattle.version_sets.specs.Reason.{reason_text}
-use Rattle.version_schemes.specs.any.Order.{any_of}
 use Rattle.version_schemes.specs.declared.scheme.Scheme.{Scheme}
 use Rattle.version_commands.specs.declared.faults.Fault.{Fault}
 use Rattle.version_commands.specs.declared.faults.Fault.TheVariants.{NotVersion, NotRequirement, NotSet, NotTested, NotTestedSet, BadLine, NoNext, Memory, Read, Write}
@@ -121,14 +122,14 @@ ComesOfSets scheme first Memory = ⊤
 ComesOfSets scheme first (NotSet wrong) = IsSomeAnd first (λ word. IsWrongSet scheme word wrong)
 ComesOfSets scheme first fault = ⊥
 
--- the word, if it is no version
-abbrev pub unless_version : Scheme → List ℕ → Option (List ℕ)
-unless_version scheme word = option_map_or (λ _. None) (any_of scheme word) (Some word)
+-- the word, if it is read as no version
+abbrev pub unless_version : {V : Type 0} → (List ℕ → Option V) → List ℕ → Option (List ℕ)
+unless_version read word = option_map_or (λ _. None) (read word) (Some word)
 
--- the first of some words that is no version
-abbrev pub first_wrong : Scheme → List (List ℕ) → Option (List ℕ)
-first_wrong scheme [] = None
-first_wrong scheme (word ∷ words) = option_or (unless_version scheme word) (first_wrong scheme words)
+-- the first of some words that is read as none
+abbrev pub first_wrong : {V : Type 0} → (List ℕ → Option V) → List (List ℕ) → Option (List ℕ)
+first_wrong read [] = None
+first_wrong read (word ∷ words) = option_or (unless_version read word) (first_wrong read words)
 
 -- the faults that words which should be versions can end in, if this is the first that is none
 abbrev pub ComesOfWords : Option (List ℕ) → Fault → Type 0
@@ -150,11 +151,12 @@ ComesOfTestedSet scheme word (NotTestedSet wrong) = IsWrongSet scheme word wrong
 ComesOfTestedSet scheme word fault = ⊥
 
 -- those of a version and a set, of which the version comes first
-abbrev pub ComesOfTestOfSet : Scheme → List ℕ → List ℕ → Fault → Type 0
-ComesOfTestOfSet scheme version set Memory = ⊤
-ComesOfTestOfSet scheme version set (NotTested text) = (text.now ≡ version) × (any_of scheme version ≡ None)
-ComesOfTestOfSet scheme version set (NotTestedSet wrong) = IsSome (any_of scheme version) × IsWrongSet scheme set wrong
-ComesOfTestOfSet scheme version set fault = ⊥
+abbrev pub ComesOfTestOfSet : Spelling → List ℕ → List ℕ → Fault → Type 0
+ComesOfTestOfSet spelling version set Memory = ⊤
+ComesOfTestOfSet spelling version set (NotTested text) = (text.now ≡ version) × (spelled spelling version ≡ None)
+ComesOfTestOfSet spelling version set (NotTestedSet wrong) =
+    IsSome (spelled spelling version) × IsWrongSet spelling.scheme set wrong
+ComesOfTestOfSet spelling version set fault = ⊥
 
 -- those of two sets
 abbrev pub ComesOfTestOfSets : Scheme → List ℕ → List ℕ → Fault → Type 0

@@ -8,16 +8,15 @@ use Rattle.version_commands.specs.Label.{AreLabelled}
 use Rattle.version_commands.specs.Lists.{bad_lines_of, difference_text, names_of, rows_of}
 use Rattle.version_commands.specs.Ordered.{bad_file, IsOrdered}
 use Rattle.version_commands.specs.Matched.{AreMatched}
+use Rattle.version_commands.specs.Place.{spelled, spelled_mixed}
 use Rattle.version_commands.specs.Test.{answer_line, answer_of_set, answer_of_two, AreSetsSo}
 use Rattle.version_commands.specs.declared.options.Invalid.TheVariants.{Fail}
 use Rattle.version_commands.specs.declared.options.Lists.{Lists}
 use Rattle.version_commands.specs.declared.options.Task.{Task}
 use Rattle.version_commands.specs.declared.options.Task.TheVariants as task
 use Rattle.version_lines.specs.Lines.{line_feed}
-use Rattle.version_schemes.specs.any.Order.{any_of}
 use Rattle.version_schemes.specs.declared.scheme.Scheme.{Scheme}
 use Rattle.version_sets.specs.Ends.{IsPart, Meet}
-use Rattle.version_rules.specs.grammar.Versioning.{versioning_of}
 
 -- the words are versions, and this is the line for the two
 pub record IsLineOfTwo {V : Type 0} (read : List ℕ → Option V) (line : V → V → List ℕ) (a b : List ℕ)
@@ -48,8 +47,8 @@ IsLineOfSets scheme Holds one other output =
 
 -- whether a task answers yes: one that answers by its output alone does
 abbrev pub Answers : Task → Bool → Type 0
-Answers (task.TestTwo scheme a operator b) answer = answer_of_two scheme operator a.now b.now ≡ Some answer
-Answers (task.TestSet scheme version set) answer = answer_of_set scheme version.now set.now ≡ Some answer
+Answers (task.TestTwo spelling a operator b) answer = answer_of_two spelling operator a.now b.now ≡ Some answer
+Answers (task.TestSet spelling version set) answer = answer_of_set spelling version.now set.now ≡ Some answer
 Answers (task.Implies scheme one other) answer = AreSetsSo scheme (IsPart answer) one.now other.now
 Answers (task.Meets scheme one other) answer = AreSetsSo scheme (Meet answer) one.now other.now
 Answers other answer = answer ≡ true
@@ -62,18 +61,18 @@ IsOutput (task.Lines arrangement options) reads old new leaves output =
     IsOrdered arrangement options reads old new leaves output
 IsOutput (task.Each question options) reads old new leaves output =
     IsAnswered question options old new output
-IsOutput (task.TestTwo scheme a operator b) reads old new leaves output = output ≡ []
-IsOutput (task.TestSet scheme version set) reads old new leaves output = output ≡ []
+IsOutput (task.TestTwo spelling a operator b) reads old new leaves output = output ≡ []
+IsOutput (task.TestSet spelling version set) reads old new leaves output = output ≡ []
 IsOutput (task.Implies scheme one other) reads old new leaves output =
     IsLineOfSets scheme IsPart one.now other.now output
 IsOutput (task.Meets scheme one other) reads old new leaves output =
     IsLineOfSets scheme Meet one.now other.now output
-IsOutput (task.Compare scheme a b) reads old new leaves output =
-    IsLineOfTwo (any_of scheme) (comparison_line line_feed) a.now b.now output
-IsOutput (task.Explain a b) reads old new leaves output =
-    IsLineOfTwo versioning_of (explained_line line_feed) a.now b.now output
-IsOutput (task.Difference a b) reads old new leaves output =
-    IsLineOfTwo versioning_of (difference_line line_feed) a.now b.now output
+IsOutput (task.Compare spelling a b) reads old new leaves output =
+    IsLineOfTwo (spelled spelling) (comparison_line line_feed) a.now b.now output
+IsOutput (task.Explain naming a b) reads old new leaves output =
+    IsLineOfTwo (spelled_mixed naming) (explained_line line_feed) a.now b.now output
+IsOutput (task.Difference naming a b) reads old new leaves output =
+    IsLineOfTwo (spelled_mixed naming) (difference_line line_feed) a.now b.now output
 IsOutput (task.Lists lists) reads old new leaves output = AreChanges lists reads old new output
 IsOutput (task.Label labels) reads old new leaves output = AreLabelled labels old new output
 IsOutput (task.Match list) reads old new leaves output = AreMatched list.now old new output

@@ -1,13 +1,16 @@
 -- Where the version of a line stands.
-use Rattle.std.specs.Prelude.{ℕ, Bool, List, [], Option, Some, None, if◌then◌else◌}
+use Rattle.std.specs.Prelude.{ℕ, ◌-◌, Bool, List, [], Option, Some, None, if◌then◌else◌, length, take}
 use Rattle.std.specs.Option.{unwrap_or}
 use Rattle.std.specs.Str.Lines.{strip_carriage_return}
 use Rattle.version_lines.specs.Column.{column_of}
 use Rattle.version_lines.specs.declared.column.Column.{Column}
 use Rattle.version_commands.specs.declared.options.Naming.{Naming}
 use Rattle.version_commands.specs.declared.options.Naming.TheVariants.{Bare, Tag, Prefix}
+use Rattle.version_commands.specs.declared.options.Spelling.{Spelling}
 use Rattle.version_commands.specs.declared.options.VersionPlace.{VersionPlace}
 use Rattle.version_lines.specs.Sort.{Reads}
+use Rattle.version_rules.specs.grammar.Versioning.{PlainVersioning, versioning_of}
+use Rattle.version_schemes.specs.any.Order.{PlainAny, any_of}
 use Rattle.version_tasks.specs.Tag.{text_after_prefix, text_in_tag}
 
 -- a line without the carriage return that it may end in, if that belongs to its end
@@ -29,6 +32,18 @@ abbrev pub named_text : Naming → List ℕ → List ℕ
 named_text Bare text = text
 named_text Tag text = unwrap_or (text_in_tag text) []
 named_text (Prefix prefix) text = unwrap_or (text_after_prefix prefix.now text) []
+
+-- what stands before it
+abbrev pub before_named : Naming → List ℕ → List ℕ
+before_named naming text = take (length text - length (named_text naming text)) text
+
+-- the version that a text spells
+abbrev pub spelled : Spelling → List ℕ → Option PlainAny
+spelled spelling text = any_of spelling.scheme (named_text spelling.naming text)
+
+-- the same of the scheme mixed
+abbrev pub spelled_mixed : Naming → List ℕ → Option PlainVersioning
+spelled_mixed naming text = versioning_of (named_text naming text)
 
 -- the text in a line that is to be its version
 abbrev pub text_of : VersionPlace → List ℕ → List ℕ

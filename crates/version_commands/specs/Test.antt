@@ -2,12 +2,14 @@
 use Rattle.std.specs.Prelude.{◌≡◌, ◌++◌, ◌∷◌, [], ℕ, Bool, List, Option, Some, codes, if◌then◌else◌}
 use Rattle.std.specs.Ordering.{is_lt, is_le, is_eq, is_ge, is_gt}
 use Rattle.std.specs.declared.cmp.Ordering.{Ordering}
+use Rattle.version_commands.specs.Place.{spelled}
 use Rattle.version_commands.specs.Sets.{keys_of}
 use Rattle.version_commands.specs.declared.options.Operator.{Operator}
 use Rattle.version_commands.specs.declared.options.Operator.TheVariants.{Less, LessOrEqual, Equal, GreaterOrEqual, Greater}
+use Rattle.version_commands.specs.declared.options.Spelling.{Spelling}
 use Rattle.version_lines.specs.Lines.{line_feed}
 use Rattle.version_rules.specs.grammar.Front.{◌>>=◌}
-use Rattle.version_schemes.specs.any.Order.{any_of, any_precedence}
+use Rattle.version_schemes.specs.any.Order.{any_precedence}
 use Rattle.version_schemes.specs.declared.scheme.Scheme.{Scheme}
 
 -- whether an operator holds between two versions that compare so
@@ -19,17 +21,17 @@ holds GreaterOrEqual order = is_ge order
 holds Greater order = is_gt order
 
 -- whether it holds between two versions, by their precedence; None if a word is none
-abbrev pub answer_of_two : Scheme → Operator → List ℕ → List ℕ → Option Bool
-answer_of_two scheme operator first second = do
-  v ← any_of scheme first
-  w ← any_of scheme second
+abbrev pub answer_of_two : Spelling → Operator → List ℕ → List ℕ → Option Bool
+answer_of_two spelling operator first second = do
+  v ← spelled spelling first
+  w ← spelled spelling second
   Some (holds operator (any_precedence v w))
 
 -- whether a set has a version; None if a word is none
-abbrev pub answer_of_set : Scheme → List ℕ → List ℕ → Option Bool
-answer_of_set scheme version set = do
-  v ← any_of scheme version
-  keys ← keys_of scheme set
+abbrev pub answer_of_set : Spelling → List ℕ → List ℕ → Option Bool
+answer_of_set spelling version set = do
+  v ← spelled spelling version
+  keys ← keys_of spelling.scheme set
   Some (keys v.key)
 
 -- two words are sets, of whose keys this holds

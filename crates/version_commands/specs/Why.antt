@@ -22,10 +22,10 @@ why_text set alternatives v =
     then codes " matches"
     else members_text (codes " is left out by ") set (leave_out v.key alternatives)
 
--- the line for a version
-abbrev pub IsWhyLine : ℕ → List ℕ → PlainAny → List ℕ → Type 0
-IsWhyLine end set v line = (alternatives : List (List Member)) × (set_of v.scheme set ≡ Some alternatives)
-    × (line ≡ v.text ++ (why_text set alternatives v ++ end ∷ []))
+-- the line for a text and its version
+abbrev pub IsWhyLine : ℕ → List ℕ → List ℕ → PlainAny → List ℕ → Type 0
+IsWhyLine end set text v line = (alternatives : List (List Member)) × (set_of v.scheme set ≡ Some alternatives)
+    × (line ≡ text ++ (why_text set alternatives v ++ end ∷ []))
 
 -- what stands before the lines: that no version is in the set, if it has no key
 abbrev pub head_text : ℕ → List ℕ → Bool → List ℕ

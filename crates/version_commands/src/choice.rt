@@ -1,6 +1,6 @@
 //! Which lines that have a version are kept.
-ghost use Rattle.std.specs.Prelude.{◌≡◌, true, Some, IfErr, IfOk, IsTrue};
-ghost use Rattle.version_commands.specs.Choice.{is_kept, is_stable_enough, is_wanted, keeps_of, passes, stability_by, wrong_set};
+ghost use Rattle.std.specs.Prelude.{◌≡◌, true, None, Some, IfErr, IfOk, IsTrue, OnOk};
+ghost use Rattle.version_commands.specs.Choice.{filter_word, is_kept, is_stable_enough, is_wanted, keeps_of, passes, passes_of, stability_by, wanted_of, wrong_set, wrong_word};
 ghost use Rattle.version_commands.specs.Fault.{ComesOfSets};
 ghost use Rattle.version_schemes.specs.any.Order.{PlainAny};
 ghost use Rattle.version_schemes.specs.any.AnyVersion.{plain_any};
@@ -46,17 +46,8 @@ impl Chooser {
             keeps_of scheme choice.now arrangement.now ≡ Some (is_kept chooser)) }
         ensures faults { IfErr result (ComesOfSets scheme (wrong_set scheme choice.now arrangement.now)) }
     {
-        let filter = match arrangement {
-            Arrangement::Filter { set, inverted } => Some(Filter {
-                set: set_of_word(alloc, scheme, set)?,
-                inverted: *inverted,
-            }),
-            _ => None,
-        };
-        let wanted = match choice.wanted {
-            Some(word) => Some(set_of_word(alloc, scheme, word)?),
-            None => None,
-        };
+        let filter = filter_of(alloc, scheme, arrangement)?;
+        let wanted = wanted_of(alloc, scheme, choice.wanted)?;
         Ok(Chooser {
             least: choice.least,
             wanted,
@@ -86,6 +77,43 @@ impl Chooser {
         is_stable_enough(self.least, version)
             && is_wanted(&self.wanted, version)
             && passes(&self.filter, version)
+    }
+}
+
+// Reads the set of `filter`, if the arrangement is one with a set.
+fn filter_of<'w>(
+    alloc: Global,
+    scheme: Scheme,
+    arrangement: &Arrangement<'w>,
+) -> Result<Option<Filter>, Fault<'w>>
+    ensures ok { IfOk result (λ filter. passes_of scheme arrangement.now ≡ Some (passes filter)) }
+    ensures right { OnOk result (wrong_word scheme (filter_word arrangement.now) ≡ None) }
+    ensures faults { IfErr result (ComesOfSets scheme (wrong_word scheme (filter_word arrangement.now))) }
+{
+    match arrangement {
+        Arrangement::Filter {
+            set: Some(word),
+            inverted,
+        } => Ok(Some(Filter {
+            set: set_of_word(alloc, scheme, word)?,
+            inverted: *inverted,
+        })),
+        _ => Ok(None),
+    }
+}
+
+// Reads the set that a word is, if there is a word.
+fn wanted_of<'w>(
+    alloc: Global,
+    scheme: Scheme,
+    word: Option<&'w str>,
+) -> Result<Option<Set>, Fault<'w>>
+    ensures ok { IfOk result (λ wanted. wanted_of scheme word.entry ≡ Some (is_wanted wanted)) }
+    ensures faults { IfErr result (ComesOfSets scheme (wrong_word scheme word.entry)) }
+{
+    match word {
+        Some(word) => Ok(Some(set_of_word(alloc, scheme, word)?)),
+        None => Ok(None),
     }
 }
 

@@ -4,12 +4,11 @@ ghost use Rattle.std.specs.Io.KnownBytes.{Consumes, IsAtEnd};
 ghost use Rattle.version_commands.specs.Cause.{ComesOfAnswering, ComesOfAsking, ComesOfQuestion};
 ghost use Rattle.version_commands.specs.declared.each.Answers.{Answers};
 ghost use Rattle.version_commands.specs.Early.{IfOfWord};
-ghost use Rattle.version_commands.specs.Each.{scheme_of, AreAnswered, HasSet, HaveAnswered, IsAnswer, IsAnswered, IsHead};
+ghost use Rattle.version_commands.specs.Each.{scheme_of, version_asked, AreAnswered, HasSet, HaveAnswered, IsAnswer, IsAnswered, IsHead};
 ghost use Rattle.version_commands.specs.Pieces.{Adds};
 ghost use Rattle.version_commands.specs.Place.{line_text};
 ghost use Rattle.version_lines.specs.Lines.{lines_of};
 ghost use Rattle.version_schemes.specs.any.AnyVersion.{plain_any};
-ghost use Rattle.version_schemes.specs.any.Order.{any_of};
 
 use crate::bad::refuse_first;
 use crate::faults::Fault;
@@ -17,7 +16,7 @@ use crate::inputs::read_standard;
 use crate::json::add_json;
 use crate::key::add_key_line;
 use crate::next::add_next;
-use crate::options::{EachOptions, Question};
+use crate::options::{EachOptions, Naming, Question, Spelling};
 use crate::pick::{EveryVersion, Takes, pick};
 use crate::place::line_text;
 use crate::quote::quoted;
@@ -93,13 +92,14 @@ fn answer_words<'w>(
     requires set { HasSet question asked.set }
     requires words { words.now ≡ options.now.versions.items }
     requires some { 0 < length words.now }
-    ensures answers { IfOk result (λ output. Adds (AreAnswered question.entry options.now.end
+    ensures answers { IfOk result (λ output. Adds (AreAnswered question.entry options.now.naming options.now.end
         (map (λ word. word.now) words.now)) asked.head.items output.items) }
     ensures faults { (old : Option (List ℕ)) → IfErr result (ComesOfAsking question.entry options.now old) }
 {
     let mut answers = Answers {
         alloc,
         question,
+        naming: options.naming,
         end: options.end,
         crlf: options.crlf,
         set: asked.set,
@@ -107,8 +107,12 @@ fn answer_words<'w>(
         output: asked.head,
         unanswered: None,
     };
+    let spelling = Spelling {
+        naming: options.naming,
+        scheme: question.scheme(),
+    };
     for word in words {
-        let version = version_of_word(question.scheme(), word)?;
+        let version = version_of_word(&spelling, word)?;
         answers.add(word.as_bytes(), &version)?;
     }
     answers.finish()
@@ -124,7 +128,7 @@ fn answer_lines<'w>(
 ) -> Result<Vec<u8>, Fault<'w>>
     requires set { HasSet question asked.set }
     requires words { options.now.versions.items ≡ [] }
-    ensures answers { IfOk result (λ output. Adds (AreAnswered question.entry options.now.end
+    ensures answers { IfOk result (λ output. Adds (AreAnswered question.entry options.now.naming options.now.end
         (map (line_text options.now.crlf) (lines_of options.now.end input.now)))
         asked.head.items output.items) }
     ensures faults { (old new : Option (List ℕ)) → Consumes old new input.now → IsAtEnd new
@@ -133,6 +137,7 @@ fn answer_lines<'w>(
     let mut answers = Answers {
         alloc,
         question,
+        naming: options.naming,
         end: options.end,
         crlf: options.crlf,
         set: asked.set,
@@ -150,6 +155,7 @@ fn answer_lines<'w>(
 struct Answers<'q, 'a> {
     alloc: Global,
     question: Question<'q>,
+    naming: Naming<'q>,
     end: u8,
     crlf: bool,
     set: Option<Set>,
@@ -163,8 +169,9 @@ impl<'a> Answers<'_, 'a> {
     // Adds the answer for a text, which is this version.
     fn add(&mut self, text: &'a [u8], version: &AnyVersion<'_>) -> Result<(), AllocError>
         requires set { HasSet self.old.question self.old.set }
-        requires version { any_of (scheme_of self.old.question) text.now ≡ Some (plain_any version.now) }
+        requires version { version_asked self.old.question self.old.naming text.now ≡ Some (plain_any version.now) }
         ensures question { self.new.question ≡ self.old.question }
+        ensures naming { self.new.naming ≡ self.old.naming }
         ensures crlf { self.new.crlf ≡ self.old.crlf }
         ensures set { self.new.set ≡ self.old.set }
         ensures answers { OnOk result ((first : Answers) → (texts : List (List ℕ))
@@ -175,7 +182,9 @@ impl<'a> Answers<'_, 'a> {
             && !add_answer(
                 self.alloc,
                 self.question,
+                self.naming,
                 &self.set,
+                text,
                 version,
                 self.end,
                 self.room.as_mut_slice(),
@@ -191,10 +200,10 @@ impl<'a> Answers<'_, 'a> {
     fn finish<'w>(self) -> Result<Vec<u8>, Fault<'w>>
         ensures answers { IfOk result (λ output. (first : Answers) → (texts : List (List ℕ))
             → HaveAnswered first self.entry texts
-            → Adds (AreAnswered first.question first.end texts) first.output.items output.items) }
+            → Adds (AreAnswered first.question first.naming first.end texts) first.output.items output.items) }
         ensures faults { IfErr result (λ fault. (first : Answers) → (texts : List (List ℕ))
             → HaveAnswered first self.entry texts
-            → ComesOfAnswering first.question first.end texts fault) }
+            → ComesOfAnswering first.question first.naming first.end texts fault) }
     {
         match self.unanswered {
             None => Ok(self.output),
@@ -205,11 +214,11 @@ impl<'a> Answers<'_, 'a> {
 
 impl<'a> Takes<'a> for Answers<'_, 'a> {
     ghost use Rattle.std.specs.Prelude.{◌≡◌, ⊤, map};
-    ghost use Rattle.version_commands.specs.Each.{reads_by, scheme_of, HasSet, HaveAnswered};
+    ghost use Rattle.version_commands.specs.Each.{reads_by, HasSet, HaveAnswered};
     ghost use Rattle.version_commands.specs.Place.{line_text};
     ghost use Rattle.version_lines.specs.Sort.{version_in};
 
-    ghost versions = { λ answers. version_in (reads_by (scheme_of answers.question) answers.crlf) };
+    ghost versions = { λ answers. version_in (reads_by answers.question answers.naming answers.crlf) };
 
     ghost IsReady = { λ answers. HasSet answers.question answers.set };
 
@@ -217,7 +226,8 @@ impl<'a> Takes<'a> for Answers<'_, 'a> {
         HaveAnswered first now (map (line_text first.crlf) lines) };
 
     fn version(&self, line: &'a [u8]) -> Option<AnyVersion<'a>> {
-        AnyVersion::read(self.question.scheme(), line_text(self.crlf, line))
+        let text = self.naming.text(line_text(self.crlf, line));
+        AnyVersion::read(self.question.scheme(), text)
     }
 
     fn take(&mut self, version: &AnyVersion<'a>, line: &'a [u8]) -> Result<(), AllocError> {
@@ -225,11 +235,13 @@ impl<'a> Takes<'a> for Answers<'_, 'a> {
     }
 }
 
-// Adds the answer for a version, and returns whether there is one.
+// Adds the answer for a text and its version, and returns whether there is one.
 fn add_answer(
     alloc: Global,
     question: Question<'_>,
+    naming: Naming<'_>,
     set: &Option<Set>,
+    text: &[u8],
     version: &AnyVersion<'_>,
     end: u8,
     room: &mut [u8],
@@ -238,7 +250,7 @@ fn add_answer(
     requires set { HasSet question set.now }
     requires scheme { (plain_any version.now).scheme ≡ scheme_of question }
     ensures { IfOk result (λ found. Adds
-        (IsAnswer question.entry end (plain_any version.now) found)
+        (IsAnswer question.entry naming.entry end text.now (plain_any version.now) found)
         output.old.items output.new.items) }
 {
     match question {
@@ -247,10 +259,11 @@ fn add_answer(
         Question::Key(_) => add_key_line(alloc, version, end, output)?,
         Question::Why(_, word) => {
             let set = set.as_ref().unwrap();
-            add_why(word, set, version, end, room, output)?;
+            add_why(word, set, text, version, end, room, output)?;
         }
         Question::Next(place) => return add_next(
             alloc,
+            naming.before(text),
             version.mixed().unwrap(),
             place,
             end,

@@ -36,7 +36,7 @@ pub use faults::Fault;
 pub use files::{Files, NoFiles, Stage};
 pub use options::{
     Arrangement, Choice, EachOptions, Invalid, Labels, LineOptions, Lists, Naming, Operator,
-    Question, Task, VersionPlace,
+    Question, Spelling, Task, VersionPlace,
 };
 pub use program::serve;
 pub use quote::{Shown, quoted};

@@ -15,6 +15,13 @@ pub enum Naming<'w> {
     Prefix(&'w str),
 }
 
+/// How a text spells a version.
+#[derive(Clone, Copy, Debug)]
+pub struct Spelling<'w> {
+    pub naming: Naming<'w>,
+    pub scheme: Scheme,
+}
+
 /// Where the version of a line stands.
 #[derive(Clone, Copy, Debug)]
 pub struct VersionPlace<'w> {
@@ -65,9 +72,9 @@ pub enum Arrangement<'w> {
         /// The column whose text is the group of a line. Without one, all lines are of one group.
         group: Option<Column>,
     },
-    /// Those whose versions are in a set, or are not, in the order of the input.
+    /// Those whose versions are in a set, or are not, in the order of the input; without a set all of them.
     Filter {
-        set: &'w str,
+        set: Option<&'w str>,
         inverted: bool,
     },
 }
@@ -108,6 +115,8 @@ pub enum Question<'w> {
 #[derive(Debug, Drop)]
 pub struct EachOptions<'w> {
     pub versions: Vec<&'w str>,
+    /// How a version stands in each.
+    pub naming: Naming<'w>,
     /// The byte that ends a line.
     pub end: u8,
     /// Whether a carriage return at the end of a line belongs to the line's end.
@@ -156,19 +165,19 @@ pub enum Task<'w> {
     /// `show`, `key`, `why` and `next`.
     Each(Question<'w>, EachOptions<'w>),
     /// `test A OP B`.
-    TestTwo(Scheme, &'w str, Operator, &'w str),
+    TestTwo(Spelling<'w>, &'w str, Operator, &'w str),
     /// `test VERSION SET`.
-    TestSet(Scheme, &'w str, &'w str),
+    TestSet(Spelling<'w>, &'w str, &'w str),
     /// `implies SET SET`.
     Implies(Scheme, &'w str, &'w str),
     /// `meets SET SET`.
     Meets(Scheme, &'w str, &'w str),
     /// `compare A B`.
-    Compare(Scheme, &'w str, &'w str),
+    Compare(Spelling<'w>, &'w str, &'w str),
     /// `compare --explain A B`.
-    Explain(&'w str, &'w str),
+    Explain(Naming<'w>, &'w str, &'w str),
     /// `diff A B`.
-    Difference(&'w str, &'w str),
+    Difference(Naming<'w>, &'w str, &'w str),
     /// `diff --lists OLD NEW`.
     Lists(Lists<'w>),
     /// `ideal` and `show` of `vers`.

@@ -1,15 +1,17 @@
 //! Where the version of a line stands.
 ghost use Rattle.std.specs.Prelude.{◌≡◌, IsTrue};
 ghost use Rattle.std.specs.Option.{option_map};
-ghost use Rattle.version_commands.specs.Place.{column_text, line_text, named_text, place_text, reads_of, text_of};
+ghost use Rattle.version_commands.specs.Place.{before_named, column_text, line_text, named_text, place_text, reads_of, spelled, spelled_mixed, text_of};
 ghost use Rattle.version_lines.specs.Sort.{version_in};
 ghost use Rattle.version_schemes.specs.any.AnyVersion.{plain_any};
 ghost use Rattle.version_schemes.specs.declared.scheme.Scheme.TheVariants.{Mixed};
+ghost use Rattle.version_texts.specs.versioning_ref.VersioningRef.{plain_versioning_ref};
 
-use crate::options::{Naming, VersionPlace};
+use crate::options::{Naming, Spelling, VersionPlace};
 use version_lines::{Column, GroupBy, SortBy};
 use version_schemes::{AnyVersion, Scheme};
 use version_tasks::{text_after_prefix, text_in_tag};
+use version_texts::VersioningRef;
 
 impl VersionPlace<'_> {
     /// Whether each line is its version, of the scheme mixed.
@@ -53,10 +55,33 @@ impl VersionPlace<'_> {
     }
 }
 
+impl Spelling<'_> {
+    /// Returns the version that a text spells. Does not allocate.
+    pub fn version<'a>(&self, text: &'a [u8]) -> Option<AnyVersion<'a>>
+        ensures { option_map plain_any result ≡ spelled self.now text.now }
+    {
+        AnyVersion::read(self.scheme, self.naming.text(text))
+    }
+}
+
 impl Naming<'_> {
-    // Returns the text of the version in a text.
+    /// Returns the version of the scheme mixed that a text spells. Does not allocate.
+    pub fn mixed<'a>(&self, text: &'a [u8]) -> Option<VersioningRef<'a>>
+        ensures { option_map plain_versioning_ref result ≡ spelled_mixed self.now text.now }
+    {
+        VersioningRef::from_bytes(self.text(text))
+    }
+
+    /// Returns what stands before the text of the version in a text.
+    pub fn before<'a>(&self, text: &'a [u8]) -> &'a [u8]
+        ensures { result.now ≡ before_named self.now text.now }
+    {
+        &text[..text.len().saturating_sub(self.text(text).len())]
+    }
+
+    /// Returns the text of the version in a text.
     #[inline(always)]
-    fn text<'a>(&self, text: &'a [u8]) -> &'a [u8]
+    pub fn text<'a>(&self, text: &'a [u8]) -> &'a [u8]
         ensures { result.now ≡ named_text self.now text.now }
     {
         match self {

@@ -10,11 +10,9 @@ ghost use Rattle.version_commands.specs.Files.{AltersAtMost, Leaves};
 ghost use Rattle.version_commands.specs.Inputs.{reads_standard};
 ghost use Rattle.version_commands.specs.Lists.{names_of};
 ghost use Rattle.version_commands.specs.Output.{asks_reader, file_of, Answers, AreChanges, IsLineOfTwo, IsOutput};
+ghost use Rattle.version_commands.specs.Place.{spelled, spelled_mixed};
 ghost use Rattle.version_commands.specs.Test.{answer_line};
 ghost use Rattle.version_lines.specs.Lines.{line_feed};
-ghost use Rattle.version_rules.specs.grammar.Versioning.{versioning_of};
-ghost use Rattle.version_schemes.specs.any.Order.{any_of};
-ghost use Rattle.version_schemes.specs.declared.scheme.Scheme.TheVariants.{Mixed};
 
 use crate::arrange::serve_lines;
 use crate::bad::refuse_if;
@@ -27,13 +25,12 @@ use crate::inputs::read_inputs;
 use crate::label::write_labels;
 use crate::lists::{add_lists, read_names};
 use crate::matched::write_matched;
-use crate::options::{Lists, Task};
+use crate::options::{Lists, Naming, Spelling, Task};
 use crate::test::{answer_line, implies, meets, test_set, test_two};
 use crate::word::{mixed_of_word, version_of_word};
 use crate::write::write_answer;
 use std::alloc::Global;
 use std::io::{Read, Write};
-use version_schemes::Scheme;
 
 /// Does a task, and returns whether it answers yes: one that answers by its output alone does. What it writes is
 /// `IsOutput` of the task and of what its files and the reader hold, and a fault `ComesOf` the same. At a fault the writer got nothing, or a proper beginning if it takes no more. A task that doesn't
@@ -65,25 +62,25 @@ pub fn serve<'w, F: Files, R: Read, W: Write>(
             let output = answer_each(alloc, *question, options, reader)?;
             write_text(writer, output.as_slice())
         }
-        Task::TestTwo(scheme, first, operator, second) => {
-            test_two(*scheme, first, *operator, second)
+        Task::TestTwo(spelling, first, operator, second) => {
+            test_two(spelling, first, *operator, second)
         }
-        Task::TestSet(scheme, version, set) => test_set(alloc, *scheme, version, set),
+        Task::TestSet(spelling, version, set) => test_set(alloc, spelling, version, set),
         Task::Implies(scheme, one, other) => {
             write_yes_or_no(writer, implies(alloc, *scheme, one, other)?)
         }
         Task::Meets(scheme, one, other) => {
             write_yes_or_no(writer, meets(alloc, *scheme, one, other)?)
         }
-        Task::Compare(scheme, first, second) => {
-            write_text(writer, comparison(*scheme, first, second)?)
+        Task::Compare(spelling, first, second) => {
+            write_text(writer, comparison(spelling, first, second)?)
         }
-        Task::Explain(first, second) => {
-            let output = explanation(alloc, first, second)?;
+        Task::Explain(naming, first, second) => {
+            let output = explanation(alloc, naming, first, second)?;
             write_text(writer, output.as_slice())
         }
-        Task::Difference(first, second) => {
-            let output = difference(alloc, first, second)?;
+        Task::Difference(naming, first, second) => {
+            let output = difference(alloc, naming, first, second)?;
             write_text(writer, output.as_slice())
         }
         Task::Lists(lists) => {
@@ -124,40 +121,50 @@ fn write_yes_or_no<'w, W: Write>(writer: &mut W, yes: bool) -> Result<bool, Faul
 
 // Returns the line of `compare`. Does not allocate.
 fn comparison<'w>(
-    scheme: Scheme,
+    spelling: &Spelling<'_>,
     first: &'w str,
     second: &'w str,
 ) -> Result<&'static [u8], Fault<'w>>
     ensures output { IfOk result (λ line.
-        IsLineOfTwo (any_of scheme) (comparison_line line_feed) first.now second.now line.now) }
-    ensures faults { IfErr result (ComesOfWords (first_wrong scheme (first.now ∷ second.now ∷ []))) }
+        IsLineOfTwo (spelled spelling.now) (comparison_line line_feed) first.now second.now line.now) }
+    ensures faults { IfErr result (ComesOfWords (first_wrong (spelled spelling.now) (first.now ∷ second.now ∷ []))) }
 {
-    let first = version_of_word(scheme, first)?;
-    let second = version_of_word(scheme, second)?;
+    let first = version_of_word(spelling, first)?;
+    let second = version_of_word(spelling, second)?;
     Ok(sign_line(first.precedence(&second)))
 }
 
 // Returns the line of `compare --explain`.
-fn explanation<'w>(alloc: Global, first: &'w str, second: &'w str) -> Result<Vec<u8>, Fault<'w>>
+fn explanation<'w>(
+    alloc: Global,
+    naming: &Naming<'_>,
+    first: &'w str,
+    second: &'w str,
+) -> Result<Vec<u8>, Fault<'w>>
     ensures output { IfOk result (λ output.
-        IsLineOfTwo versioning_of (explained_line line_feed) first.now second.now output.items) }
-    ensures faults { IfErr result (ComesOfWords (first_wrong Mixed (first.now ∷ second.now ∷ []))) }
+        IsLineOfTwo (spelled_mixed naming.now) (explained_line line_feed) first.now second.now output.items) }
+    ensures faults { IfErr result (ComesOfWords (first_wrong (spelled_mixed naming.now) (first.now ∷ second.now ∷ []))) }
 {
-    let first = mixed_of_word(first)?;
-    let second = mixed_of_word(second)?;
+    let first = mixed_of_word(naming, first)?;
+    let second = mixed_of_word(naming, second)?;
     let mut output = Vec::new(alloc);
     add_explained(&first, &second, b'\n', &mut output)?;
     Ok(output)
 }
 
 // Returns the line of `diff`.
-fn difference<'w>(alloc: Global, first: &'w str, second: &'w str) -> Result<Vec<u8>, Fault<'w>>
+fn difference<'w>(
+    alloc: Global,
+    naming: &Naming<'_>,
+    first: &'w str,
+    second: &'w str,
+) -> Result<Vec<u8>, Fault<'w>>
     ensures output { IfOk result (λ output.
-        IsLineOfTwo versioning_of (difference_line line_feed) first.now second.now output.items) }
-    ensures faults { IfErr result (ComesOfWords (first_wrong Mixed (first.now ∷ second.now ∷ []))) }
+        IsLineOfTwo (spelled_mixed naming.now) (difference_line line_feed) first.now second.now output.items) }
+    ensures faults { IfErr result (ComesOfWords (first_wrong (spelled_mixed naming.now) (first.now ∷ second.now ∷ []))) }
 {
-    let first = mixed_of_word(first)?;
-    let second = mixed_of_word(second)?;
+    let first = mixed_of_word(naming, first)?;
+    let second = mixed_of_word(naming, second)?;
     let mut output = Vec::new(alloc);
     add_difference(&first, &second, b'\n', &mut output)?;
     Ok(output)

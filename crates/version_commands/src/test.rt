@@ -2,11 +2,12 @@
 
 ghost use Rattle.std.specs.Prelude.{◌≡◌, ◌∷◌, [], Some, IfErr, IfOk};
 ghost use Rattle.version_commands.specs.Fault.{first_wrong, ComesOfTestOfSet, ComesOfTestOfSets, ComesOfTestOfTwo};
+ghost use Rattle.version_commands.specs.Place.{spelled};
 ghost use Rattle.version_commands.specs.Test.{answer_line, answer_of_set, answer_of_two, holds, AreSetsSo};
 ghost use Rattle.version_sets.specs.Ends.{IsPart, Meet};
 
 use crate::faults::Fault;
-use crate::options::Operator;
+use crate::options::{Operator, Spelling};
 use crate::word::{tested_set, tested_version};
 use std::alloc::Global;
 use std::cmp::Ordering;
@@ -28,31 +29,31 @@ pub(crate) fn holds(operator: Operator, order: Ordering) -> bool
 /// Returns whether an operator holds between two versions by their precedence. Otherwise the fault has the first word
 /// that is none. Does not allocate.
 pub(crate) fn test_two<'w>(
-    scheme: Scheme,
+    spelling: &Spelling<'_>,
     first: &'w str,
     operator: Operator,
     second: &'w str,
 ) -> Result<bool, Fault<'w>>
-    ensures answer { IfOk result (λ yes. answer_of_two scheme operator first.now second.now ≡ Some yes) }
-    ensures faults { IfErr result (ComesOfTestOfTwo (first_wrong scheme (first.now ∷ second.now ∷ []))) }
+    ensures answer { IfOk result (λ yes. answer_of_two spelling.now operator first.now second.now ≡ Some yes) }
+    ensures faults { IfErr result (ComesOfTestOfTwo (first_wrong (spelled spelling.now) (first.now ∷ second.now ∷ []))) }
 {
-    let first = tested_version(scheme, first)?;
-    let second = tested_version(scheme, second)?;
+    let first = tested_version(spelling, first)?;
+    let second = tested_version(spelling, second)?;
     Ok(holds(operator, first.precedence(&second)))
 }
 
 /// Returns whether a set has a version. Otherwise the fault has the first word that is wrong.
 pub(crate) fn test_set<'w>(
     alloc: Global,
-    scheme: Scheme,
+    spelling: &Spelling<'_>,
     version: &'w str,
     set: &'w str,
 ) -> Result<bool, Fault<'w>>
-    ensures answer { IfOk result (λ yes. answer_of_set scheme version.now set.now ≡ Some yes) }
-    ensures faults { IfErr result (ComesOfTestOfSet scheme version.now set.now) }
+    ensures answer { IfOk result (λ yes. answer_of_set spelling.now version.now set.now ≡ Some yes) }
+    ensures faults { IfErr result (ComesOfTestOfSet spelling.now version.now set.now) }
 {
-    let version = tested_version(scheme, version)?;
-    let set = tested_set(alloc, scheme, set)?;
+    let version = tested_version(spelling, version)?;
+    let set = tested_set(alloc, spelling.scheme, set)?;
     Ok(set.has(&version))
 }
 

@@ -16,21 +16,22 @@ use std::alloc::AllocError;
 use version_schemes::AnyVersion;
 use version_sets::{Alternatives, Span};
 
-/// Adds the line for a version: that it is in the set that a word is, or which member of each alternative leaves it
-/// out. A room in which the set can be read is enough.
+/// Adds the line for a text and its version: that it is in the set that a word is, or which member of each alternative
+/// leaves it out. A room in which the set can be read is enough.
 pub(crate) fn add_why<'t>(
     word: &'t str,
     set: &Set,
+    text: &[u8],
     version: &AnyVersion<'t>,
     end: u8,
     room: &mut [u8],
     output: &mut Vec<u8>,
 ) -> Result<(), AllocError>
     requires { keys_of (plain_any version.now).scheme word.now ≡ Some (has set.now) }
-    ensures { OnOk result (Adds (IsWhyLine end word.now (plain_any version.now))
+    ensures { OnOk result (Adds (IsWhyLine end word.now text.now (plain_any version.now))
         output.old.items output.new.items) }
 {
-    output.extend_from_slice(version.bytes())?;
+    output.extend_from_slice(text)?;
     add_verdict(word, set, version, room, output)?;
     output.push(end)?;
     Ok(())

@@ -10,8 +10,6 @@ mod laws;
 mod merge;
 mod read;
 mod start;
-#[cfg(test)]
-mod tests;
 mod write;
 
 /// The number of the order of all versions.

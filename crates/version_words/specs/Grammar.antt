@@ -15,9 +15,13 @@ use Rattle.version_words.specs.declared.table.Argument.{Argument}
 use Rattle.version_words.specs.declared.table.Form.{Form}
 use Rattle.version_words.specs.declared.table.Form.TheVariants as form
 
+-- a word that may be there
+abbrev pub first_word_rule : List ℕ → Rule
+first_word_rule name = record (new_rule name) { action = Some Set }
+
 -- a word that has to be there
 abbrev pub word_rule : List ℕ → Rule
-word_rule name = record (new_rule name) { required = true; action = Some Set }
+word_rule name = record (first_word_rule name) { required = true }
 
 -- two or three words
 abbrev pub two_or_three_rule : List ℕ → Rule
@@ -59,6 +63,7 @@ text_rule letter name = valued_rule letter name String
 -- what an argument of a form takes, by its letter and its name
 abbrev pub rule_of_form : Form → Option ℕ → List ℕ → Rule
 rule_of_form form.Word letter name = word_rule name
+rule_of_form form.FirstWord letter name = first_word_rule name
 rule_of_form form.TwoOrThree letter name = two_or_three_rule name
 rule_of_form form.Words letter name = words_rule
 rule_of_form form.Flag letter name = flag_rule letter name
@@ -141,19 +146,22 @@ rules_of verb.Newest =
     words_rule ∷ number_rule (Some 110) (codes "count") ∷ number_rule (Some 103) (codes "group")
     ∷ scheme_column_rule ∷ lines_rules
 rules_of verb.Filter =
-    word_rule (codes "SET") ∷ words_rule ∷ flag_rule (Some 118) (codes "invert-match") ∷ lines_rules
-rules_of verb.Show = words_rule ∷ flag_rule None (codes "json") ∷ ending_rules
-rules_of verb.Key = words_rule ∷ scheme_rule ∷ ending_rules
-rules_of verb.Test = two_or_three_rule (codes "WORD") ∷ scheme_rule ∷ []
+    first_word_rule (codes "SET") ∷ words_rule ∷ flag_rule (Some 118) (codes "invert-match") ∷ lines_rules
+rules_of verb.Show = words_rule ∷ flag_rule None (codes "json") ∷ tags_rule ∷ prefix_rule ∷ ending_rules
+rules_of verb.Key = words_rule ∷ tags_rule ∷ prefix_rule ∷ scheme_rule ∷ ending_rules
+rules_of verb.Test =
+    two_or_three_rule (codes "WORD") ∷ tags_rule ∷ prefix_rule ∷ scheme_rule ∷ []
 rules_of verb.Compare =
-    word_rule (codes "A") ∷ word_rule (codes "B") ∷ flag_rule None (codes "explain") ∷ scheme_rule ∷ []
-rules_of verb.Why = word_rule (codes "SET") ∷ words_rule ∷ scheme_rule ∷ ending_rules
+    word_rule (codes "A") ∷ word_rule (codes "B") ∷ flag_rule None (codes "explain") ∷ tags_rule ∷ prefix_rule
+    ∷ scheme_rule ∷ []
+rules_of verb.Why =
+    word_rule (codes "SET") ∷ words_rule ∷ tags_rule ∷ prefix_rule ∷ scheme_rule ∷ ending_rules
 rules_of verb.Implies = sets_rules
 rules_of verb.Meets = sets_rules
 rules_of verb.Diff = word_rule (codes "A") ∷ word_rule (codes "B") ∷ flag_rule None (codes "lists")
     ∷ number_rule (Some 103) (codes "group") ∷ number_rule (Some 107) (codes "key") ∷ separator_rule
     ∷ tags_rule ∷ prefix_rule ∷ scheme_rule ∷ invalid_rule ∷ ending_rules
-rules_of verb.Next = word_rule (codes "PLACE") ∷ words_rule ∷ ending_rules
+rules_of verb.Next = word_rule (codes "PLACE") ∷ words_rule ∷ tags_rule ∷ prefix_rule ∷ ending_rules
 
 -- a command, as `clap` has it
 abbrev pub shape_of_command : Verb → Shape

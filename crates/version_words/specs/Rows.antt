@@ -1,5 +1,5 @@
 -- What the rows say that `clap` made of a command's words.
-use Rattle.std.specs.Prelude.{◌-◌, ℕ, Bool, false, List, [], Option, None, Some, codes, is_some, option_and_then, option_map, unwrap_or, ◌&&◌, ◌||◌, if◌then◌else◌}
+use Rattle.std.specs.Prelude.{◌-◌, ℕ, Bool, false, List, [], Option, None, Some, codes, is_some, not, option_and_then, option_map, unwrap_or, ◌&&◌, ◌||◌, if◌then◌else◌}
 use Rattle.std.specs.Option.{option_map_or}
 use Rattle.std.specs.Str.{bytes_eq}
 use Rattle.clap.specs.Words.{all_of, first_of, rows_of, found_of, Row}
@@ -88,10 +88,14 @@ invalid_of command rows = option_and_then
     (λ asked. invalid_asked asked (is_given (codes "invalid-to") rows) (invalid_unasked command))
     (invalid_word command rows)
 
+-- whether `filter` has no set where it needs one: no stability is asked for, or the set is to be inverted
+abbrev pub lacks_set : List Row → Bool
+lacks_set rows = not (is_given (codes "SET") rows)
+    && (not (is_given (codes "min-stability") rows) || is_set (codes "invert-match") rows)
+
 -- whether `diff` is given what is for lists alone
 abbrev pub has_option_of_lists : List Row → Bool
 has_option_of_lists rows = is_given (codes "group") rows || (is_given (codes "key") rows
-    || (is_given (codes "field-separator") rows || (is_set (codes "tags") rows
-    || (is_given (codes "prefix") rows || (is_given (codes "scheme") rows
+    || (is_given (codes "field-separator") rows || (is_given (codes "scheme") rows
     || (is_given (codes "invalid") rows || (is_set (codes "zero-terminated") rows
-    || is_set (codes "crlf") rows)))))))
+    || is_set (codes "crlf") rows)))))

@@ -12,13 +12,14 @@ use Rattle.version_commands.specs.declared.options.Naming.{Naming}
 use Rattle.version_commands.specs.declared.options.Naming.TheVariants.{Bare, Prefix, Tag}
 use Rattle.version_commands.specs.declared.options.Question.{Question}
 use Rattle.version_commands.specs.declared.options.Question.TheVariants as question
+use Rattle.version_commands.specs.declared.options.Spelling.{Spelling}
 use Rattle.version_commands.specs.declared.options.Task.{Task}
 use Rattle.version_commands.specs.declared.options.Task.TheVariants as task
 use Rattle.version_commands.specs.declared.options.VersionPlace.{VersionPlace}
 use Rattle.version_lines.specs.declared.column.Column.{Column}
 use Rattle.version_schemes.specs.declared.scheme.Scheme.{Scheme}
 use Rattle.version_words.specs.Named.{operator_named, place_named}
-use Rattle.version_words.specs.Rows.{column_at, column_of, end_of, has_option_of_lists, has_two_schemes, invalid_of, is_given, is_set, level_of, number_of, scheme_of, separator_of, word_of, words_of}
+use Rattle.version_words.specs.Rows.{column_at, column_of, end_of, has_option_of_lists, has_two_schemes, invalid_of, is_given, is_set, lacks_set, level_of, number_of, scheme_of, separator_of, word_of, words_of}
 use Rattle.version_words.specs.declared.named.Verb.{Verb}
 use Rattle.version_words.specs.declared.named.Verb.TheVariants.{Compare, Diff, Filter, Implies, Key, Meets, Newest, Next, Show, Sort, Test, Why}
 
@@ -28,6 +29,10 @@ IsNaming rows Bare = (is_set (codes "tags") rows ≡ false) × (first_of (codes 
 IsNaming rows Tag = (is_set (codes "tags") rows ≡ true) × (first_of (codes "prefix") rows ≡ None)
 IsNaming rows (Prefix prefix) =
     (is_set (codes "tags") rows ≡ false) × (first_of (codes "prefix") rows ≡ Some prefix.now)
+
+-- how a word spells a version
+abbrev pub IsSpelling : List Row → Spelling → Type 0
+IsSpelling rows spelling = IsNaming rows spelling.naming × (scheme_of rows ≡ Some spelling.scheme)
 
 -- where a version is in a line
 pub record IsPlace (rows : List Row) (column : Option Column) (place : VersionPlace) : Type 0 where
@@ -62,7 +67,8 @@ IsArrangement Newest separator rows (arrangement.Newest count group) =
     (count ≡ unwrap_or (number_of (codes "count") rows) 1)
     × (group ≡ column_of (codes "group") separator rows)
 IsArrangement Filter separator rows (arrangement.Filter set inverted) =
-    (set.now ≡ word_of (codes "SET") rows) × (inverted ≡ is_set (codes "invert-match") rows)
+    (option_map (λ set. set.now) set ≡ first_of (codes "SET") rows)
+    × (inverted ≡ is_set (codes "invert-match") rows) × (lacks_set rows ≡ false)
 IsArrangement command separator rows other = ⊥
 
 -- what is asked of each version
@@ -83,6 +89,7 @@ versions_asked words = words
 
 pub record AreEachOptions (rows : List Row) (options : EachOptions) : Type 0 where
   pub versions_are : map (λ word. word.now) options.versions.items ≡ versions_asked (words_of rows)
+  pub naming_is : IsNaming rows options.naming
   pub end_is : options.end ≡ end_of rows
   pub crlf_is : options.crlf ≡ is_set (codes "crlf") rows
 
@@ -113,20 +120,19 @@ IsTaskOf command rows (task.Lines arrangement options) = (separator : Option ℕ
     × AreLineOptions command separator rows options
 IsTaskOf command rows (task.Each question options) =
     IsQuestion command rows question × AreEachOptions rows options
-IsTaskOf Test rows (task.TestTwo scheme first operator second) = (word : List ℕ)
-    × (scheme_of rows ≡ Some scheme)
+IsTaskOf Test rows (task.TestTwo spelling first operator second) = (word : List ℕ) × IsSpelling rows spelling
     × (all_of (codes "WORD") rows ≡ Some (first.now ∷ word ∷ second.now ∷ []))
     × (operator_named word ≡ Some operator)
-IsTaskOf Test rows (task.TestSet scheme version set) = (scheme_of rows ≡ Some scheme)
+IsTaskOf Test rows (task.TestSet spelling version set) = IsSpelling rows spelling
     × (all_of (codes "WORD") rows ≡ Some (version.now ∷ set.now ∷ []))
 IsTaskOf Implies rows (task.Implies scheme one other) = AreTwoSets rows scheme one.now other.now
 IsTaskOf Meets rows (task.Meets scheme one other) = AreTwoSets rows scheme one.now other.now
-IsTaskOf Compare rows (task.Compare scheme first second) = (is_set (codes "explain") rows ≡ false)
-    × (scheme_of rows ≡ Some scheme) × AreTwo rows first.now second.now
-IsTaskOf Compare rows (task.Explain first second) = (is_set (codes "explain") rows ≡ true)
-    × (is_given (codes "scheme") rows ≡ false) × AreTwo rows first.now second.now
-IsTaskOf Diff rows (task.Difference first second) = (is_set (codes "lists") rows ≡ false)
-    × (has_option_of_lists rows ≡ false) × AreTwo rows first.now second.now
+IsTaskOf Compare rows (task.Compare spelling first second) = (is_set (codes "explain") rows ≡ false)
+    × IsSpelling rows spelling × AreTwo rows first.now second.now
+IsTaskOf Compare rows (task.Explain naming first second) = (is_set (codes "explain") rows ≡ true)
+    × (is_given (codes "scheme") rows ≡ false) × IsNaming rows naming × AreTwo rows first.now second.now
+IsTaskOf Diff rows (task.Difference naming first second) = (is_set (codes "lists") rows ≡ false)
+    × (has_option_of_lists rows ≡ false) × IsNaming rows naming × AreTwo rows first.now second.now
 IsTaskOf Diff rows (task.Lists lists) = (separator : Option ℕ)
     × (separator_of rows ≡ Some separator) × AreLists separator rows lists
 IsTaskOf command rows other = ⊥
@@ -137,21 +143,31 @@ IsTaskOf command rows other = ⊥
 abbrev pub HasWrongScheme : List Row → Type 0
 HasWrongScheme rows = scheme_of rows ≡ None
 
--- of the place of a version: it is after a prefix and in a tag, the byte between columns is none, or the
--- scheme is none
+-- of how a version stands in its text: in a tag, and after a prefix
+abbrev pub HasWrongNaming : List Row → Type 0
+HasWrongNaming rows = (is_set (codes "tags") rows ≡ true) × (is_given (codes "prefix") rows ≡ true)
+
+-- of how a text spells a version
+abbrev pub HasWrongSpelling : List Row → Type 0
+HasWrongSpelling rows = HasWrongNaming rows ⊎ HasWrongScheme rows
+
+-- of the place of a version: the same, or the byte between columns is none
 abbrev pub HasWrongPlace : List Row → Type 0
-HasWrongPlace rows = (separator_of rows ≡ None)
-    ⊎ (((is_set (codes "tags") rows ≡ true) × (is_given (codes "prefix") rows ≡ true)) ⊎ HasWrongScheme rows)
+HasWrongPlace rows = (separator_of rows ≡ None) ⊎ HasWrongSpelling rows
 
 -- of the options of a command over lines
 abbrev pub HasWrongLines : Verb → List Row → Type 0
 HasWrongLines command rows = HasWrongPlace rows ⊎ ((has_two_schemes rows ≡ true)
     ⊎ ((level_of rows ≡ None) ⊎ (invalid_of command rows ≡ None)))
 
--- of `compare`: the scheme is none, or one is named where the difference is asked for, which is one of mixed
+-- of `filter`: the same, or it has no set where it needs one
+abbrev pub HasWrongFilter : List Row → Type 0
+HasWrongFilter rows = HasWrongLines Filter rows ⊎ (lacks_set rows ≡ true)
+
+-- of `compare`: that, or a scheme is named where the difference is asked for, which is one of mixed
 abbrev pub HasWrongCompare : List Row → Type 0
 HasWrongCompare rows =
-    ((is_set (codes "explain") rows ≡ true) × (is_given (codes "scheme") rows ≡ true)) ⊎ HasWrongScheme rows
+    ((is_set (codes "explain") rows ≡ true) × (is_given (codes "scheme") rows ≡ true)) ⊎ HasWrongSpelling rows
 
 -- of the words of `test`: they are neither two nor three, or no operator is between two
 abbrev pub HasWrongTest : Option (List (List ℕ)) → Type 0
@@ -163,20 +179,21 @@ HasWrongTest other = ⊤
 abbrev pub HasWrongDiff : List Row → Type 0
 HasWrongDiff rows =
     ((is_set (codes "lists") rows ≡ false) × (has_option_of_lists rows ≡ true))
+    ⊎ (HasWrongNaming rows
     ⊎ ((is_set (codes "lists") rows ≡ true)
-    × (HasWrongPlace rows ⊎ (invalid_of Diff rows ≡ None)))
+    × (HasWrongPlace rows ⊎ (invalid_of Diff rows ≡ None))))
 
 -- the command and its rows mean no task
 abbrev pub IsWrong : Verb → List Row → Type 0
 IsWrong Sort rows = HasWrongLines Sort rows
 IsWrong Newest rows = HasWrongLines Newest rows
-IsWrong Filter rows = HasWrongLines Filter rows
-IsWrong Test rows = HasWrongScheme rows ⊎ HasWrongTest (all_of (codes "WORD") rows)
-IsWrong Key rows = HasWrongScheme rows
-IsWrong Why rows = HasWrongScheme rows
+IsWrong Filter rows = HasWrongFilter rows
+IsWrong Test rows = HasWrongSpelling rows ⊎ HasWrongTest (all_of (codes "WORD") rows)
+IsWrong Show rows = HasWrongNaming rows
+IsWrong Key rows = HasWrongSpelling rows
+IsWrong Why rows = HasWrongSpelling rows
 IsWrong Implies rows = HasWrongScheme rows
 IsWrong Meets rows = HasWrongScheme rows
 IsWrong Compare rows = HasWrongCompare rows
 IsWrong Diff rows = HasWrongDiff rows
-IsWrong Next rows = place_named (word_of (codes "PLACE") rows) ≡ None
-IsWrong other rows = ⊥
+IsWrong Next rows = (place_named (word_of (codes "PLACE") rows) ≡ None) ⊎ HasWrongNaming rows

@@ -2,7 +2,7 @@
 
 ghost use Rattle.std.specs.Prelude.{◌≡◌, ◌⊎◌, None, Some, codes, false, true, map, option_map, IfErr, IfOk, unwrap_or};
 ghost use Rattle.clap.specs.Words.{all_of, first_of, subcommand_rows_of};
-ghost use Rattle.version_words.specs.Rows.{column_at, column_of, end_of, has_option_of_lists, has_two_schemes, invalid_of, invalid_unasked, invalid_word, is_given, is_set, level_of, number_of, rows_in, scheme_of, separator_of, word_of, words_of};
+ghost use Rattle.version_words.specs.Rows.{column_at, column_of, end_of, has_option_of_lists, has_two_schemes, invalid_of, invalid_unasked, invalid_word, is_given, is_set, lacks_set, level_of, number_of, rows_in, scheme_of, separator_of, word_of, words_of};
 ghost use Rattle.version_words.specs.Words.{command_in, ComesOfWrong};
 
 use crate::faults::WordsFault;
@@ -237,10 +237,16 @@ pub fn has_option_of_lists(options: &ArgMatches<'_>) -> bool
     is_given(options, "group")
         || is_given(options, "key")
         || is_given(options, "field-separator")
-        || is_set(options, "tags")
-        || is_given(options, "prefix")
         || is_given(options, "scheme")
         || is_given(options, "invalid")
         || is_set(options, "zero-terminated")
         || is_set(options, "crlf")
+}
+
+/// Returns whether `filter` has no set where it needs one: no stability is asked for, or the set is to be inverted.
+pub fn lacks_set(options: &ArgMatches<'_>) -> bool
+    ensures { result ≡ lacks_set (rows_in options.now) }
+{
+    !is_given(options, "SET")
+        && (!is_given(options, "min-stability") || is_set(options, "invert-match"))
 }

@@ -10,6 +10,8 @@ use crate::named::Verb;
 pub enum Form {
     /// A word that has to be there.
     Word,
+    /// A word that may be there.
+    FirstWord,
     /// Two or three words.
     TwoOrThree,
     /// Any number of words.
@@ -199,12 +201,12 @@ pub fn entry_of(command: Verb) -> Entry
         },
         Verb::Next => Entry {
             name: "next",
-            about: "Write the version that comes next at a place",
+            about: "Write the version that comes next at a place, and what stands before it in a tag",
             usage: None,
             example: "Example:
-  $ versions next minor 1.2.5 2.0
-  1.3.0
-  2.1",
+  $ versions next minor --tags tool-1.2.5 v2.0
+  tool-1.3.0
+  v2.1",
             own: &NEXT,
             shared: &ENDS,
         },
@@ -328,7 +330,12 @@ static NEWEST: [Argument; 5] = [
 ];
 
 static FILTER: [Argument; 4] = [
-    SET,
+    Argument {
+        form: Form::FirstWord,
+        letter: None,
+        name: "SET",
+        help: "Which versions, such as '>=1.2, <2 || ^3'; --min-stability alone needs none",
+    },
     FILES,
     Argument {
         form: Form::Flag,
@@ -344,7 +351,7 @@ static FILTER: [Argument; 4] = [
     },
 ];
 
-static SHOW: [Argument; 2] = [
+static SHOW: [Argument; 4] = [
     VERSIONS,
     Argument {
         form: Form::Flag,
@@ -352,21 +359,25 @@ static SHOW: [Argument; 2] = [
         name: "json",
         help: "Write a JSON object for each",
     },
+    TAGS,
+    PREFIX,
 ];
 
-static KEY: [Argument; 2] = [VERSIONS, SCHEME];
+static KEY: [Argument; 4] = [VERSIONS, TAGS, PREFIX, SCHEME];
 
-static TEST: [Argument; 2] = [
+static TEST: [Argument; 4] = [
     Argument {
         form: Form::TwoOrThree,
         letter: None,
         name: "WORD",
         help: "Two versions with <, <=, =, >=, > or lt, le, eq, ge, gt between them, or a version and a set",
     },
+    TAGS,
+    PREFIX,
     SCHEME,
 ];
 
-static COMPARE: [Argument; 4] = [
+static COMPARE: [Argument; 6] = [
     Argument {
         form: Form::Word,
         letter: None,
@@ -385,10 +396,12 @@ static COMPARE: [Argument; 4] = [
         name: "explain",
         help: "Write in which part they differ first",
     },
+    TAGS,
+    PREFIX,
     SCHEME,
 ];
 
-static WHY: [Argument; 3] = [SET, VERSIONS, SCHEME];
+static WHY: [Argument; 5] = [SET, VERSIONS, TAGS, PREFIX, SCHEME];
 
 static SETS: [Argument; 3] = [
     SET,
@@ -444,7 +457,7 @@ static DIFF: [Argument; 10] = [
     },
 ];
 
-static NEXT: [Argument; 2] = [
+static NEXT: [Argument; 4] = [
     Argument {
         form: Form::Word,
         letter: None,
@@ -452,6 +465,8 @@ static NEXT: [Argument; 2] = [
         help: "major, minor, patch, or the place of a number, counted from 0",
     },
     VERSIONS,
+    TAGS,
+    PREFIX,
 ];
 
 // What the commands take that answer with lines of their input, after their own arguments.

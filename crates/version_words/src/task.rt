@@ -4,21 +4,22 @@ ghost use Rattle.std.specs.Prelude.{◌≡◌, ◌⊎◌, None, Some, IfErr, IfO
 ghost use Rattle.clap.specs.Words.{all_of, subcommand_rows_of};
 ghost use Rattle.version_words.specs.Named.{place_named};
 ghost use Rattle.version_words.specs.Rows.{column_of, is_given, is_set, rows_in, word_of};
-ghost use Rattle.version_words.specs.Task.{AreEachOptions, AreLineOptions, HasWrongCompare, HasWrongDiff, HasWrongLines, HasWrongPlace, HasWrongScheme, HasWrongTest, IsNaming, IsPlace, IsQuestion, IsTaskOf};
+ghost use Rattle.version_words.specs.Task.{AreEachOptions, AreLineOptions, HasWrongCompare, HasWrongDiff, HasWrongFilter, HasWrongLines, HasWrongNaming, HasWrongPlace, HasWrongSpelling, IsNaming, IsPlace, IsQuestion, IsSpelling, IsTaskOf, IsWrong};
 ghost use Rattle.version_words.specs.Words.{command_in, ComesOfWrong, IsTaskIn, IsWrongIn};
 
 use crate::faults::WordsFault;
 use crate::named::{Verb, operator_named, place_named};
 use crate::rows::{
     column_at, column_of, command_in, end_of, has_option_of_lists, invalid_of, is_given, is_set,
-    level_of, number_of, scheme_column_of, scheme_of, separator_of, text_of, texts_of, word_of,
-    words_of,
+    lacks_set, level_of, number_of, scheme_column_of, scheme_of, separator_of, text_of, texts_of,
+    word_of, words_of,
 };
 use crate::wrong::{wrong, wrong_operator, wrong_place};
 use clap::ArgMatches;
-use std::alloc::{AllocError, Global};
+use std::alloc::Global;
 use version_commands::{
-    Arrangement, Choice, EachOptions, LineOptions, Lists, Naming, Question, Task, VersionPlace,
+    Arrangement, Choice, EachOptions, LineOptions, Lists, Naming, Question, Spelling, Task,
+    VersionPlace,
 };
 use version_lines::Column;
 
@@ -35,7 +36,7 @@ pub fn task_of<'w>(alloc: Global, matches: &ArgMatches<'w>) -> Result<Task<'w>, 
         Verb::Sort => sort_task(alloc, options),
         Verb::Newest => newest_task(alloc, options),
         Verb::Filter => filter_task(alloc, options),
-        Verb::Show => Ok(Task::Each(show_question(options), each_options(alloc, options)?)),
+        Verb::Show => show_task(alloc, options),
         Verb::Key => key_task(alloc, options),
         Verb::Why => why_task(alloc, options),
         Verb::Next => next_task(alloc, options),
@@ -83,11 +84,15 @@ fn newest_task<'w>(alloc: Global, options: &ArgMatches<'w>) -> Result<Task<'w>, 
 
 fn filter_task<'w>(alloc: Global, options: &ArgMatches<'w>) -> Result<Task<'w>, WordsFault>
     ensures task { IfOk result (IsTaskOf Verb.Filter (rows_in options.now)) }
-    ensures faults { IfErr result (ComesOfWrong (HasWrongLines Verb.Filter (rows_in options.now))) }
+    ensures faults { IfErr result (ComesOfWrong (HasWrongFilter (rows_in options.now))) }
 {
+    if lacks_set(options) {
+        let what = "the following required arguments were not provided:\n  <SET>";
+        return Err(wrong(alloc, what));
+    }
     let separator = separator_of(alloc, options)?;
     let arrangement = Arrangement::Filter {
-        set: word_of(options, "SET"),
+        set: text_of(options, "SET"),
         inverted: is_set(options, "invert-match"),
     };
     let line_options = line_options(alloc, Verb::Filter, separator, options)?;
@@ -132,9 +137,21 @@ fn place_of<'w>(
     ensures place { IfOk result (IsPlace (rows_in options.now) column) }
     ensures faults { IfErr result (ComesOfWrong (HasWrongPlace (rows_in options.now))) }
 {
+    let Spelling { naming, scheme } = spelling_of(alloc, options)?;
     Ok(VersionPlace {
         crlf: is_set(options, "crlf"),
         column,
+        naming,
+        scheme,
+    })
+}
+
+// Returns how a text spells a version.
+fn spelling_of<'w>(alloc: Global, options: &ArgMatches<'w>) -> Result<Spelling<'w>, WordsFault>
+    ensures spelling { IfOk result (IsSpelling (rows_in options.now)) }
+    ensures faults { IfErr result (ComesOfWrong (HasWrongSpelling (rows_in options.now))) }
+{
+    Ok(Spelling {
         naming: naming_of(alloc, options)?,
         scheme: scheme_of(alloc, options)?,
     })
@@ -143,7 +160,7 @@ fn place_of<'w>(
 // Returns how a version stands in its column.
 fn naming_of<'w>(alloc: Global, options: &ArgMatches<'w>) -> Result<Naming<'w>, WordsFault>
     ensures naming { IfOk result (IsNaming (rows_in options.now)) }
-    ensures faults { IfErr result (ComesOfWrong (HasWrongPlace (rows_in options.now))) }
+    ensures faults { IfErr result (ComesOfWrong (HasWrongNaming (rows_in options.now))) }
 {
     match (is_set(options, "tags"), text_of(options, "prefix")) {
         (false, None) => Ok(Naming::Bare),
@@ -157,8 +174,9 @@ fn naming_of<'w>(alloc: Global, options: &ArgMatches<'w>) -> Result<Naming<'w>, 
 }
 
 // Returns which versions are asked.
-fn each_options<'w>(alloc: Global, options: &ArgMatches<'w>) -> Result<EachOptions<'w>, AllocError>
-    ensures { IfOk result (AreEachOptions (rows_in options.now)) }
+fn each_options<'w>(alloc: Global, options: &ArgMatches<'w>) -> Result<EachOptions<'w>, WordsFault>
+    ensures options { IfOk result (AreEachOptions (rows_in options.now)) }
+    ensures faults { IfErr result (ComesOfWrong (HasWrongNaming (rows_in options.now))) }
 {
     let words = words_of(alloc, options)?;
     let versions = match words.as_slice() {
@@ -167,9 +185,18 @@ fn each_options<'w>(alloc: Global, options: &ArgMatches<'w>) -> Result<EachOptio
     };
     Ok(EachOptions {
         versions,
+        naming: naming_of(alloc, options)?,
         end: end_of(options),
         crlf: is_set(options, "crlf"),
     })
+}
+
+fn show_task<'w>(alloc: Global, options: &ArgMatches<'w>) -> Result<Task<'w>, WordsFault>
+    ensures task { IfOk result (IsTaskOf Verb.Show (rows_in options.now)) }
+    ensures faults { IfErr result (ComesOfWrong (HasWrongNaming (rows_in options.now))) }
+{
+    let each_options = each_options(alloc, options)?;
+    Ok(Task::Each(show_question(options), each_options))
 }
 
 // Returns what `show` asks.
@@ -185,7 +212,7 @@ fn show_question<'w>(options: &ArgMatches<'_>) -> Question<'w>
 
 fn key_task<'w>(alloc: Global, options: &ArgMatches<'w>) -> Result<Task<'w>, WordsFault>
     ensures task { IfOk result (IsTaskOf Verb.Key (rows_in options.now)) }
-    ensures faults { IfErr result (ComesOfWrong (HasWrongScheme (rows_in options.now))) }
+    ensures faults { IfErr result (ComesOfWrong (HasWrongSpelling (rows_in options.now))) }
 {
     let question = Question::Key(scheme_of(alloc, options)?);
     Ok(Task::Each(question, each_options(alloc, options)?))
@@ -193,7 +220,7 @@ fn key_task<'w>(alloc: Global, options: &ArgMatches<'w>) -> Result<Task<'w>, Wor
 
 fn why_task<'w>(alloc: Global, options: &ArgMatches<'w>) -> Result<Task<'w>, WordsFault>
     ensures task { IfOk result (IsTaskOf Verb.Why (rows_in options.now)) }
-    ensures faults { IfErr result (ComesOfWrong (HasWrongScheme (rows_in options.now))) }
+    ensures faults { IfErr result (ComesOfWrong (HasWrongSpelling (rows_in options.now))) }
 {
     let question = Question::Why(scheme_of(alloc, options)?, word_of(options, "SET"));
     Ok(Task::Each(question, each_options(alloc, options)?))
@@ -209,15 +236,15 @@ fn compare_task<'w>(alloc: Global, options: &ArgMatches<'w>) -> Result<Task<'w>,
             let what = "the argument '--explain' cannot be used with '--scheme <NAME>'";
             Err(wrong(alloc, what))
         }
-        (true, false) => Ok(Task::Explain(first, second)),
-        (false, _) => Ok(Task::Compare(scheme_of(alloc, options)?, first, second)),
+        (true, false) => Ok(Task::Explain(naming_of(alloc, options)?, first, second)),
+        (false, _) => Ok(Task::Compare(spelling_of(alloc, options)?, first, second)),
     }
 }
 
 fn next_task<'w>(alloc: Global, options: &ArgMatches<'w>) -> Result<Task<'w>, WordsFault>
     ensures task { IfOk result (IsTaskOf Verb.Next (rows_in options.now)) }
     ensures faults { IfErr result
-        (ComesOfWrong (place_named (word_of (codes "PLACE") (rows_in options.now)) ≡ None)) }
+        (ComesOfWrong (IsWrong Verb.Next (rows_in options.now))) }
 {
     let word = word_of(options, "PLACE");
     match place_named(word) {
@@ -232,14 +259,13 @@ fn next_task<'w>(alloc: Global, options: &ArgMatches<'w>) -> Result<Task<'w>, Wo
 fn test_task<'w>(alloc: Global, options: &ArgMatches<'w>) -> Result<Task<'w>, WordsFault>
     ensures task { IfOk result (IsTaskOf Verb.Test (rows_in options.now)) }
     ensures faults { IfErr result
-        (ComesOfWrong (HasWrongScheme (rows_in options.now)
-        ⊎ HasWrongTest (all_of (codes "WORD") (rows_in options.now)))) }
+        (ComesOfWrong (IsWrong Verb.Test (rows_in options.now))) }
 {
-    let scheme = scheme_of(alloc, options)?;
+    let spelling = spelling_of(alloc, options)?;
     match texts_of(options, "WORD") {
-        Some([version, set]) => Ok(Task::TestSet(scheme, version, set)),
+        Some([version, set]) => Ok(Task::TestSet(spelling, version, set)),
         Some([first, word, second]) => match operator_named(word) {
-            Some(operator) => Ok(Task::TestTwo(scheme, first, operator, second)),
+            Some(operator) => Ok(Task::TestTwo(spelling, first, operator, second)),
             None => Err(wrong_operator(alloc, word)),
         },
         _ => Err(wrong(alloc, "two or three words are needed")),
@@ -257,7 +283,11 @@ fn diff_task<'w>(alloc: Global, options: &ArgMatches<'w>) -> Result<Task<'w>, Wo
         let what = "the following required arguments were not provided:\n  --lists";
         return Err(wrong(alloc, what));
     }
-    Ok(Task::Difference(word_of(options, "A"), word_of(options, "B")))
+    Ok(Task::Difference(
+        naming_of(alloc, options)?,
+        word_of(options, "A"),
+        word_of(options, "B"),
+    ))
 }
 
 // Returns the task of `diff --lists`.

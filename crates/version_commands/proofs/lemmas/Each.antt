@@ -3,80 +3,81 @@ use Rattle.std.proofs.Common.{◌≡◌, ◌<◌, ℕ, true, false, Bor, List, [
 use Rattle.std.proofs.lemmas.List.{drop_more}
 use Rattle.std.specs.Io.KnownBytes.{Consumes, IsAtEnd}
 use Rattle.version_commands.specs.Cause.{ComesOfAnswering, ComesOfAsking}
-use Rattle.version_commands.specs.Each.{AnsweredOr, AreAnswered, AreTexts, AreTextsOf, HasNoNext, HaveAnswered, IsAnswer, scheme_of}
+use Rattle.version_commands.specs.Each.{AnsweredOr, AreAnswered, AreTexts, AreTextsOf, HasNoNext, HaveAnswered, IsAnswer, version_asked}
 use Rattle.version_commands.specs.Fault.{first_wrong}
 use Rattle.version_commands.specs.Pieces.{Adds}
 use Rattle.version_commands.specs.Place.{line_text}
 use Rattle.version_commands.specs.declared.each.Answers.{Answers}
 use Rattle.version_commands.specs.declared.faults.Fault.{Fault}
 use Rattle.version_commands.specs.declared.options.EachOptions.{EachOptions}
+use Rattle.version_commands.specs.declared.options.Naming.{Naming}
 use Rattle.version_commands.specs.declared.options.Question.{Question}
 use Rattle.version_commands.specs.declared.options.Question.TheVariants.{Json, Key, Next, Show, Why}
 use Rattle.version_lines.specs.Lines.{lines_of}
-use Rattle.version_schemes.specs.any.Order.{PlainAny, any_of}
-use Rattle.version_schemes.specs.declared.scheme.Scheme.{Scheme}
+use Rattle.version_schemes.specs.any.Order.{PlainAny}
 
 -- one more answer after the others
-answered-push : (question : Question) (end : ℕ) (texts : List (List ℕ)) (text : List ℕ)
-    (v : PlainAny) (answers answer : List ℕ) → AreAnswered question end texts answers
-    → any_of (scheme_of question) text ≡ Some v → IsAnswer question end v true answer
-    → AreAnswered question end (texts ++ text ∷ []) (answers ++ answer)
-answered-push question end [] text v answers answer none some is =
+answered-push : (question : Question) (naming : Naming) (end : ℕ) (texts : List (List ℕ)) (text : List ℕ)
+    (v : PlainAny) (answers answer : List ℕ) → AreAnswered question naming end texts answers
+    → version_asked question naming text ≡ Some v → IsAnswer question naming end text v true answer
+    → AreAnswered question naming end (texts ++ text ∷ []) (answers ++ answer)
+answered-push question naming end [] text v answers answer none some is =
     (v, answer, [], some, is, refl, ap (λ (a : List ℕ). a ++ answer) none ∙ sym (append-nil answer))
-answered-push question end (t ∷ texts) text v answers answer
+answered-push question naming end (t ∷ texts) text v answers answer
     (w, first, rest, some_first, is_first, more, whole) some is = (
       w,
       first,
       rest ++ answer,
       some_first,
       is_first,
-      answered-push question end texts text v rest answer more some is,
+      answered-push question naming end texts text v rest answer more some is,
       ap (λ (a : List ℕ). a ++ answer) whole ∙ append_assoc first rest answer,
     )
 
 -- one more answer after the answers so far
 pub have-next : (first now after : Answers) (texts : List (List ℕ)) (text : List ℕ)
     (v : PlainAny) → HaveAnswered first now texts → now.unanswered ≡ None
-    → any_of (scheme_of now.question) text ≡ Some v
-    → Adds (IsAnswer now.question now.end v true) now.output.items after.output.items
-    → after.question ≡ now.question → after.end ≡ now.end → after.crlf ≡ now.crlf
+    → version_asked now.question now.naming text ≡ Some v
+    → Adds (IsAnswer now.question now.naming now.end text v true) now.output.items after.output.items
+    → after.question ≡ now.question → after.naming ≡ now.naming → after.end ≡ now.end → after.crlf ≡ now.crlf
     → after.unanswered ≡ None → HaveAnswered first after (texts ++ text ∷ [])
-have-next first now after texts text v have none some added question end crlf still =
+have-next first now after texts text v have none some added question naming end crlf still =
     grind (arith, answered-push, append_assoc)
 
 -- or it has none
-no-next : (question : Question) (end : ℕ) (text : List ℕ) (v : PlainAny) (answer : List ℕ)
-    → any_of (scheme_of question) text ≡ Some v → IsAnswer question end v false answer
-    → HasNoNext question (any_of (scheme_of question) text)
-no-next Show end text v answer some (w, is, has) = let found = has.0 in cc found
-no-next Json end text v answer some (w, is, has) = let found = has.0 in cc found
-no-next (Key scheme) end text v answer some (found, answer_is) = cc found
-no-next (Why scheme set) end text v answer some (found, answer_is) = cc found
-no-next (Next place) end text v answer some (w, is, has) = rw some (w, is, has.0)
+no-next : (question : Question) (naming : Naming) (end : ℕ) (text : List ℕ) (v : PlainAny) (answer : List ℕ)
+    → version_asked question naming text ≡ Some v → IsAnswer question naming end text v false answer
+    → HasNoNext question (version_asked question naming text)
+no-next Show naming end text v answer some (w, is, has) = let found = has.0 in cc found
+no-next Json naming end text v answer some (w, is, has) = let found = has.0 in cc found
+no-next (Key scheme) naming end text v answer some (found, answer_is) = cc found
+no-next (Why scheme set) naming end text v answer some (found, answer_is) = cc found
+no-next (Next place) naming end text v answer some (w, is, has) = rw some (w, is, has.0)
 
 pub have-none : (first now after : Answers) (texts : List (List ℕ)) (text : Bor (List ℕ))
     (v : PlainAny) → HaveAnswered first now texts → now.unanswered ≡ None
-    → any_of (scheme_of now.question) text.now ≡ Some v
-    → Adds (IsAnswer now.question now.end v false) now.output.items after.output.items
-    → after.question ≡ now.question → after.end ≡ now.end → after.crlf ≡ now.crlf
+    → version_asked now.question now.naming text.now ≡ Some v
+    → Adds (IsAnswer now.question now.naming now.end text.now v false) now.output.items after.output.items
+    → after.question ≡ now.question → after.naming ≡ now.naming → after.end ≡ now.end → after.crlf ≡ now.crlf
     → after.unanswered ≡ Some text → HaveAnswered first after (texts ++ text.now ∷ [])
-have-none first now after texts text v have none some (answer, is, added) question end crlf unanswered =
+have-none first now after texts text v have none some (answer, is, added) question naming end crlf unanswered =
     let (answers, are, so_far) = rw none at have.answers_are in
-    let missing = no-next now.question now.end text.now v answer some is in
+    let missing = no-next now.question now.naming now.end text.now v answer some is in
     record {
       question_is = question ∙ have.question_is;
+      naming_is = naming ∙ have.naming_is;
       end_is = end ∙ have.end_is;
       crlf_is = crlf ∙ have.crlf_is;
-      answers_are = rw unanswered (texts, [], answers, refl, are, rw have.question_is at missing);
+      answers_are = rw unanswered (texts, [], answers, refl, are, rw have.naming_is at (rw have.question_is at missing));
     }
 
 -- or one before it has none
-still-unanswered : (question : Question) (end : ℕ) (head output : List ℕ) (texts : List (List ℕ))
+still-unanswered : (question : Question) (naming : Naming) (end : ℕ) (head output : List ℕ) (texts : List (List ℕ))
     (text : List ℕ) (first : Option (Bor (List ℕ))) → is_some first ≡ true
-    → AnsweredOr question end head texts output first
-    → AnsweredOr question end head (texts ++ text ∷ []) output first
-still-unanswered question end head output texts text None some is = cc some
-still-unanswered question end head output texts text (Some first) some
+    → AnsweredOr question naming end head texts output first
+    → AnsweredOr question naming end head (texts ++ text ∷ []) output first
+still-unanswered question naming end head output texts text None some is = cc some
+still-unanswered question naming end head output texts text (Some first) some
     (before, after, answers, whole, are, missing) = (
       before,
       after ++ text ∷ [],
@@ -103,16 +104,16 @@ word-texts options old (word ∷ words) same some =
     same (refl, refl)
 
 -- the first of some words that is none, from a place on
-pub wrong-next : (scheme : Scheme) (words : List (Bor (List ℕ))) (i : ℕ) (d : Bor (List ℕ)) (v : PlainAny)
-    → i < length words → any_of scheme (get_or words i d).now ≡ Some v
-    → first_wrong scheme (map (λ word. word.now) (drop i words))
-    ≡ first_wrong scheme (map (λ word. word.now) (drop (i + 1) words))
-wrong-next scheme words i d v inside some = grind (arith, drop_more)
+pub wrong-next : (read : List ℕ → Option PlainAny) (words : List (Bor (List ℕ))) (i : ℕ) (d : Bor (List ℕ))
+    (v : PlainAny) → i < length words → read (get_or words i d).now ≡ Some v
+    → first_wrong read (map (λ word. word.now) (drop i words))
+    ≡ first_wrong read (map (λ word. word.now) (drop (i + 1) words))
+wrong-next read words i d v inside some = grind (arith, drop_more)
 
-pub wrong-here : (scheme : Scheme) (words : List (Bor (List ℕ))) (i : ℕ) (d : Bor (List ℕ)) → i < length words
-    → any_of scheme (get_or words i d).now ≡ None
-    → first_wrong scheme (map (λ word. word.now) (drop i words)) ≡ Some (get_or words i d).now
-wrong-here scheme words i d inside none = grind (arith, drop_more)
+pub wrong-here : (read : List ℕ → Option PlainAny) (words : List (Bor (List ℕ))) (i : ℕ) (d : Bor (List ℕ))
+    → i < length words → read (get_or words i d).now ≡ None
+    → first_wrong read (map (λ word. word.now) (drop i words)) ≡ Some (get_or words i d).now
+wrong-here read words i d inside none = grind (arith, drop_more)
 
 -- and else those of the lines
 pub line-texts : (options : EachOptions) (old new : Option (List ℕ)) (input : List ℕ)
@@ -123,7 +124,7 @@ line-texts options old new input none read end = grind arith
 -- the faults of answering to the texts that are asked
 pub asking-answering : (question : Question) (options : EachOptions) (old new : Option (List ℕ))
     (texts : List (List ℕ)) → AreTexts options old new texts → (fault : Fault)
-    → ComesOfAnswering question options.end texts fault → ComesOfAsking question options old fault
+    → ComesOfAnswering question options.naming options.end texts fault → ComesOfAsking question options old fault
 asking-answering question options old new texts are fault (inl memory) =
     subst (ComesOfAsking question options old) (sym memory) tt
 asking-answering question options old new texts are fault (inr (text, is, quotes)) =

@@ -2,14 +2,13 @@
 use Rattle.std.proofs.Common.{◌≡◌, ◌∙◌, ◌<◌, ◌^◌, ◌++◌, ◌∷◌, [], Bor, ℕ, Bool, List, Option, None, Some, ap, append_assoc, arith, codes, false, get_or, length, nat_lt, refl, subst, sym, take, true, unwrap_or}
 use Rattle.std.proofs.Math.Seq.{take-append_seam}
 use Rattle.std.proofs.lemmas.Bool.{lt-ltb}
-use Rattle.version_commands.specs.Choice.{filter_word, wrong_set, wrong_word}
+use Rattle.std.specs.Option.{option_or}
+use Rattle.version_commands.specs.Choice.{wrong_word}
 use Rattle.version_commands.specs.Fault.{ComesOfSet, ComesOfSets}
 use Rattle.version_commands.specs.Sets.{HasAny, keys_of, reading_of, set_of}
 use Rattle.version_commands.specs.Why.{members_text, why_text}
 use Rattle.version_commands.specs.declared.faults.Fault.{Fault}
 use Rattle.version_commands.specs.declared.faults.Fault.TheVariants.{NotVersion, NotRequirement, NotSet, NotTested, NotTestedSet, BadLine, NoNext, Memory, Read, Write}
-use Rattle.version_commands.specs.declared.options.Arrangement.{Arrangement}
-use Rattle.version_commands.specs.declared.options.Choice.{Choice}
 use Rattle.version_schemes.specs.Scheme.{rules}
 use Rattle.version_schemes.specs.any.Order.{PlainAny}
 use Rattle.version_schemes.specs.declared.scheme.Scheme.{Scheme}
@@ -68,37 +67,35 @@ wrong_none scheme word fault is = by (reading_of scheme word) refl
     by (Wrong place reason) read = rw read refl
     by (Right first others) read = cc (rw read at is)
 
--- the fault of the word of a choice is that of both words, where the other is a set
-pub of_choice : (scheme : Scheme) (choice : Choice) (arrangement : Arrangement) (word : Bor (List ℕ)) (fault : Fault)
-    → choice.wanted ≡ Some word → wrong_word scheme (filter_word arrangement) ≡ None → ComesOfSet scheme word.now fault
-    → ComesOfSets scheme (wrong_set scheme choice arrangement) fault
-of_choice scheme choice arrangement word (NotSet wrong) is right comes =
-    rw (right, is, wrong_none scheme word.now (wrong.place, wrong.reason) comes.fault_is) comes
-of_choice scheme choice arrangement word Memory is right comes = tt
-of_choice scheme choice arrangement word (NotVersion text) is right comes = absurd comes
-of_choice scheme choice arrangement word (NotRequirement text) is right comes = absurd comes
-of_choice scheme choice arrangement word (NotTested text) is right comes = absurd comes
-of_choice scheme choice arrangement word (NotTestedSet wrong) is right comes = absurd comes
-of_choice scheme choice arrangement word (BadLine number text ends more) is right comes = absurd comes
-of_choice scheme choice arrangement word (NoNext text) is right comes = absurd comes
-of_choice scheme choice arrangement word (Read name) is right comes = absurd comes
-of_choice scheme choice arrangement word (Write name) is right comes = absurd comes
+-- the fault of a word
+pub of_word : (scheme : Scheme) (word : Bor (List ℕ)) (fault : Fault) → ComesOfSet scheme word.now fault
+    → ComesOfSets scheme (wrong_word scheme (Some word)) fault
+of_word scheme word (NotSet wrong) comes =
+    rw (wrong_none scheme word.now (wrong.place, wrong.reason) comes.fault_is) comes
+of_word scheme word Memory comes = tt
+of_word scheme word (NotVersion text) comes = absurd comes
+of_word scheme word (NotRequirement text) comes = absurd comes
+of_word scheme word (NotTested text) comes = absurd comes
+of_word scheme word (NotTestedSet wrong) comes = absurd comes
+of_word scheme word (BadLine number text ends more) comes = absurd comes
+of_word scheme word (NoNext text) comes = absurd comes
+of_word scheme word (Read name) comes = absurd comes
+of_word scheme word (Write name) comes = absurd comes
 
--- the fault of the word of `filter` comes first
-pub of_filter : (scheme : Scheme) (choice : Choice) (arrangement : Arrangement) (word : Bor (List ℕ)) (fault : Fault)
-    → filter_word arrangement ≡ Some word → ComesOfSet scheme word.now fault
-    → ComesOfSets scheme (wrong_set scheme choice arrangement) fault
-of_filter scheme choice arrangement word (NotSet wrong) is comes =
-    rw (is, wrong_none scheme word.now (wrong.place, wrong.reason) comes.fault_is) comes
-of_filter scheme choice arrangement word Memory is comes = tt
-of_filter scheme choice arrangement word (NotVersion text) is comes = absurd comes
-of_filter scheme choice arrangement word (NotRequirement text) is comes = absurd comes
-of_filter scheme choice arrangement word (NotTested text) is comes = absurd comes
-of_filter scheme choice arrangement word (NotTestedSet wrong) is comes = absurd comes
-of_filter scheme choice arrangement word (BadLine number text ends more) is comes = absurd comes
-of_filter scheme choice arrangement word (NoNext text) is comes = absurd comes
-of_filter scheme choice arrangement word (Read name) is comes = absurd comes
-of_filter scheme choice arrangement word (Write name) is comes = absurd comes
+-- is that of this word and another
+pub of_first : (scheme : Scheme) (one other : Option (List ℕ)) (fault : Fault) → ComesOfSets scheme one fault
+    → ComesOfSets scheme (option_or one other) fault
+of_first scheme (Some word) other fault comes = comes
+of_first scheme None other (NotSet wrong) comes = absurd comes
+of_first scheme None other Memory comes = tt
+of_first scheme None other (NotVersion text) comes = absurd comes
+of_first scheme None other (NotRequirement text) comes = absurd comes
+of_first scheme None other (NotTested text) comes = absurd comes
+of_first scheme None other (NotTestedSet wrong) comes = absurd comes
+of_first scheme None other (BadLine number text ends more) comes = absurd comes
+of_first scheme None other (NoNext text) comes = absurd comes
+of_first scheme None other (Read name) comes = absurd comes
+of_first scheme None other (Write name) comes = absurd comes
 
 -- ---- alternatives
 

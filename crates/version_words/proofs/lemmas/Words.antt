@@ -48,8 +48,8 @@ module _ (words : List (List ℕ)) where
   meant (Implies scheme one other) right is = (right, is)
   meant (Meets scheme one other) right is = (right, is)
   meant (Compare scheme first second) right is = (right, is)
-  meant (Explain first second) right is = (right, is)
-  meant (Difference first second) right is = (right, is)
+  meant (Explain naming first second) right is = (right, is)
+  meant (Difference naming first second) right is = (right, is)
   meant (Lists lists) right is = (right, is)
   meant (Label labels) right is = (right, is)
   meant (Match list) right is = (right, is)
@@ -66,8 +66,8 @@ module _ (words : List (List ℕ)) where
   shown (Implies scheme one other) kind answers never = absurd never
   shown (Meets scheme one other) kind answers never = absurd never
   shown (Compare scheme first second) kind answers never = absurd never
-  shown (Explain first second) kind answers never = absurd never
-  shown (Difference first second) kind answers never = absurd never
+  shown (Explain naming first second) kind answers never = absurd never
+  shown (Difference naming first second) kind answers never = absurd never
   shown (Lists lists) kind answers never = absurd never
   shown (Label labels) kind answers never = absurd never
   shown (Match list) kind answers never = absurd never

@@ -2,7 +2,7 @@
 
 ghost use Rattle.std.specs.Prelude.{◌≡◌, false, Some, None};
 ghost use Rattle.clap.specs.Words.{new_rule, rule_of};
-ghost use Rattle.version_words.specs.Grammar.{flag_rule, number_rule, rule_of_argument, text_rule, two_or_three_rule, valued_rule, word_rule, words_rule};
+ghost use Rattle.version_words.specs.Grammar.{first_word_rule, flag_rule, number_rule, rule_of_argument, text_rule, two_or_three_rule, valued_rule, word_rule, words_rule};
 
 use crate::table::{Argument, Form};
 use clap::builder::ValueParser;
@@ -16,6 +16,7 @@ pub fn argument<'a>(alloc: Global, row: &Argument) -> Arg<'a>
 {
     match row.form {
         Form::Word => word(alloc, row.name, row.help),
+        Form::FirstWord => first_word(alloc, row.name, row.help),
         Form::TwoOrThree => two_or_three(alloc, row.name, row.help),
         Form::Words => words(alloc, row.name, row.help),
         Form::Flag => flag(alloc, row.letter, row.name, row.help),
@@ -29,10 +30,15 @@ fn word<'a>(alloc: Global, name: &'static str, help: &'static str) -> Arg<'a>
     ensures rule { rule_of result ≡ word_rule name.now }
     ensures local { result.global ≡ false }
 {
-    Arg::new(alloc, name)
-        .required(true)
-        .action(ArgAction::Set)
-        .help(help)
+    first_word(alloc, name, help).required(true)
+}
+
+// Returns a word that may be there.
+fn first_word<'a>(alloc: Global, name: &'static str, help: &'static str) -> Arg<'a>
+    ensures rule { rule_of result ≡ first_word_rule name.now }
+    ensures local { result.global ≡ false }
+{
+    Arg::new(alloc, name).action(ArgAction::Set).help(help)
 }
 
 // Returns two or three words.

@@ -1,9 +1,8 @@
 use Rattle.std.proofs.Common.{◌≡◌, ◌<◌, ◌++◌, ◌∷◌, [], ℕ, List, Bor, Some, length, map, get_or, take, rules, sym, subst, ap, ◌∙◌, arith}
 use Rattle.std.proofs.lemmas.List.{take_all}
 use Rattle.std.proofs.lemmas.Result.{IfErr-weaker, IfOk-weaker}
-use Rattle.version_commands.specs.Each.{HasSet, HaveAnswered, scheme_of}
+use Rattle.version_commands.specs.Each.{HasSet, HaveAnswered, version_asked}
 use Rattle.version_schemes.specs.any.AnyVersion.{plain_any}
-use Rattle.version_schemes.specs.any.Order.{any_of}
 use Rattle.version_commands.proofs.lemmas.Each.{asking-answering, word-texts, wrong-here, wrong-next}
 use Rattle.version_commands.proofs.lemmas.Pieces.{texts-next}
 use Rattle.version_commands.proofs.each.answer_words.Goals as goal
@@ -15,7 +14,7 @@ loop-word-preserved c =
     let i = c.loop-word.word-index in
     let d : Bor (List ℕ) = record { ref_ptr = (0, 0); now = [] } in
     let inside : i < length words = search rules in
-    let here : any_of (scheme_of c.args.question) (get_or words i d).now
+    let here : version_asked c.args.question c.args.options.now.naming (get_or words i d).now
     ≡ Some (plain_any c.in_ok-version.version) = search rules in
     let text : c.as_bytes.result.now ≡ (get_or words i d).now = search rules in (
       subst (λ question. HasSet question c.add.new.self.set) (sym c.in_ok-add.ensures.question)
@@ -24,7 +23,7 @@ loop-word-preserved c =
           (ap (λ (t : List ℕ). map (λ (word : Bor (List ℕ)). word.now) (take i words) ++ t ∷ []) text
           ∙ sym (texts-next (λ (word : Bor (List ℕ)). word.now) words i d inside))
           (c.in_ok-add.ensures.answers _ _ have),
-      wrong ∙ wrong-next (scheme_of c.args.question) words i d _ inside here,
+      wrong ∙ wrong-next (version_asked c.args.question c.args.options.now.naming) words i d _ inside here,
     )
 
 pub returns-clause-answers : goal.returns-clause-answers

@@ -1,5 +1,6 @@
 use Rattle.std.proofs.Common.{◌≡◌, ◌++◌, ◌∷◌, [], Bool, None, refl, rules, sym, subst}
 use Rattle.version_commands.specs.Pieces.{Adds}
+use Rattle.version_commands.specs.Place.{named_text}
 use Rattle.version_commands.specs.declared.each.Answers.{Answers}
 use Rattle.version_schemes.specs.any.AnyVersion.{plain_any}
 use Rattle.version_schemes.proofs.lemmas.Any.{is_of}
@@ -19,9 +20,9 @@ returns-else-is_none-clause-answers c = λ first texts have.
           (have-next first now _ texts c.args.text.now (plain_any c.args.version.now)
           have none c.requires.version
           (subst (λ (found : Bool). Adds
-          (IsAnswer now.question now.end (plain_any c.args.version.now) found)
+          (IsAnswer now.question now.naming now.end c.args.text.now (plain_any c.args.version.now) found)
           now.output.items w.add_answer.new.output.items)
-          w.if-not-branch.false w.in_ok-add_answer.ensures) refl refl refl none)
+          w.if-not-branch.false w.in_ok-add_answer.ensures) refl refl refl refl none)
       | else-is_none-via-else-is_none w ↦
           subst (λ (a : Answers). HaveAnswered first a (texts ++ c.args.text.now ∷ []))
           (sym w.self-is)
@@ -34,10 +35,10 @@ returns-then-not-branch-clause-answers c = λ first texts have.
     let none : now.unanswered ≡ None = search rules in
     have-none first now _ texts c.args.text (plain_any c.args.version.now) have none c.requires.version
     (subst (λ (found : Bool). Adds
-    (IsAnswer now.question now.end (plain_any c.args.version.now) found)
+    (IsAnswer now.question now.naming now.end c.args.text.now (plain_any c.args.version.now) found)
     now.output.items c.add_answer.new.output.items)
-    c.if-not-branch.true c.in_ok-add_answer.ensures) refl refl refl refl
+    c.if-not-branch.true c.in_ok-add_answer.ensures) refl refl refl refl refl
 
 pub add_answer-requires-clause-scheme : goal.add_answer-requires-clause-scheme
 add_answer-requires-clause-scheme c =
-    (is_of (scheme_of c.args.self.now.question) c.args.text.now _ c.requires.version).scheme_is
+    (is_of (scheme_of c.args.self.now.question) (named_text c.args.self.now.naming c.args.text.now) _ c.requires.version).scheme_is
