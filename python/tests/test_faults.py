@@ -476,6 +476,12 @@ def failing_midway():
     return versions.kinds(texts())
 
 
+class BadSeries(Series):
+    """A Series that can't be made again."""
+
+    _constructor = 5
+
+
 # Through functions of Python.
 PYTHON_CALLS = {
     "parts": lambda: (EPOCH.epoch, EPOCH.major, EPOCH.is_prerelease, EPOCH.kind, EPOCH.release, repr(EPOCH)),
@@ -491,7 +497,7 @@ PYTHON_CALLS = {
     "has_all": lambda: SET.has_all(["1.2", None, "1..2", PLAIN]),
     "has_all of a Series": lambda: SET.has_all(Series(["1.2", None, "1..2", PLAIN], "abcd")).texts,
     "sort_keys of a Series": lambda: versions.sort_keys(Series(["1.2", None], "ab")).texts,
-    "kinds of a Series that fails": lambda: versions.kinds(type("Bad", (Series,), {"_constructor": 5})(["1.2"], "a")),
+    "kinds of a Series that fails": lambda: versions.kinds(BadSeries(["1.2"], "a")),
     "no set": lambda: str(versions.InvalidVersionSet(">=1.2 | 3")),
     "in deb": lambda: (repr(DEB), repr(DEB_SET), repr(~DEB_SET), str(versions.InvalidVersionSet(">=1-", "deb"))),
     "pickles in deb": lambda: [pickle.loads(pickle.dumps(each)) for each in (DEB, MINE(DEB, scheme="deb"), ~DEB_SET)],

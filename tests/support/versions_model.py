@@ -24,8 +24,9 @@ SHORT.update(g="group", v="invert-match")
 ENDS = {"zero-terminated", "crlf"}
 NAMING = {"tags", "prefix"}
 PLACE = {"key", "field-separator", "scheme"} | NAMING | ENDS
-LINES = {"min-stability", "match", "invalid", "invalid-to", "progress"} | PLACE
-VALUED = (LINES | {"count", "group", "scheme-column"}) - {"tags", "progress"} - ENDS
+LINES = {"min-stability", "match", "header", "header-lines", "invalid", "invalid-to", "progress"} | PLACE
+VALUED = (LINES | {"count", "group", "scheme-column"}) - {"tags", "progress", "header"} - ENDS
+NUMBERED = ("key", "count", "group", "scheme-column", "header-lines")
 # The options of each command, and how many words it takes.
 COMMANDS = {
     "sort": ({"reverse", "unique", "scheme-column"} | LINES, 0, None),
@@ -170,14 +171,14 @@ class Run:
         levels = zip(texts, versions.stabilities(texts))
         return [STABILITIES.index(str(it)) if it else stability_of_words(text) - 1 for text, it in levels]
 
-    def bad(self, lines, texts, asked):
-        """The lines without a version, unless they are a fault."""
+    def bad(self, lines, texts, asked, header=0):
+        """The lines without a version behind a header, unless they are a fault."""
         bad = [place for place, text in enumerate(texts) if text is None]
         if bad and asked == "fail":
-            line = lines[bad[0]]
-            text = b"line %d is not a version: %s" % (bad[0] + 1, shown(line))
+            line, number = lines[bad[0]], header + bad[0] + 1
+            text = b"line %d is not a version: %s" % (number, shown(line))
             if "crlf" not in self.options and line.endswith(b"\r"):
-                text = b"line %d ends in a carriage return: --crlf" % (bad[0] + 1)
+                text = b"line %d ends in a carriage return: --crlf" % number
             raise Ended(1, text + (b" (and %d more)" % (len(bad) - 1) if len(bad) > 1 else b""))
         return [lines[place] for place in bad]
 
@@ -185,9 +186,11 @@ class Run:
         """What `sort`, `newest` and `filter` write of their input."""
         wanted = self.version_set(self.options.get("match", "*"))
         asked = self.options.get("invalid", "skip" if "invalid-to" in self.options else default)
+        header = int(self.options.get("header-lines", "header" in self.options))
         lines = self.input(files)
+        head, lines = lines[:header], lines[header:]
         texts = self.texts(lines, number(self.options.get("key")))
-        bad = self.bad(lines, texts, asked)
+        bad = self.bad(lines, texts, asked, header)
         rows = [(line, text) for line, text in zip(lines, texts) if text is not None]
         least = STABILITIES.index(self.options.get("min-stability", "dev"))
         stable = set()
@@ -201,7 +204,7 @@ class Run:
         if "invalid-to" in self.options:
             self.written[self.options["invalid-to"]] = b"".join(line + self.end() for line in bad)
         kept = {"first": bad + good, "last": good + bad}.get(asked, good)
-        return b"".join(line + self.end() for line in kept)
+        return b"".join(line + self.end() for line in head + kept)
 
     def sort(self, *files):
         reverse = "reverse" in self.options
@@ -399,7 +402,7 @@ def parsed(command, words):
 
 
 def are_right(command, options):
-    numbers = [options[name] for name in ("key", "count", "group", "scheme-column") if name in options]
+    numbers = [options[name] for name in NUMBERED if name in options]
     separator = options.get("field-separator", ",")
     invalid = ["fail", "skip"] if command in ("newest", "diff") else ["fail", "skip", "first", "last"]
     return (

@@ -34,6 +34,7 @@ pub record ArePlain (options : LineOptions) : Type 0 where
   pub column_is : options.place.column ≡ None
   pub naming_is : options.place.naming ≡ Bare
   pub scheme_is : options.place.scheme ≡ Mixed
+  pub header_is : options.header ≡ 0
   pub scheme_column_is : options.scheme_column ≡ None
   pub least_is : options.choice.least ≡ Dev
   pub wanted_is : options.choice.wanted ≡ None

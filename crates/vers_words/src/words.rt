@@ -71,6 +71,7 @@ fn options<'w>(alloc: Global) -> LineOptions<'w>
 {
     LineOptions {
         end: b'\n',
+        header: 0,
         place: VersionPlace {
             crlf: false,
             column: None,

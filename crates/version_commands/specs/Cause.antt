@@ -9,7 +9,7 @@ use Rattle.version_commands.specs.Each.{AreTexts, IsFirstWithoutNext, reads_by, 
 use Rattle.version_commands.specs.Fault.{first_wrong, ComesOfLines, ComesOfMatching, ComesOfPut, ComesOfReading, ComesOfSets, ComesOfStandard, ComesOfTestOfSet, ComesOfTestOfSets, ComesOfTestOfTwo, ComesOfWords}
 use Rattle.version_commands.specs.Inputs.{joined, names_read, AreInputs, Reading}
 use Rattle.version_commands.specs.Lists.{bad_lines_of, lines_of_list, names_of}
-use Rattle.version_commands.specs.Ordered.{versions_by}
+use Rattle.version_commands.specs.Ordered.{body_of, versions_by}
 use Rattle.version_commands.specs.Picked.{Versions}
 use Rattle.version_commands.specs.Place.{reads_of, spelled, spelled_mixed}
 use Rattle.version_commands.specs.Quote.{quoted}
@@ -35,7 +35,7 @@ use Rattle.version_lines.specs.Sort.{version_in}
 abbrev pub ComesOfArranged : LineOptions → Versions → List ℕ → Fault → Type 0
 ComesOfArranged options versions input (fault.Write name) = ComesOfPut options (fault.Write name)
 ComesOfArranged options versions input other =
-    ComesOfLines (policy options) options.place.crlf versions (lines_of options.end input) other
+    ComesOfLines (policy options) options.place.crlf options.header versions (lines_of options.end input) other
 
 -- the faults of `sort`, `newest` and `filter`: of a word that is no set, of an input, of the lines that
 -- have no version, or of the file for these
@@ -48,7 +48,8 @@ ComesOfArranging arrangement options files old fault.Memory = ⊤
 ComesOfArranging arrangement options files old other =
     (new : Option (List ℕ)) × (texts : List (List ℕ))
     × AreInputs files old new (names_read (map (λ name. name.now) options.files.items)) texts
-    × ComesOfArranged options (versions_by options.place options.scheme_column) (joined options.end texts) other
+    × ComesOfArranged options (versions_by options.place options.scheme_column)
+    (body_of options (joined options.end texts)) other
 
 -- this is what is wrong with the question's word for its set
 abbrev pub HasWrongSet : Question → WrongSet → Type 0
@@ -81,7 +82,7 @@ ComesOfAsking question options old (fault.NotVersion text) =
 ComesOfAsking question options old (fault.BadLine number text ends more) =
     (options.versions.items ≡ []) × (new : Option (List ℕ)) × (input : List ℕ)
     × Consumes old new input × IsAtEnd new
-    × ComesOfLines Fail options.crlf (version_in (reads_by question options.naming options.crlf)) (lines_of options.end input)
+    × ComesOfLines Fail options.crlf 0 (version_in (reads_by question options.naming options.crlf)) (lines_of options.end input)
     (fault.BadLine number text ends more)
 ComesOfAsking question options old (fault.Read name) =
     (options.versions.items ≡ []) × (name.now ≡ codes "-")
@@ -93,7 +94,7 @@ ComesOfAsking question options old other = ComesOfQuestion question other
 -- the faults of the lines without a version of a list
 abbrev pub ComesOfOne : Lists → List ℕ → Fault → Type 0
 ComesOfOne lists input =
-    ComesOfLines lists.invalid lists.place.crlf (version_in (reads_of lists.place)) (lines_of_list lists input)
+    ComesOfLines lists.invalid lists.place.crlf 0 (version_in (reads_of lists.place)) (lines_of_list lists input)
 
 -- those of two lists: of the new one only where each line of the old one has a version
 abbrev pub ComesOfEither : Lists → List ℕ → List ℕ → Fault → Type 0

@@ -95,15 +95,15 @@ ComesOfBadAfter policy crlf before bad (BadLine number text ends more) =
     × Reports crlf bad (string_bytes text) ends more
 ComesOfBadAfter policy crlf before bad fault = ⊥
 
--- those of the lines without a version that were found
-abbrev pub ComesOfBad : Invalid → Bool → BadLines → Fault → Type 0
-ComesOfBad policy crlf bad =
-    ComesOfBadAfter policy crlf bad.before (map (λ line. line.now) bad.lines.items)
+-- those of the lines without a version that were found, behind a header of so many lines
+abbrev pub ComesOfBad : Invalid → Bool → ℕ → BadLines → Fault → Type 0
+ComesOfBad policy crlf header bad =
+    ComesOfBadAfter policy crlf (header + bad.before) (map (λ line. line.now) bad.lines.items)
 
 -- those of some lines
-abbrev pub ComesOfLines : Invalid → Bool → Versions → List (List ℕ) → Fault → Type 0
-ComesOfLines policy crlf versions lines =
-    ComesOfBadAfter policy crlf (good_before versions lines) (bad_lines versions lines)
+abbrev pub ComesOfLines : Invalid → Bool → ℕ → Versions → List (List ℕ) → Fault → Type 0
+ComesOfLines policy crlf header versions lines =
+    ComesOfBadAfter policy crlf (header + good_before versions lines) (bad_lines versions lines)
 
 -- the faults of `match` of `vers`, by the word of its list
 abbrev pub ComesOfMatching : List ℕ → Fault → Type 0

@@ -1,5 +1,5 @@
 -- The inputs of a run, which are read in turn.
-use Rattle.std.specs.Prelude.{◌≡◌, ◌==◌, ℕ, Bool, true, false, List, [], ◌∷◌, ◌++◌, Option, None, Some, codes, if◌then◌else◌}
+use Rattle.std.specs.Prelude.{◌≡◌, ◌==◌, ℕ, Bool, true, false, List, [], ◌∷◌, ◌++◌, Option, None, Some, codes, if◌then◌else◌, zero, suc, ◌-◌, length, take}
 use Rattle.std.specs.Io.KnownBytes.{Consumes, IsAtEnd}
 use Rattle.std.specs.List.{flat_map, list_any, Contains}
 use Rattle.std.specs.Str.{bytes_eq}
@@ -17,6 +17,17 @@ ended end bytes = if ends_line end bytes then bytes else bytes ++ end ∷ []
 -- several texts as one, so that no line reaches from one into the next
 abbrev pub joined : ℕ → List (List ℕ) → List ℕ
 joined end texts = flat_map (ended end) texts
+
+-- what follows so many lines of an input
+abbrev pub after_lines : ℕ → ℕ → List ℕ → List ℕ
+after_lines end zero input = input
+after_lines end (suc more) [] = []
+after_lines end (suc more) (byte ∷ input) =
+    if byte == end then after_lines end more input else after_lines end (suc more) input
+
+-- these lines
+abbrev pub first_lines : ℕ → ℕ → List ℕ → List ℕ
+first_lines end count input = take (length input - length (after_lines end count input)) input
 
 -- what reading the file of a name may give, or that it may fail
 abbrev pub Reading : Type 1

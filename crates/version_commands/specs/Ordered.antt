@@ -1,10 +1,10 @@
 -- What `sort`, `newest` and `filter` write.
-use Rattle.std.specs.Prelude.{◌≡◌, ℕ, Bool, List, [], map, Option, None, Some, if◌then◌else◌}
+use Rattle.std.specs.Prelude.{◌≡◌, ◌++◌, ℕ, Bool, List, [], map, Option, None, Some, if◌then◌else◌}
 use Rattle.version_commands.specs.Arranged.{arranged, placed, policy}
 use Rattle.version_commands.specs.BySchemes.{arranged_by_schemes, version_by}
 use Rattle.version_commands.specs.Choice.{keeps_of}
 use Rattle.std.specs.Option.{option_map}
-use Rattle.version_commands.specs.Inputs.{joined, names_read, AreInputs, Reading}
+use Rattle.version_commands.specs.Inputs.{after_lines, first_lines, joined, names_read, AreInputs, Reading}
 use Rattle.version_commands.specs.Picked.{Versions, bad_lines, has, kept_lines}
 use Rattle.version_commands.specs.Place.{group_text, reads_of}
 use Rattle.version_commands.specs.declared.options.Arrangement.{Arrangement}
@@ -44,6 +44,13 @@ ordered_by (Some column) keeps arrangement options input =
     arranged_by_schemes options.place column arrangement
     (kept_in (version_by options.place column) keeps options input)
 
+-- what stays on top of what is written, and what it is written of
+abbrev pub head_of : LineOptions → List ℕ → List ℕ
+head_of options input = first_lines options.end options.header input
+
+abbrev pub body_of : LineOptions → List ℕ → List ℕ
+body_of options input = after_lines options.end options.header input
+
 -- the name of the file for lines without a version, if there is one
 abbrev pub bad_file : LineOptions → Option (List ℕ)
 bad_file options = option_map (λ name. name.now) options.invalid_to
@@ -54,18 +61,18 @@ abbrev pub put_of : LineOptions → List (List ℕ) → Option (List ℕ × List
 put_of options bad =
     option_map (λ name. (name, lines_output (whole_line options.end) bad)) (bad_file options)
 
--- lines are written, with those that have no version before or after them or in their file
-pub record IsPlaced (options : LineOptions) (bad lines : List (List ℕ))
+-- lines are written behind a head, with those that have no version before or after them or in their file
+pub record IsPlaced (options : LineOptions) (head : List ℕ) (bad lines : List (List ℕ))
     (leaves : Option (List ℕ × List ℕ) → Type 0) (output : List ℕ) : Type 0 where
   pub put : leaves (put_of options bad)
-  pub output_is : output ≡ lines_output (whole_line options.end) (placed (policy options) bad lines)
+  pub output_is : output ≡ head ++ lines_output (whole_line options.end) (placed (policy options) bad lines)
 
 -- the same with the lines of an input that have no version; there are none if the options want none
-pub record IsArranged (versions : Versions) (options : LineOptions) (input : List ℕ)
+pub record IsArranged (versions : Versions) (options : LineOptions) (head input : List ℕ)
     (lines : List (List ℕ)) (leaves : Option (List ℕ × List ℕ) → Type 0)
     (output : List ℕ) : Type 0 where
   pub good : policy options ≡ Fail → bad_lines versions (lines_of options.end input) ≡ []
-  pub is_placed : IsPlaced options (bad_lines versions (lines_of options.end input)) lines leaves output
+  pub is_placed : IsPlaced options head (bad_lines versions (lines_of options.end input)) lines leaves output
 
 -- the same of a run whose inputs were read in turn
 pub record IsOrdered (arrangement : Arrangement) (options : LineOptions) (files : Reading)
@@ -76,5 +83,7 @@ pub record IsOrdered (arrangement : Arrangement) (options : LineOptions) (files 
   pub texts_are : AreInputs files old new (names_read (map (λ name. name.now) options.files.items))
       texts
   pub keeps_are : keeps_of options.place.scheme options.choice arrangement ≡ Some keeps
-  pub is_arranged : IsArranged (versions_by options.place options.scheme_column) options (joined options.end texts)
-      (ordered_by options.scheme_column keeps arrangement options (joined options.end texts)) leaves output
+  pub is_arranged : IsArranged (versions_by options.place options.scheme_column) options
+      (head_of options (joined options.end texts)) (body_of options (joined options.end texts))
+      (ordered_by options.scheme_column keeps arrangement options (body_of options (joined options.end texts)))
+      leaves output

@@ -8,7 +8,7 @@ ghost use Rattle.version_commands.specs.Early.{IfOfWord, UnlessLate};
 ghost use Rattle.version_commands.specs.Ends.{Ends};
 ghost use Rattle.version_commands.specs.Files.{AltersAtMost, Leaves};
 ghost use Rattle.version_commands.specs.Inputs.{names_read, reads_standard};
-ghost use Rattle.version_commands.specs.Ordered.{bad_file, arranged_in, kept_in, kept_line, IsArranged, IsOrdered};
+ghost use Rattle.version_commands.specs.Ordered.{bad_file, body_of, head_of, arranged_in, kept_in, kept_line, IsArranged, IsOrdered};
 ghost use Rattle.version_commands.specs.Place.{group_text, reads_of};
 ghost use Rattle.version_lines.specs.KeyedLines.{lines_in, AreRead};
 ghost use Rattle.version_lines.specs.Lines.{output_by, whole_line};
@@ -20,7 +20,7 @@ use crate::by_schemes::{LinesOfSchemes, arrange_by_schemes};
 use crate::choice::Chooser;
 use crate::faults::Fault;
 use crate::files::{Files, Stage};
-use crate::inputs::read_inputs;
+use crate::inputs::{after_lines, read_inputs};
 use crate::options::{Arrangement, Choice, Invalid, LineOptions, VersionPlace};
 use crate::pick::{Chooses, EveryVersion, Takes, pick};
 use crate::place::{ByColumn, ByVersion};
@@ -52,7 +52,7 @@ pub fn serve_lines<'w, F: Files, R: Read, W: Write>(
     let chooser = Chooser::new(alloc, options.place.scheme, &options.choice, &arrangement)?;
     let input = read_inputs(alloc, options.files.as_slice(), options.end, files, reader)?;
     tell(options, files, Stage::Read(input.len()));
-    let bytes = input.as_slice();
+    let input = split_head(options, input.as_slice());
     match options.scheme_column {
         Some(column) => write_by_schemes(
             alloc,
@@ -60,11 +60,30 @@ pub fn serve_lines<'w, F: Files, R: Read, W: Write>(
             options,
             column,
             &chooser,
-            bytes,
+            &input,
             files,
             writer,
         ),
-        None => write_arranged(alloc, arrangement, options, &chooser, bytes, files, writer),
+        None => write_arranged(alloc, arrangement, options, &chooser, &input, files, writer),
+    }
+}
+
+// An input: the lines that stay on top, and what follows them.
+#[derive(Clone, Copy)]
+struct Input<'a> {
+    head: &'a [u8],
+    body: &'a [u8],
+}
+
+// Returns an input by its parts.
+fn split_head<'a>(options: &LineOptions<'_>, input: &'a [u8]) -> Input<'a>
+    ensures head { result.head.now ≡ head_of options.now input.now }
+    ensures body { result.body.now ≡ body_of options.now input.now }
+{
+    let body = after_lines(options.end, options.header, input);
+    Input {
+        head: &input[..input.len().saturating_sub(body.len())],
+        body,
     }
 }
 
@@ -75,21 +94,21 @@ fn write_arranged<'w, F: Files, W: Write>(
     arrangement: Arrangement<'_>,
     options: &LineOptions<'w>,
     chooser: &Chooser,
-    input: &[u8],
+    input: &Input<'_>,
     files: &mut F,
     writer: &mut W,
 ) -> Result<(), Fault<'w>>
-    ensures ends { Ends (IsArranged (version_in (reads_of options.now.place)) options.now input.now
-        (arranged_in (reads_of options.now.place) (is_kept chooser.now) arrangement.entry options.now
-        input.now) (Leaves F.puts files.old files.new))
-        (ComesOfArranged options.now (version_in (reads_of options.now.place)) input.now)
+    ensures ends { Ends (IsArranged (version_in (reads_of options.now.place)) options.now input.now.head.now
+        input.now.body.now (arranged_in (reads_of options.now.place) (is_kept chooser.now) arrangement.entry options.now
+        input.now.body.now) (Leaves F.puts files.old files.new))
+        (ComesOfArranged options.now (version_in (reads_of options.now.place)) input.now.body.now)
         (W.contents writer.old) (W.contents writer.new) result }
     ensures files { AltersAtMost F.alters (bad_file options.now) files.old files.new }
     ensures kept { UnlessLate (files.new ≡ files.old) result }
 {
     if let Arrangement::Filter { .. } = arrangement {
-        if leaves_others_out(options) {
-            return write_at_once(alloc, options, chooser, input, writer);
+        if input.head.is_empty() && leaves_others_out(options) {
+            return write_at_once(alloc, options, chooser, input.body, writer);
         }
         return write_kept(alloc, options, chooser, input, files, writer);
     }
@@ -131,15 +150,15 @@ fn write_keyed<'w, B: SortBy + Copy, C: Chooses, F: Files, W: Write>(
     chooser: &C,
     arrangement: Arrangement<'_>,
     options: &LineOptions<'w>,
-    input: &[u8],
+    input: &Input<'_>,
     files: &mut F,
     writer: &mut W,
 ) -> Result<(), Fault<'w>>
     requires { is_reversed arrangement ≡ B.is_reversed by }
-    ensures ends { Ends (IsArranged (version_in (B.reads by)) options.now input.now
-        (arranged_in (B.reads by) (C.keeps chooser.now) arrangement.entry options.now input.now)
+    ensures ends { Ends (IsArranged (version_in (B.reads by)) options.now input.now.head.now
+        input.now.body.now (arranged_in (B.reads by) (C.keeps chooser.now) arrangement.entry options.now input.now.body.now)
         (Leaves F.puts files.old files.new))
-        (ComesOfArranged options.now (version_in (B.reads by)) input.now)
+        (ComesOfArranged options.now (version_in (B.reads by)) input.now.body.now)
         (W.contents writer.old) (W.contents writer.new) result }
     ensures files { AltersAtMost F.alters (bad_file options.now) files.old files.new }
     ensures kept { UnlessLate (files.new ≡ files.old) result }
@@ -147,13 +166,13 @@ fn write_keyed<'w, B: SortBy + Copy, C: Chooses, F: Files, W: Write>(
     if asks_for_one(&arrangement, options) {
         return write_newest(alloc, by, chooser, options, input, files, writer);
     }
-    let mut kept = KeyedLines::new(alloc, by, input.len())?;
-    let bad = pick(alloc, &mut kept, chooser, options.end, input)?;
+    let mut kept = KeyedLines::new(alloc, by, input.body.len())?;
+    let bad = pick(alloc, &mut kept, chooser, options.end, input.body)?;
     refuse_bad(alloc, options, &bad)?;
     tell(options, files, Stage::Kept(kept.count()));
     arrange(alloc, arrangement, options.place.crlf, &mut kept)?;
     tell(options, files, Stage::Ordered(kept.count()));
-    write_lines(alloc, options, &bad, &kept, files, writer)
+    write_lines(alloc, options, input.head, &bad, &kept, files, writer)
 }
 
 // Writes the lines that are kept, those of each scheme arranged, one scheme after another.
@@ -163,15 +182,15 @@ fn write_by_schemes<'w, F: Files, W: Write>(
     options: &LineOptions<'w>,
     column: Column,
     chooser: &Chooser,
-    input: &[u8],
+    input: &Input<'_>,
     files: &mut F,
     writer: &mut W,
 ) -> Result<(), Fault<'w>>
-    ensures ends { Ends (IsArranged (version_by options.now.place column) options.now input.now
-        (arranged_by_schemes options.now.place column arrangement.entry
-        (kept_in (version_by options.now.place column) (is_kept chooser.now) options.now input.now))
+    ensures ends { Ends (IsArranged (version_by options.now.place column) options.now input.now.head.now
+        input.now.body.now (arranged_by_schemes options.now.place column arrangement.entry
+        (kept_in (version_by options.now.place column) (is_kept chooser.now) options.now input.now.body.now))
         (Leaves F.puts files.old files.new))
-        (ComesOfArranged options.now (version_by options.now.place column) input.now)
+        (ComesOfArranged options.now (version_by options.now.place column) input.now.body.now)
         (W.contents writer.old) (W.contents writer.new) result }
     ensures files { AltersAtMost F.alters (bad_file options.now) files.old files.new }
     ensures kept { UnlessLate (files.new ≡ files.old) result }
@@ -182,12 +201,12 @@ fn write_by_schemes<'w, F: Files, W: Write>(
         column,
         lines: Vec::new(alloc),
     };
-    let bad = pick(alloc, &mut kept, chooser, options.end, input)?;
+    let bad = pick(alloc, &mut kept, chooser, options.end, input.body)?;
     refuse_bad(alloc, options, &bad)?;
     tell(options, files, Stage::Kept(kept.lines.len()));
     let lines = arrange_by_schemes(alloc, arrangement, &place, column, kept.lines.as_slice())?;
     tell(options, files, Stage::Ordered(lines.len()));
-    write_lines(alloc, options, &bad, &lines, files, writer)
+    write_lines(alloc, options, input.head, &bad, &lines, files, writer)
 }
 
 // Whether the newest line is asked for, and nothing told while lines are read: the others needn't be kept.
@@ -210,22 +229,30 @@ fn write_newest<'w, B: SortBy, C: Chooses, F: Files, W: Write>(
     by: B,
     chooser: &C,
     options: &LineOptions<'w>,
-    input: &[u8],
+    input: &Input<'_>,
     files: &mut F,
     writer: &mut W,
 ) -> Result<(), Fault<'w>>
-    ensures ends { Ends (IsArranged (version_in (B.reads by)) options.now input.now
-        (newest_alone (B.reads by) (kept_in (version_in (B.reads by)) (C.keeps chooser.now) options.now input.now))
+    ensures ends { Ends (IsArranged (version_in (B.reads by)) options.now input.now.head.now
+        input.now.body.now (newest_alone (B.reads by) (kept_in (version_in (B.reads by)) (C.keeps chooser.now) options.now input.now.body.now))
         (Leaves F.puts files.old files.new))
-        (ComesOfArranged options.now (version_in (B.reads by)) input.now)
+        (ComesOfArranged options.now (version_in (B.reads by)) input.now.body.now)
         (W.contents writer.old) (W.contents writer.new) result }
     ensures files { AltersAtMost F.alters (bad_file options.now) files.old files.new }
     ensures kept { UnlessLate (files.new ≡ files.old) result }
 {
     let mut newest = NewestLine::new(by);
-    let bad = pick(alloc, &mut newest, chooser, options.end, input)?;
+    let bad = pick(alloc, &mut newest, chooser, options.end, input.body)?;
     refuse_bad(alloc, options, &bad)?;
-    write_lines(alloc, options, &bad, &newest.line(), files, writer)
+    write_lines(
+        alloc,
+        options,
+        input.head,
+        &bad,
+        &newest.line(),
+        files,
+        writer,
+    )
 }
 
 /// Arranges lines that stand as they were added.
@@ -272,14 +299,14 @@ fn write_kept<'w, F: Files, W: Write>(
     alloc: Global,
     options: &LineOptions<'w>,
     chooser: &Chooser,
-    input: &[u8],
+    input: &Input<'_>,
     files: &mut F,
     writer: &mut W,
 ) -> Result<(), Fault<'w>>
-    ensures ends { Ends (IsArranged (version_in (reads_of options.now.place)) options.now input.now
-        (kept_in (version_in (reads_of options.now.place)) (is_kept chooser.now) options.now input.now)
+    ensures ends { Ends (IsArranged (version_in (reads_of options.now.place)) options.now input.now.head.now
+        input.now.body.now (kept_in (version_in (reads_of options.now.place)) (is_kept chooser.now) options.now input.now.body.now)
         (Leaves F.puts files.old files.new))
-        (ComesOfArranged options.now (version_in (reads_of options.now.place)) input.now)
+        (ComesOfArranged options.now (version_in (reads_of options.now.place)) input.now.body.now)
         (W.contents writer.old) (W.contents writer.new) result }
     ensures files { AltersAtMost F.alters (bad_file options.now) files.old files.new }
     ensures kept { UnlessLate (files.new ≡ files.old) result }
@@ -288,10 +315,10 @@ fn write_kept<'w, F: Files, W: Write>(
         place: options.place,
         lines: Vec::new(alloc),
     };
-    let bad = pick(alloc, &mut kept, chooser, options.end, input)?;
+    let bad = pick(alloc, &mut kept, chooser, options.end, input.body)?;
     refuse_bad(alloc, options, &bad)?;
     tell(options, files, Stage::Kept(kept.lines.len()));
-    write_lines(alloc, options, &bad, &kept.lines, files, writer)
+    write_lines(alloc, options, input.head, &bad, &kept.lines, files, writer)
 }
 
 // Whether nothing is asked of the lines that have no version, nor told while lines are read: lines can then be written

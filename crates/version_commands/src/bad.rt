@@ -18,9 +18,16 @@ pub fn refuse_bad<'w>(
     bad: &BadLines<'_>,
 ) -> Result<(), Fault<'w>>
     ensures none { OnOk result (policy options.now ≡ Invalid.Fail → bad.now.lines.items ≡ []) }
-    ensures faults { IfErr result (ComesOfBad (policy options.now) options.now.place.crlf bad.now) }
+    ensures faults { IfErr result (ComesOfBad (policy options.now) options.now.place.crlf options.now.header
+        bad.now) }
 {
-    refuse_if(alloc, policy(options), options.place.crlf, bad)
+    refuse_if(
+        alloc,
+        policy(options),
+        options.place.crlf,
+        options.header,
+        bad,
+    )
 }
 
 /// The same where it is asked so of lines without a version.
@@ -28,13 +35,14 @@ pub fn refuse_if<'w>(
     alloc: Global,
     invalid: Invalid,
     crlf: bool,
+    header: usize,
     bad: &BadLines<'_>,
 ) -> Result<(), Fault<'w>>
     ensures none { OnOk result (invalid ≡ Invalid.Fail → bad.now.lines.items ≡ []) }
-    ensures faults { IfErr result (ComesOfBad invalid crlf bad.now) }
+    ensures faults { IfErr result (ComesOfBad invalid crlf header bad.now) }
 {
     match invalid {
-        Invalid::Fail => refuse_first(alloc, crlf, bad),
+        Invalid::Fail => refuse_first(alloc, crlf, header, bad),
         Invalid::Skip | Invalid::First | Invalid::Last => Ok(()),
     }
 }
@@ -49,15 +57,20 @@ pub fn policy(options: &LineOptions<'_>) -> Invalid
     }
 }
 
-/// Fails with the first line that has no version, if there is one.
-pub fn refuse_first<'w>(alloc: Global, crlf: bool, bad: &BadLines<'_>) -> Result<(), Fault<'w>>
+/// Fails with the first line that has no version, if there is one, behind a header of so many lines.
+pub fn refuse_first<'w>(
+    alloc: Global,
+    crlf: bool,
+    header: usize,
+    bad: &BadLines<'_>,
+) -> Result<(), Fault<'w>>
     ensures none { OnOk result (bad.now.lines.items ≡ []) }
-    ensures faults { IfErr result (ComesOfBad Invalid.Fail crlf bad.now) }
+    ensures faults { IfErr result (ComesOfBad Invalid.Fail crlf header bad.now) }
 {
     match bad.lines.as_slice() {
         [] => Ok(()),
         [first, others @ ..] => Err(Fault::BadLine {
-            number: bad.before.saturating_add(1),
+            number: header.saturating_add(bad.before).saturating_add(1),
             text: quoted(alloc, first)?,
             ends_in_return: !crlf && ends_in_return(first),
             more: others.len(),

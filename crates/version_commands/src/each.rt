@@ -146,7 +146,7 @@ fn answer_lines<'w>(
         unanswered: None,
     };
     let bad = pick(alloc, &mut answers, &EveryVersion, options.end, input)?;
-    refuse_first(alloc, options.crlf, &bad)?;
+    refuse_first(alloc, options.crlf, 0, &bad)?;
     answers.finish()
 }
 

@@ -2,7 +2,7 @@
 ghost use Rattle.std.specs.Prelude.{◌≡◌, ◌++◌, ◌∷◌, [], ℕ, List, false, map, IfErr, IfOk, OnOk};
 ghost use Rattle.std.specs.Io.KnownBytes.{Consumes, IsAtEnd};
 ghost use Rattle.version_commands.specs.Fault.{not_read, ComesOfReading, ComesOfStandard};
-ghost use Rattle.version_commands.specs.Inputs.{ended, ends_line, is_standard, joined, names_read, reads_standard, AreInputs, IsInput};
+ghost use Rattle.version_commands.specs.Inputs.{after_lines, ended, ends_line, is_standard, joined, names_read, reads_standard, AreInputs, IsInput};
 
 use crate::faults::Fault;
 use crate::files::Files;
@@ -146,4 +146,20 @@ pub fn ends_line(end: u8, bytes: &[u8]) -> bool
         Some(last) => *last == end,
         None => true,
     }
+}
+
+/// Returns what follows so many lines of an input.
+pub fn after_lines(end: u8, count: usize, input: &[u8]) -> &[u8]
+    ensures { result.now ≡ after_lines end count input.now }
+{
+    let mut left = count;
+    for (place, byte) in input.iter().enumerate() {
+        if left == 0 {
+            return &input[place..];
+        }
+        if *byte == end {
+            left -= 1;
+        }
+    }
+    &[]
 }

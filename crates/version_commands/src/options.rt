@@ -84,6 +84,8 @@ pub enum Arrangement<'w> {
 pub struct LineOptions<'w> {
     /// The byte that ends a line.
     pub end: u8,
+    /// How many lines at the beginning of the input stay on top, as they came.
+    pub header: usize,
     pub place: VersionPlace<'w>,
     /// The column that names the scheme of a line, in place of the one scheme of all; None where all are of one.
     pub scheme_column: Option<Column>,

@@ -186,8 +186,8 @@ fn changes<'w, F: Files, R: Read>(
     let new = read_inputs(alloc, &[lists.new], lists.end, files, reader)?;
     let (old_names, old_bad) = read_names(alloc, lists, old.as_slice())?;
     let (new_names, new_bad) = read_names(alloc, lists, new.as_slice())?;
-    refuse_if(alloc, lists.invalid, lists.place.crlf, &old_bad)?;
-    refuse_if(alloc, lists.invalid, lists.place.crlf, &new_bad)?;
+    refuse_if(alloc, lists.invalid, lists.place.crlf, 0, &old_bad)?;
+    refuse_if(alloc, lists.invalid, lists.place.crlf, 0, &new_bad)?;
     let mut output = Vec::new(alloc);
     add_lists(&old_names, &new_names, lists.end, &mut output)?;
     Ok(output)

@@ -22,29 +22,31 @@ use version_lines::{
     Answer, LineCommand, NotWritten, Trouble, answer_lines, make_buffer, write_whole,
 };
 
-/// Writes the lines in their order, with those that have no version before or after them, or into the file for these.
-/// All memory is taken before anything is written.
+/// Writes the lines in their order behind a head, with those that have no version before or after them, or into the
+/// file for these. All memory is taken before anything is written.
 pub fn write_lines<'w, L: Rows, F: Files, W: Write>(
     alloc: Global,
     options: &LineOptions<'w>,
+    head: &[u8],
     bad: &BadLines<'_>,
     rows: &L,
     files: &mut F,
     writer: &mut W,
 ) -> Result<(), Fault<'w>>
-    ensures ends { Ends (IsPlaced options.now (map (λ line. line.now) bad.now.lines.items)
+    ensures ends { Ends (IsPlaced options.now head.now (map (λ line. line.now) bad.now.lines.items)
         (L.lines rows.now) (Leaves F.puts files.old files.new)) (ComesOfPut options.now)
         (W.contents writer.old) (W.contents writer.new) result }
     ensures files { AltersAtMost F.alters (bad_file options.now) files.old files.new }
     ensures kept { UnlessLate (files.new ≡ files.old) result }
 {
     let mut buffer = make_buffer(alloc)?;
+    buffer.extend_from_slice(head)?;
     put_bad(alloc, options, bad, files)?;
     write_placed(policy(options), options.end, bad, rows, writer, &mut buffer)?;
     Ok(())
 }
 
-// Writes the lines in their order, through an empty buffer.
+// Writes what is in the buffer, and the lines in their order.
 fn write_placed<L: Rows, W: Write>(
     invalid: Invalid,
     end: u8,
@@ -53,12 +55,11 @@ fn write_placed<L: Rows, W: Write>(
     writer: &mut W,
     buffer: &mut Vec<u8>,
 ) -> Result<(), NotWritten>
-    requires { buffer.old.items ≡ [] }
     ensures ok { OnOk result (Appends (W.contents writer.old) (W.contents writer.new)
-        (lines_output (whole_line end) (placed invalid
+        (buffer.old.items ++ lines_output (whole_line end) (placed invalid
         (map (λ line. line.now) bad.now.lines.items) (L.lines rows.now)))) }
     ensures err { OnErr result (AppendsProperBeginning (W.contents writer.old)
-        (W.contents writer.new) (lines_output (whole_line end) (placed invalid
+        (W.contents writer.new) (buffer.old.items ++ lines_output (whole_line end) (placed invalid
         (map (λ line. line.now) bad.now.lines.items) (L.lines rows.now)))) }
 {
     put_placed(invalid, end, bad, rows, writer, buffer)?;

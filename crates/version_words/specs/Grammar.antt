@@ -104,7 +104,8 @@ invalid_rule = text_rule None (codes "invalid")
 abbrev pub lines_rules : List Rule
 lines_rules = invalid_rule ∷ text_rule None (codes "invalid-to")
     ∷ number_rule (Some 107) (codes "key") ∷ separator_rule ∷ tags_rule ∷ prefix_rule
-    ∷ scheme_rule ∷ text_rule None (codes "min-stability") ∷ text_rule None (codes "match") ∷ zero_rule
+    ∷ scheme_rule ∷ text_rule None (codes "min-stability") ∷ text_rule None (codes "match")
+    ∷ flag_rule None (codes "header") ∷ number_rule None (codes "header-lines") ∷ zero_rule
     ∷ crlf_rule ∷ flag_rule None (codes "progress") ∷ []
 
 -- the column that names the scheme of a line

@@ -88,6 +88,10 @@ invalid_of command rows = option_and_then
     (λ asked. invalid_asked asked (is_given (codes "invalid-to") rows) (invalid_unasked command))
     (invalid_word command rows)
 
+-- how many lines stay on top: so many, one, or none
+abbrev pub header_of : List Row → ℕ
+header_of rows = unwrap_or (number_of (codes "header-lines") rows) (if is_set (codes "header") rows then 1 else 0)
+
 -- whether `filter` has no set where it needs one: no stability is asked for, or the set is to be inverted
 abbrev pub lacks_set : List Row → Bool
 lacks_set rows = not (is_given (codes "SET") rows)

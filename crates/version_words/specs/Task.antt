@@ -19,7 +19,7 @@ use Rattle.version_commands.specs.declared.options.VersionPlace.{VersionPlace}
 use Rattle.version_lines.specs.declared.column.Column.{Column}
 use Rattle.version_schemes.specs.declared.scheme.Scheme.{Scheme}
 use Rattle.version_words.specs.Named.{operator_named, place_named}
-use Rattle.version_words.specs.Rows.{column_at, column_of, end_of, has_option_of_lists, has_two_schemes, invalid_of, is_given, is_set, lacks_set, level_of, number_of, scheme_of, separator_of, word_of, words_of}
+use Rattle.version_words.specs.Rows.{column_at, column_of, end_of, has_option_of_lists, has_two_schemes, header_of, invalid_of, is_given, is_set, lacks_set, level_of, number_of, scheme_of, separator_of, word_of, words_of}
 use Rattle.version_words.specs.declared.named.Verb.{Verb}
 use Rattle.version_words.specs.declared.named.Verb.TheVariants.{Compare, Diff, Filter, Implies, Key, Meets, Newest, Next, Show, Sort, Test, Why}
 
@@ -50,6 +50,7 @@ pub record IsChoice (rows : List Row) (choice : Choice) : Type 0 where
 pub record AreLineOptions (command : Verb) (separator : Option ℕ) (rows : List Row)
     (options : LineOptions) : Type 0 where
   pub end_is : options.end ≡ end_of rows
+  pub header_is : options.header ≡ header_of rows
   pub place_is : IsPlace rows (column_of (codes "key") separator rows) options.place
   pub scheme_column_is : options.scheme_column ≡ column_of (codes "scheme-column") separator rows
   pub one_scheme : has_two_schemes rows ≡ false

@@ -2,7 +2,7 @@
 
 ghost use Rattle.std.specs.Prelude.{◌≡◌, ◌⊎◌, None, Some, codes, false, true, map, option_map, IfErr, IfOk, unwrap_or};
 ghost use Rattle.clap.specs.Words.{all_of, first_of, subcommand_rows_of};
-ghost use Rattle.version_words.specs.Rows.{column_at, column_of, end_of, has_option_of_lists, has_two_schemes, invalid_of, invalid_unasked, invalid_word, is_given, is_set, lacks_set, level_of, number_of, rows_in, scheme_of, separator_of, word_of, words_of};
+ghost use Rattle.version_words.specs.Rows.{column_at, column_of, end_of, has_option_of_lists, has_two_schemes, header_of, invalid_of, invalid_unasked, invalid_word, is_given, is_set, lacks_set, level_of, number_of, rows_in, scheme_of, separator_of, word_of, words_of};
 ghost use Rattle.version_words.specs.Words.{command_in, ComesOfWrong};
 
 use crate::faults::WordsFault;
@@ -91,6 +91,16 @@ pub fn end_of(options: &ArgMatches<'_>) -> u8
         0
     } else {
         b'\n'
+    }
+}
+
+/// Returns how many lines stay on top: so many, one, or none.
+pub fn header_of(options: &ArgMatches<'_>) -> usize
+    ensures { result ≡ header_of (rows_in options.now) }
+{
+    match number_of(options, "header-lines") {
+        Some(count) => count,
+        None => usize::from(is_set(options, "header")),
     }
 }
 

@@ -470,7 +470,7 @@ static NEXT: [Argument; 4] = [
 ];
 
 // What the commands take that answer with lines of their input, after their own arguments.
-static LINES: [Argument; 11] = [
+static LINES: [Argument; 13] = [
     Argument {
         form: Form::Text("FILE"),
         letter: None,
@@ -498,6 +498,18 @@ static LINES: [Argument; 11] = [
         letter: None,
         name: "match",
         help: "Leave out versions that are not in this set",
+    },
+    Argument {
+        form: Form::Flag,
+        letter: None,
+        name: "header",
+        help: "The first line stays on top, as it is",
+    },
+    Argument {
+        form: Form::Number,
+        letter: None,
+        name: "header-lines",
+        help: "So many lines stay on top",
     },
     ZERO_TERMINATED,
     CRLF,

@@ -10,9 +10,9 @@ ghost use Rattle.version_words.specs.Words.{command_in, ComesOfWrong, IsTaskIn, 
 use crate::faults::WordsFault;
 use crate::named::{Verb, operator_named, place_named};
 use crate::rows::{
-    column_at, column_of, command_in, end_of, has_option_of_lists, invalid_of, is_given, is_set,
-    lacks_set, level_of, number_of, scheme_column_of, scheme_of, separator_of, text_of, texts_of,
-    word_of, words_of,
+    column_at, column_of, command_in, end_of, has_option_of_lists, header_of, invalid_of, is_given,
+    is_set, lacks_set, level_of, number_of, scheme_column_of, scheme_of, separator_of, text_of,
+    texts_of, word_of, words_of,
 };
 use crate::wrong::{wrong, wrong_operator, wrong_place};
 use clap::ArgMatches;
@@ -115,6 +115,7 @@ fn line_options<'w>(
     let invalid = invalid_of(alloc, command, options)?;
     Ok(LineOptions {
         end: end_of(options),
+        header: header_of(options),
         place,
         scheme_column,
         choice: Choice {

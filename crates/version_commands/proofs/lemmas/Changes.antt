@@ -1,5 +1,5 @@
 -- Two lists that were read in turn, and what changed between them.
-use Rattle.std.proofs.Common.{◌≡◌, ℕ, zero, suc, arith, List, [], ◌∷◌, Option, map, refl, sym, subst, ap, ◌∙◌, Bor}
+use Rattle.std.proofs.Common.{◌+◌, ◌≡◌, ℕ, zero, suc, arith, List, [], ◌∷◌, Option, map, refl, sym, subst, ap, ◌∙◌, Bor}
 use Rattle.std.specs.List.{Contains}
 use Rattle.version_commands.specs.Cause.{ComesOfChanges, ComesOfEither, ComesOfOne}
 use Rattle.version_commands.specs.Fault.{ComesOfBad, ComesOfReading}
@@ -49,7 +49,7 @@ are-changes lists reads old between new first second before after output read is
 pub input-bad : (lists : Lists) (text input : List ℕ) (bad : BadLines)
     → input ≡ joined lists.end (text ∷ [])
     → AreBadOf (version_in (reads_of lists.place)) (lines_of lists.end input) bad
-    → (fault : Fault) → ComesOfBad lists.invalid lists.place.crlf bad fault
+    → (fault : Fault) → ComesOfBad lists.invalid lists.place.crlf 0 bad fault
     → ComesOfOne lists text fault
 input-bad lists text input bad whole are fault is = grind (arith, lines-bad)
 
@@ -67,12 +67,12 @@ input-good lists text input bad whole (same, before) none =
 pub changes-bad : (lists : Lists) (reads : Reading) (old between new : Option (List ℕ))
     (first second : List ℕ) (bad : BadLines) → IsInput reads old between lists.old.now first
     → IsInput reads between new lists.new.now second
-    → ((fault : Fault) → lists.invalid ≡ Fail → ComesOfBad lists.invalid lists.place.crlf bad fault
+    → ((fault : Fault) → lists.invalid ≡ Fail → ComesOfBad lists.invalid lists.place.crlf 0 bad fault
     → ComesOfEither lists first second fault)
-    → (fault : Fault) → ComesOfBad lists.invalid lists.place.crlf bad fault
+    → (fault : Fault) → ComesOfBad lists.invalid lists.place.crlf 0 bad fault
     → ComesOfChanges lists reads old fault
 changes-bad lists reads old between new first second bad one other of_either =
-    bad-cases (ComesOfChanges lists reads old) lists.invalid lists.place.crlf bad.before
+    bad-cases (ComesOfChanges lists reads old) lists.invalid lists.place.crlf (0 + bad.before)
     (map (λ (line : Bor (List ℕ)). line.now) bad.lines.items) tt
     (λ number text ends more is. (
       new,

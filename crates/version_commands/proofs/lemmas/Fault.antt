@@ -1,5 +1,5 @@
 -- What is written at a fault, and what it comes of.
-use Rattle.std.proofs.Common.{ℕ, Bool, Bor, List, String, Global, subst, arith}
+use Rattle.std.proofs.Common.{◌+◌, ℕ, Bool, Bor, List, String, Global, subst, arith}
 use Rattle.version_commands.specs.Fault.{ComesOfBad, ComesOfBadAfter, ComesOfLines, ComesOfReading}
 use Rattle.version_commands.specs.Picked.{bad_lines, AreBadOf, Versions}
 use Rattle.std.specs.List.{Contains}
@@ -10,12 +10,12 @@ use Rattle.version_commands.specs.declared.faults.Fault.{Fault}
 use Rattle.version_commands.specs.declared.faults.Fault.TheVariants.{NotVersion, NotRequirement, NotSet, NotTested, NotTestedSet, BadLine, NoNext, Memory, Read, Write}
 
 -- the faults of lines without a version, by the lines themselves
-pub lines-bad : (invalid : Invalid) (crlf : Bool) (at : Versions) (lines : List (List ℕ))
-    (bad : BadLines) → AreBadOf at lines bad → (fault : Fault) → ComesOfBad invalid crlf bad fault
-    → ComesOfLines invalid crlf at lines fault
-lines-bad invalid crlf at lines bad (same, before) fault is =
-    subst (λ (n : ℕ). ComesOfBadAfter invalid crlf n (bad_lines at lines) fault) before
-    (subst (λ (l : List (List ℕ)). ComesOfBadAfter invalid crlf bad.before l fault) same is)
+pub lines-bad : (invalid : Invalid) (crlf : Bool) (header : ℕ) (at : Versions) (lines : List (List ℕ))
+    (bad : BadLines) → AreBadOf at lines bad → (fault : Fault) → ComesOfBad invalid crlf header bad fault
+    → ComesOfLines invalid crlf header at lines fault
+lines-bad invalid crlf header at lines bad (same, before) fault is =
+    subst (λ (n : ℕ). ComesOfBadAfter invalid crlf (header + n) (bad_lines at lines) fault) before
+    (subst (λ (l : List (List ℕ)). ComesOfBadAfter invalid crlf (header + bad.before) l fault) same is)
 
 -- What follows from refused memory, and from what is reported of lines without a version, follows from
 -- each fault of such lines.

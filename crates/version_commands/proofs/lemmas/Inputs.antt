@@ -1,10 +1,11 @@
 -- Inputs that were read in turn.
-use Rattle.std.proofs.Common.{◌≡◌, ◌==◌, ◌<◌, ◌-◌, ◌||◌, ℕ, zero, suc, Bool, false, true, List, [], ◌∷◌, ◌++◌, length, get_or, map, Option, refl, sym, subst, ap, ◌∙◌, arith, append-nil}
+use Rattle.std.proofs.Common.{◌≡◌, ◌==◌, ◌<◌, ◌+◌, ◌-◌, ◌||◌, if◌then◌else◌, add-one, drop, ℕ, zero, suc, Bool, false, true, List, [], ◌∷◌, ◌++◌, length, get_or, map, Option, refl, sym, subst, ap, ◌∙◌, arith, append-nil}
 use Rattle.std.specs.List.{slice_get, Contains}
 use Rattle.std.specs.Option.{option_map_or}
+use Rattle.std.proofs.Math.Seq.{drop-cons}
 use Rattle.std.proofs.lemmas.Grind.{flat_map-append}
 use Rattle.std.proofs.lemmas.List.{get_or-map, length-map}
-use Rattle.version_commands.specs.Inputs.{ended, ends_line, is_standard, joined, reads_standard, AreInputs, IsInput, Reading}
+use Rattle.version_commands.specs.Inputs.{after_lines, ended, ends_line, is_standard, joined, reads_standard, AreInputs, IsInput, Reading}
 
 -- one more input was read after the others
 pub inputs-push : (reads : Reading) (old now new : Option (List ℕ))
@@ -57,3 +58,18 @@ none-standard f [] i d inside none = absurd (omega (arith, inside))
 none-standard f (name ∷ names) zero d inside none = (either-none _ _ none).0
 none-standard f (name ∷ names) (suc k) d inside none =
     none-standard f names k d (omega (arith, inside)) (either-none (is_standard (f name)) _ none).1
+
+-- one byte further, of which a line's end counts
+pub after-byte : (end left : ℕ) (input : List ℕ) (i : ℕ) → i < length input → 0 < left
+    → after_lines end left (drop i input)
+    ≡ (if get_or input i 0 == end
+    then after_lines end (left - 1) (drop (i + 1) input)
+    else after_lines end left (drop (i + 1) input))
+after-byte end zero input i inside some = absurd (omega (arith, some))
+after-byte end (suc more) input i inside some =
+    let less : suc more - 1 ≡ more = omega arith in
+    ap (after_lines end (suc more)) (drop-cons input i 0 inside) ∙ rw (less, add-one i) refl
+
+pub after-nothing : (end left : ℕ) → after_lines end left [] ≡ []
+after-nothing end zero = refl
+after-nothing end (suc more) = refl

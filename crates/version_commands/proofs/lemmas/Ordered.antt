@@ -5,7 +5,7 @@ use Rattle.version_commands.specs.Cause.{ComesOfArranged, ComesOfArranging}
 use Rattle.version_commands.specs.Choice.{is_kept, keeps_of}
 use Rattle.version_commands.specs.Fault.{ComesOfPut}
 use Rattle.version_commands.specs.Inputs.{joined, names_read, AreInputs, Reading}
-use Rattle.version_commands.specs.Ordered.{arranged_in, kept_in, kept_line, ordered_by, versions_by, IsArranged, IsOrdered, IsPlaced}
+use Rattle.version_commands.specs.Ordered.{arranged_in, body_of, head_of, kept_in, kept_line, ordered_by, versions_by, IsArranged, IsOrdered, IsPlaced}
 use Rattle.version_commands.specs.Picked.{Versions, bad_lines, has, kept_lines}
 use Rattle.version_commands.specs.Place.{reads_of}
 use Rattle.version_commands.specs.declared.choice.Chooser.{Chooser}
@@ -20,12 +20,12 @@ use Rattle.version_schemes.specs.any.Order.{PlainAny}
 use Rattle.version_schemes.specs.declared.scheme.Scheme.TheVariants.{Mixed}
 
 -- the lines without a version that were found, and those that stand in order, are those of the input
-pub is-arranged : (versions : Versions) (options : LineOptions) (input : List ℕ)
+pub is-arranged : (versions : Versions) (options : LineOptions) (head input : List ℕ)
     (bad rows lines : List (List ℕ)) (leaves : Option (List ℕ × List ℕ) → Type 0)
     (output : List ℕ) → bad ≡ bad_lines versions (lines_of options.end input) → rows ≡ lines
-    → (policy options ≡ Fail → bad ≡ []) → IsPlaced options bad rows leaves output
-    → IsArranged versions options input lines leaves output
-is-arranged versions options input bad rows lines leaves output none are good placed = grind arith
+    → (policy options ≡ Fail → bad ≡ []) → IsPlaced options head bad rows leaves output
+    → IsArranged versions options head input lines leaves output
+is-arranged versions options head input bad rows lines leaves output none are good placed = grind arith
 
 -- lines that are written as they are read are those that are kept
 written-at-once : (versions : Versions) (keeps : PlainAny → Bool) (end : ℕ)
@@ -43,7 +43,7 @@ pub at-once : (versions : Versions) (keeps : PlainAny → Bool) (options : LineO
     (input : List ℕ) (leaves : Option (List ℕ × List ℕ) → Type 0) → options.invalid ≡ Skip
     → options.invalid_to ≡ None → leaves None → (output : List ℕ)
     → output ≡ output_by options.end (kept_line versions keeps options.end) input
-    → IsArranged versions options input (kept_in versions keeps options input) leaves output
+    → IsArranged versions options [] input (kept_in versions keeps options input) leaves output
 at-once versions keeps options input leaves skips no_file left output is =
     grind (arith, written-at-once)
 
@@ -72,27 +72,29 @@ module _ (options : LineOptions) (chooser : Chooser) (arrangement : Arrangement)
 -- the end of a run whose inputs were read in turn, by how it ends with these
 module _ (arrangement : Arrangement) (options : LineOptions) (files : Reading)
     (old new : Option (List ℕ)) (leaves : Option (List ℕ × List ℕ) → Type 0) (keeps : PlainAny → Bool)
-    (texts : List (List ℕ)) (names : List (Bor (List ℕ))) (input : List ℕ)
+    (texts : List (List ℕ)) (names : List (Bor (List ℕ))) (input head body : List ℕ)
     (same : names ≡ options.files.items)
     (are : AreInputs files old new (names_read (map (λ name. name.now) names)) texts)
     (is : keeps_of options.place.scheme options.choice arrangement ≡ Some keeps)
-    (whole : input ≡ joined options.end texts) where
+    (whole : input ≡ joined options.end texts) (head_is : head ≡ head_of options input)
+    (body_is : body ≡ body_of options input) where
   read : AreInputs files old new (names_read (map (λ name. name.now) options.files.items)) texts
   read = subst (λ (n : List (Bor (List ℕ))).
       AreInputs files old new (names_read (map (λ name. name.now) n)) texts) same are
 
-  pub is-ordered : (output : List ℕ) → IsArranged (versions_by options.place options.scheme_column) options input
-      (ordered_by options.scheme_column keeps arrangement options input) leaves output
+  pub is-ordered : (output : List ℕ) → IsArranged (versions_by options.place options.scheme_column) options head
+      body (ordered_by options.scheme_column keeps arrangement options body) leaves output
       → IsOrdered arrangement options files old new leaves output
   is-ordered output arranged = grind (arith, read)
 
-  since-read : (fault : Fault) → ComesOfArranged options (versions_by options.place options.scheme_column) input fault
+  since-read : (fault : Fault) → ComesOfArranged options (versions_by options.place options.scheme_column) body fault
       → (end : Option (List ℕ)) × (given : List (List ℕ))
       × AreInputs files old end (names_read (map (λ name. name.now) options.files.items)) given
-      × ComesOfArranged options (versions_by options.place options.scheme_column) (joined options.end given) fault
+      × ComesOfArranged options (versions_by options.place options.scheme_column)
+      (body_of options (joined options.end given)) fault
   since-read fault comes = grind (arith, read)
 
-  pub ordered-faults : (fault : Fault) → ComesOfArranged options (versions_by options.place options.scheme_column) input fault
+  pub ordered-faults : (fault : Fault) → ComesOfArranged options (versions_by options.place options.scheme_column) body fault
       → ComesOfArranging arrangement options files old fault
   ordered-faults (NotVersion text) comes = since-read (NotVersion text) comes
   ordered-faults (NotRequirement text) comes = since-read (NotRequirement text) comes

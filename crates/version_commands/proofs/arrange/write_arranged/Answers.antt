@@ -1,4 +1,5 @@
-use Rattle.std.proofs.Common.{ℕ, List, refl, rules, sym, subst}
+use Rattle.std.proofs.Common.{◌≡◌, [], ℕ, List, refl, rules, sym, subst}
+use Rattle.std.proofs.lemmas.List.{nil_from_length}
 use Rattle.version_commands.specs.Cause.{ComesOfArranged}
 use Rattle.version_commands.specs.Choice.{is_kept}
 use Rattle.version_commands.specs.Files.{Leaves}
@@ -13,7 +14,7 @@ use Rattle.version_commands.proofs.arrange.write_arranged.Goals as goal
 pub returns-then-not-reverse : goal.returns-then-not-reverse
 returns-then-not-reverse g c =
     let options = c.args.options.now in
-    let input = c.args.input.now in
+    let input = c.args.input.now.body.now in
     let leaves = Leaves g.F.Files.puts c.args.files.now c.write_keyed.new.files in
     let whole = c.is_whole.ensures (search rules) in
     let text = sym whole in
@@ -23,9 +24,10 @@ returns-then-not-reverse g c =
     (c.keeps_all.ensures (search rules)) in
     record {
       ends = ends-weaker _ _ _ _ _ _ c.write_keyed.result
-          (λ output is. subst (λ (at : Reads). IsArranged (version_in at) options input lines leaves output)
+          (λ output is. subst (λ (at : Reads). IsArranged (version_in at) options c.args.input.now.head.now input lines leaves output)
           text (subst (λ (l : List (List ℕ)).
-          IsArranged (version_in (record { scheme = Mixed; text_of = λ line. line })) options input l leaves output) same is))
+          IsArranged (version_in (record { scheme = Mixed; text_of = λ line. line })) options c.args.input.now.head.now
+          input l leaves output) same is))
           (λ fault. subst (λ (at : Reads). ComesOfArranged options (version_in at) input fault) text)
           c.write_keyed.ensures.ends;
       files = c.write_keyed.ensures.files;
@@ -36,10 +38,11 @@ pub returns-then-leaves_others_out-clause-ends : goal.returns-then-leaves_others
 returns-then-leaves_others_out-clause-ends g c =
     let options = c.args.options.now in
     let (skips, no_file) = c.leaves_others_out.ensures (search rules) in
+    let none : c.args.input.now.head.now ≡ [] = nil_from_length _ (search rules) in
     ends-weaker _ _ _ _ _ _ c.write_at_once.result
-    (λ output is. rw c.in-Filter.is
-    (at-once (version_in (reads_of options.place)) (is_kept c.args.chooser.now) options c.args.input.now
+    (λ output is. rw (c.in-Filter.is, none)
+    (at-once (version_in (reads_of options.place)) (is_kept c.args.chooser.now) options c.args.input.now.body.now
     (Leaves g.F.Files.puts c.args.files.now c.args.files.now) skips no_file refl output is))
-    (λ fault memory. subst (ComesOfArranged options (version_in (reads_of options.place)) c.args.input.now)
+    (λ fault memory. subst (ComesOfArranged options (version_in (reads_of options.place)) c.args.input.now.body.now)
     (sym memory) tt)
     c.write_at_once.ensures

@@ -12,7 +12,7 @@ pub returns-clause-ends : goal.returns-clause-ends
 returns-clause-ends g c =
     let options = c.args.options.now in
     let reads = g.B.SortBy.reads c.args.by in
-    let lines = lines_of options.end c.args.input.now in
+    let lines = lines_of options.end c.args.input.now.body.now in
     let (kept, stays) = c.in_ok-bad.ensures.taken in
     let by = c.in_ok-kept.ensures.by in
     let rows = c.in_ok-arrange.ensures
@@ -21,7 +21,7 @@ returns-clause-ends g c =
     ∙ (λ i. arranged (g.B.SortBy.reads (by i)) (group_text options.place.crlf) c.args.arrangement
     (kept_lines (version_in (g.B.SortBy.reads (by i))) (g.C.Chooses.keeps c.args.chooser.now) lines)) in
     ends-weaker _ _ _ _ _ _ c.write_lines.result
-    (λ output. is-arranged (version_in reads) options c.args.input.now _ _ _ _ output
+    (λ output. is-arranged (version_in reads) options c.args.input.now.head.now c.args.input.now.body.now _ _ _ _ output
     (c.in_ok-bad.ensures.bad.0 ∙ (λ i. bad_lines (version_in (g.B.SortBy.reads (by i))) lines)) rows
     (λ fail. ap (map (λ (line : Bor (List ℕ)). line.now)) (c.in_ok-refuse_bad.ensures.none fail)))
-    (put-faults options (version_in reads) c.args.input.now) c.write_lines.ensures.ends
+    (put-faults options (version_in reads) c.args.input.now.body.now) c.write_lines.ensures.ends

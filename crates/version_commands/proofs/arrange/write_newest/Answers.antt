@@ -10,7 +10,7 @@ use Rattle.version_commands.proofs.arrange.write_newest.Goals as goal
 pub returns-clause-ends : goal.returns-clause-ends
 returns-clause-ends g c =
     let options = c.args.options.now in
-    let lines = lines_of options.end c.args.input.now in
+    let lines = lines_of options.end c.args.input.now.body.now in
     let (newest, stays) = c.in_ok-bad.ensures.taken in
     let by = c.new-newest.ensures.by in
     let rows = c.line.ensures _ newest
@@ -19,7 +19,7 @@ returns-clause-ends g c =
     ∙ (λ i. newest_alone (g.B.SortBy.reads (by i))
     (kept_lines (version_in (g.B.SortBy.reads (by i))) (g.C.Chooses.keeps c.args.chooser.now) lines)) in
     ends-weaker _ _ _ _ _ _ c.write_lines.result
-    (λ output. is-arranged (version_in (g.B.SortBy.reads c.args.by)) options c.args.input.now _ _ _ _ output
+    (λ output. is-arranged (version_in (g.B.SortBy.reads c.args.by)) options c.args.input.now.head.now c.args.input.now.body.now _ _ _ _ output
     (c.in_ok-bad.ensures.bad.0 ∙ (λ i. bad_lines (version_in (g.B.SortBy.reads (by i))) lines)) rows
     (λ fail. ap (map (λ (line : Bor (List ℕ)). line.now)) (c.in_ok-refuse_bad.ensures.none fail)))
-    (put-faults options (version_in (g.B.SortBy.reads c.args.by)) c.args.input.now) c.write_lines.ensures.ends
+    (put-faults options (version_in (g.B.SortBy.reads c.args.by)) c.args.input.now.body.now) c.write_lines.ensures.ends

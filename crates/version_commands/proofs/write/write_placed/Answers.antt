@@ -4,7 +4,6 @@ use Rattle.version_commands.proofs.write.write_placed.Goals as goal
 
 pub returns-clause-err : goal.returns-clause-err
 returns-clause-err g c =
-    let put = rw c.requires at c.in_ok-put_placed.ensures.ok in
     on_err_weaker c.write_whole.result
-    (λ part. AppendsProperBeginning-after _ _ _ c.put_placed.new.buffer.items _ put
+    (λ part. AppendsProperBeginning-after _ _ _ c.put_placed.new.buffer.items _ c.in_ok-put_placed.ensures.ok
     (rw c.as_slice.ensures.value at part)) c.write_whole.ensures.err
