@@ -20,6 +20,21 @@ pub fn with_tip(
     }
 }
 
+/// Takes from the text of a fault the tip to put an unknown option behind `--`, where it would be a file or a version.
+pub fn without_tip(alloc: Global, text: String) -> Result<String, AllocError> {
+    match beside_tip(text.as_str()) {
+        Some((before, after)) => format!(in alloc; "{before}\n\n{after}"),
+        None => Ok(text),
+    }
+}
+
+// Returns what stands before and behind that tip.
+fn beside_tip(text: &str) -> Option<(&str, &str)> {
+    let (before, tip) = text.split_once("\n\n  tip: to pass ")?;
+    let (_, after) = tip.split_once("\n\n")?;
+    Some((before, after))
+}
+
 /// Returns the first name that the word becomes if one letter is put in, left out or changed, or two beside each other
 /// change places.
 pub fn similar<'n>(

@@ -6,7 +6,7 @@ ghost use Rattle.version_words.specs.Words.{ComesOfWords, ComesOfWrong, IsMistak
 
 use crate::faults::WordsFault;
 use crate::grammar::program;
-use crate::near::{similar, with_tip};
+use crate::near::{similar, with_tip, without_tip};
 use crate::table::NAMES;
 use crate::task::task_of;
 use crate::wrong::MORE;
@@ -46,6 +46,7 @@ fn what_is_wrong(alloc: Global, kind: ErrorKind, words: &[String]) -> Result<Str
     let text = text_of(alloc, kind, words)?;
     match kind {
         ErrorKind::InvalidSubcommand => meant_command(alloc, text, words),
+        ErrorKind::UnknownArgument => without_tip(alloc, text),
         _ => Ok(text),
     }
 }
@@ -90,6 +91,9 @@ fn meant_command(alloc: Global, text: String, words: &[String]) -> Result<String
     let [word, ..] = words else {
         return Ok(text);
     };
-    let name = similar(alloc, word.as_str(), &NAMES)?;
+    let name = match word.as_str() {
+        "match" => Some("filter"),
+        word => similar(alloc, word, &NAMES)?,
+    };
     with_tip(alloc, text, "\n\nUsage:", "subcommand", name)
 }

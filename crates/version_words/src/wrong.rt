@@ -90,7 +90,11 @@ pub fn wrong_invalid(alloc: Global, command: Verb, word: &str) -> WordsFault
 pub fn wrong_separator(alloc: Global, word: &str) -> WordsFault
     ensures { ComesOfWrong ⊤ result }
 {
-    let argument = "'--field-separator <SEP>': it is one byte, \\t or \\0";
+    let argument = match word {
+        "" =>
+            "'--field-separator <SEP>': it is one byte, \\t or \\0; an equals sign is written -t '='",
+        _ => "'--field-separator <SEP>': it is one byte, \\t or \\0",
+    };
     fault_of(text_of_value(alloc, word, argument, None))
 }
 
