@@ -66,7 +66,7 @@ Commands:
   implies  Write yes, and end with 0, if all that is in a set is in another; else no and 1
   meets    Write yes, and end with 0, if two sets have something in common; else no and 1
   diff     Write where two versions differ first, or what changed between two lists of names
-  next     Write the version that comes next at a place
+  next     Write the version that comes next at a place, and what stands before it in a tag
 
 Options:
   -h, --help     Print help
@@ -85,6 +85,8 @@ Arguments:
   [VERSION]...  Versions; without any, or with - alone, the lines of standard input
 
 Options:
+      --tags             The version is that of a tag, such as v1.2.0 or tool-1.2.0
+      --prefix <P>       The version is what follows the prefix P
       --scheme <NAME>    Whose order it goes by; mixed unless it is given {SCHEMES}
   -z, --zero-terminated  Lines end with NUL, and not with a line feed
       --crlf             A carriage return at a line's end belongs to the end
@@ -159,6 +161,8 @@ VERSIONS = (
     Run("implies * ^1", "", "no\n", status=1),
     Run("meets ^1.2 '<1.1 || >=2'", "", "no\n", status=1),
     Run("next minor 1.2.5", "", "1.3.0\n"),
+    Run("next minor --tags v1.2.5 tool-2.0", "", "v1.3.0\ntool-2.1\n"),
+    Run("sort --header", "name of it\n1.10\n1.9\n", "name of it\n1.9\n1.10\n"),
     Run("test 1.10 gt 1.9"),
     Run("test 1.10 ^1.2"),
     Run("test --scheme deb 9 lt 1:0"),

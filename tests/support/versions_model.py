@@ -201,10 +201,20 @@ class Run:
         if "match" in self.options:
             rows = matching(rows, wanted, True)
         good = [line for group in self.by_scheme(rows) for line, _ in arrange(group)]
+        self.hints([text for text in texts if text is not None], default == "skip" and not good and lines)
         if "invalid-to" in self.options:
             self.written[self.options["invalid-to"]] = b"".join(line + self.end() for line in bad)
         kept = {"first": bad + good, "last": good + bad}.get(asked, good)
         return b"".join(line + self.end() for line in head + kept)
+
+    def hints(self, texts, left_out):
+        """What is told beside of versions that look like tags, and of lines of which none was kept."""
+        whole = not {"tags", "prefix", "scheme-column"} & {*self.options} and self.scheme == "mixed"
+        if texts and whole and all(re.match("[vV][0-9]", text) for text in texts):
+            self.error += b"versions: all versions begin with v: --tags compares what follows it\n"
+        if left_out:
+            returns = "crlf" not in self.options and left_out[0].endswith(b"\r")
+            self.error += b"versions: no line was kept" + (b": they end in carriage returns: --crlf" if returns else b"") + b"\n"
 
     def sort(self, *files):
         reverse = "reverse" in self.options

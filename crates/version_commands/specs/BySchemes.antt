@@ -1,39 +1,35 @@
 -- Lists with versions of many systems: a column of a line names its scheme.
-use Rattle.std.specs.Prelude.{◌==◌, ℕ, Bool, true, List, [], ◌∷◌, ◌++◌, Option, None, Some, if◌then◌else◌, option_and_then}
+use Rattle.std.specs.Prelude.{◌==◌, ℕ, Bool, false, true, List, [], ◌∷◌, ◌++◌, Option, None, Some, if◌then◌else◌, option_and_then}
 use Rattle.std.specs.List.{flat_map, list_any}
-use Rattle.std.specs.Str.{bytes_eq}
+use Rattle.std.specs.Option.{option_map_or}
 use Rattle.version_commands.specs.Arranged.{arranged}
 use Rattle.version_commands.specs.Picked.{Versions, kept_lines}
-use Rattle.version_commands.specs.Place.{column_text, group_text, line_text, text_of}
+use Rattle.version_commands.specs.Place.{group_text, reads_as}
 use Rattle.version_commands.specs.declared.options.Arrangement.{Arrangement}
 use Rattle.version_commands.specs.declared.options.VersionPlace.{VersionPlace}
-use Rattle.version_lines.specs.Sort.{Reads, version_in}
+use Rattle.version_lines.specs.Sort.{version_in}
 use Rattle.version_lines.specs.declared.column.Column.{Column}
-use Rattle.version_schemes.specs.Scheme.{scheme_name, scheme_named, scheme_number}
+use Rattle.version_schemes.specs.Scheme.{scheme_named, scheme_number}
 use Rattle.version_schemes.specs.declared.scheme.Scheme.{Scheme}
-
--- the name of a line's scheme: the text of a column
-abbrev pub name_in : VersionPlace → Column → List ℕ → List ℕ
-name_in place column line = column_text (Some column) (line_text place.crlf line)
 
 -- the scheme of a line, if its column names one
 abbrev pub scheme_in : VersionPlace → Column → List ℕ → Option Scheme
-scheme_in place column line = scheme_named (name_in place column line)
-
--- how the lines of a scheme are read
-abbrev pub reads_as : VersionPlace → Scheme → Reads
-reads_as place scheme = record { scheme = scheme; text_of = text_of place }
+scheme_in place column line = scheme_named (group_text place.crlf (Some column) line)
 
 -- the version of each line, by the scheme that its column names
 abbrev pub version_by : VersionPlace → Column → Versions
 version_by place column line =
     option_and_then (λ scheme. version_in (reads_as place scheme) line) (scheme_in place column line)
 
+-- whether the column of a line names this scheme
+abbrev pub is_named : VersionPlace → Column → Scheme → List ℕ → Bool
+is_named place column scheme line =
+    option_map_or (λ named. scheme_number named == scheme_number scheme) (scheme_in place column line) false
+
 -- the version of each line whose column names this scheme
 abbrev pub version_as : VersionPlace → Column → Scheme → Versions
 version_as place column scheme line =
-    if bytes_eq (name_in place column line) (scheme_name scheme) then version_in (reads_as place scheme) line
-    else None
+    if is_named place column scheme line then version_in (reads_as place scheme) line else None
 
 -- whether a scheme is one of these
 abbrev pub is_among : Scheme → List Scheme → Bool

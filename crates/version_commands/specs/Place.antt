@@ -11,6 +11,7 @@ use Rattle.version_commands.specs.declared.options.VersionPlace.{VersionPlace}
 use Rattle.version_lines.specs.Sort.{Reads}
 use Rattle.version_rules.specs.grammar.Versioning.{PlainVersioning, versioning_of}
 use Rattle.version_schemes.specs.any.Order.{PlainAny, any_of}
+use Rattle.version_schemes.specs.declared.scheme.Scheme.{Scheme}
 use Rattle.version_tasks.specs.Tag.{text_after_prefix, text_in_tag}
 
 -- a line without the carriage return that it may end in, if that belongs to its end
@@ -49,9 +50,13 @@ spelled_mixed naming text = versioning_of (named_text naming text)
 abbrev pub text_of : VersionPlace → List ℕ → List ℕ
 text_of place line = named_text place.naming (place_text place line)
 
--- how lines are read
+-- how lines are read, as those of a scheme
+abbrev pub reads_as : VersionPlace → Scheme → Reads
+reads_as place scheme = record { scheme = scheme; text_of = text_of place }
+
+-- the same as those of the scheme that is asked for
 abbrev pub reads_of : VersionPlace → Reads
-reads_of place = record { scheme = place.scheme; text_of = text_of place }
+reads_of place = reads_as place place.scheme
 
 -- the text that the lines of a group have in common: that of their column, and of all lines the
 -- empty one without a column

@@ -8,7 +8,7 @@ ghost use Rattle.version_commands.specs.Early.{IfOfWord, UnlessLate};
 ghost use Rattle.version_commands.specs.Ends.{Ends};
 ghost use Rattle.version_commands.specs.Files.{AltersAtMost, Leaves};
 ghost use Rattle.version_commands.specs.Inputs.{names_read, reads_standard};
-ghost use Rattle.version_commands.specs.Ordered.{bad_file, body_of, head_of, arranged_in, kept_in, kept_line, IsArranged, IsOrdered};
+ghost use Rattle.version_commands.specs.Ordered.{bad_file, body_of, head_of, arranged_in, kept_in, kept_line, ordered_by, versions_by, IsArranged, IsOrdered};
 ghost use Rattle.version_commands.specs.Place.{group_text, reads_of};
 ghost use Rattle.version_lines.specs.KeyedLines.{lines_in, AreRead};
 ghost use Rattle.version_lines.specs.Lines.{output_by, whole_line};
@@ -20,6 +20,7 @@ use crate::by_schemes::{LinesOfSchemes, arrange_by_schemes};
 use crate::choice::Chooser;
 use crate::faults::Fault;
 use crate::files::{Files, Stage};
+use crate::hint::tell_hints;
 use crate::inputs::{after_lines, read_inputs};
 use crate::options::{Arrangement, Choice, Invalid, LineOptions, VersionPlace};
 use crate::pick::{Chooses, EveryVersion, Takes, pick};
@@ -53,26 +54,51 @@ pub fn serve_lines<'w, F: Files, R: Read, W: Write>(
     let input = read_inputs(alloc, options.files.as_slice(), options.end, files, reader)?;
     tell(options, files, Stage::Read(input.len()));
     let input = split_head(options, input.as_slice());
+    let written = write_input(alloc, arrangement, options, &chooser, &input, files, writer);
+    if written.is_ok() {
+        tell_hints(&arrangement, options, &chooser, &input, files);
+    }
+    written
+}
+
+// Writes those of the lines of an input that the arrangement asks for: of each scheme, where a column names it.
+fn write_input<'w, F: Files, W: Write>(
+    alloc: Global,
+    arrangement: Arrangement<'_>,
+    options: &LineOptions<'w>,
+    chooser: &Chooser,
+    input: &Input<'_>,
+    files: &mut F,
+    writer: &mut W,
+) -> Result<(), Fault<'w>>
+    ensures ends { Ends (IsArranged (versions_by options.now.place options.now.scheme_column) options.now
+        input.now.head.now input.now.body.now (ordered_by options.now.scheme_column (is_kept chooser.now)
+        arrangement.entry options.now input.now.body.now) (Leaves F.puts files.old files.new))
+        (ComesOfArranged options.now (versions_by options.now.place options.now.scheme_column) input.now.body.now)
+        (W.contents writer.old) (W.contents writer.new) result }
+    ensures files { AltersAtMost F.alters (bad_file options.now) files.old files.new }
+    ensures kept { UnlessLate (files.new ≡ files.old) result }
+{
     match options.scheme_column {
         Some(column) => write_by_schemes(
             alloc,
             arrangement,
             options,
             column,
-            &chooser,
-            &input,
+            chooser,
+            input,
             files,
             writer,
         ),
-        None => write_arranged(alloc, arrangement, options, &chooser, &input, files, writer),
+        None => write_arranged(alloc, arrangement, options, chooser, input, files, writer),
     }
 }
 
-// An input: the lines that stay on top, and what follows them.
+/// An input: the lines that stay on top, and what follows them.
 #[derive(Clone, Copy)]
-struct Input<'a> {
-    head: &'a [u8],
-    body: &'a [u8],
+pub struct Input<'a> {
+    pub head: &'a [u8],
+    pub body: &'a [u8],
 }
 
 // Returns an input by its parts.

@@ -78,8 +78,8 @@ pub fn refuse_first<'w>(
     }
 }
 
-// Whether a line ends in a carriage return.
-fn ends_in_return(line: &[u8]) -> bool
+/// Whether a line ends in a carriage return.
+pub fn ends_in_return(line: &[u8]) -> bool
     ensures { result ≡ ends_in_return line.now }
 {
     !line.is_empty() && ends_line(b'\r', line)

@@ -2,7 +2,7 @@
 ghost use Rattle.std.specs.Prelude.{◌≡◌, ◌++◌, [], map, true, IfOk, OnOk};
 ghost use Rattle.std.specs.Option.{option_map};
 ghost use Rattle.version_commands.specs.Arranged.{is_reversed};
-ghost use Rattle.version_commands.specs.BySchemes.{arranged_as, arranged_by_schemes, is_among, name_in, scheme_in, schemes_after, version_as, version_by, with_scheme};
+ghost use Rattle.version_commands.specs.BySchemes.{arranged_as, arranged_by_schemes, is_among, scheme_in, schemes_after, version_as, version_by, with_scheme};
 ghost use Rattle.version_commands.specs.Picked.{kept_lines};
 ghost use Rattle.version_commands.specs.Place.{reads_of};
 ghost use Rattle.version_lines.specs.KeyedLines.{lines_in, AreRead};
@@ -169,22 +169,17 @@ fn lines_of_scheme<'w, 'a>(
 fn version_as<'a>(by: &ByVersion<'_>, column: Column, line: &'a [u8]) -> Option<AnyVersion<'a>>
     ensures { option_map plain_any result ≡ version_as by.now.place column by.now.place.scheme line.now }
 {
-    if name_in(&by.place, column, line) != by.place.scheme.name().as_bytes() {
-        return None;
+    let named = scheme_in(&by.place, column, line)?;
+    if named.number() == by.place.scheme.number() {
+        by.place.version(line)
+    } else {
+        None
     }
-    by.place.version(line)
 }
 
 // Returns the scheme of a line, if its column names one.
 fn scheme_in(place: &VersionPlace<'_>, column: Column, line: &[u8]) -> Option<Scheme>
     ensures { result ≡ scheme_in place.now column line.now }
 {
-    Scheme::of_name(name_in(place, column, line))
-}
-
-// Returns the name of a line's scheme: the text of a column.
-fn name_in<'a>(place: &VersionPlace<'_>, column: Column, line: &'a [u8]) -> &'a [u8]
-    ensures { result.now ≡ name_in place.now column line.now }
-{
-    column_text(Some(column), line_text(place.crlf, line))
+    Scheme::of_name(column_text(Some(column), line_text(place.crlf, line)))
 }

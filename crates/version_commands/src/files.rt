@@ -15,6 +15,18 @@ pub enum Stage {
     Ordered(usize),
 }
 
+/// What a run that did well tells beside: it may not have done what was meant.
+#[derive(Clone, Copy, Debug)]
+pub enum Hint {
+    /// Each version begins with a `v` and a digit, and was compared as a whole.
+    Tags,
+    /// The input has lines, and none was kept.
+    NothingKept {
+        /// Whether the first of them ends in a carriage return that was taken for a part of it.
+        has_returns: bool,
+    },
+}
+
 /// The files that a run may read and write by their names.
 pub trait Files {
     // Reading the file of this name may give these bytes, or none and fail.
@@ -41,6 +53,9 @@ pub trait Files {
 
     /// Tells how far the run is. Only `--progress` asks for it.
     fn tell(&self, stage: Stage);
+
+    /// Tells what may not have been meant.
+    fn hint(&self, hint: Hint);
 }
 
 /// No files: none can be read or written.
@@ -65,4 +80,6 @@ impl Files for NoFiles {
     }
 
     fn tell(&self, _stage: Stage) {}
+
+    fn hint(&self, _hint: Hint) {}
 }

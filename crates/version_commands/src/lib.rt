@@ -11,6 +11,7 @@ mod difference;
 mod each;
 mod faults;
 mod files;
+mod hint;
 mod inputs;
 mod json;
 mod key;
@@ -33,7 +34,7 @@ mod word;
 mod write;
 
 pub use faults::Fault;
-pub use files::{Files, NoFiles, Stage};
+pub use files::{Files, Hint, NoFiles, Stage};
 pub use options::{
     Arrangement, Choice, EachOptions, Invalid, Labels, LineOptions, Lists, Naming, Operator,
     Question, Spelling, Task, VersionPlace,

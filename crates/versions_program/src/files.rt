@@ -1,7 +1,7 @@
 //! The files of the system, as the program reads and writes them.
 
 use std::fs;
-use version_commands::{Files, Stage};
+use version_commands::{Files, Hint, Stage};
 use version_lines::{Trouble, read_onto, write_whole};
 
 /// The files of the system. What they hold is not known to any contract.
@@ -41,6 +41,22 @@ impl Files for SystemFiles<'_> {
             Stage::Read(bytes) => eprintln!(self.rt; "versions: {bytes} bytes read"),
             Stage::Kept(lines) => eprintln!(self.rt; "versions: {lines} lines kept"),
             Stage::Ordered(lines) => eprintln!(self.rt; "versions: {lines} lines in order"),
+        };
+    }
+
+    fn hint(&self, hint: Hint) {
+        let _ = match hint {
+            Hint::Tags => eprintln!(self.rt;
+                "versions: all versions begin with v: --tags compares what follows it"
+            ),
+            Hint::NothingKept { has_returns: false } => eprintln!(self.rt;
+                "versions: no line was kept"
+            ),
+            Hint::NothingKept { has_returns: true } => {
+                eprintln!(self.rt;
+                    "versions: no line was kept: they end in carriage returns: --crlf"
+                )
+            }
         };
     }
 }

@@ -1,9 +1,12 @@
 -- Lines of many schemes, one by one.
 use Rattle.std.proofs.Common.{◌≡◌, ◌<◌, ◌+◌, ℕ, Bool, true, List, [], ◌∷◌, ◌++◌, None, Some, length, drop, get_or, refl, sym, ap, ◌∙◌, add-one, append_assoc}
 use Rattle.std.proofs.Math.Seq.{drop-cons}
-use Rattle.version_commands.specs.BySchemes.{schemes_after, scheme_in, with_scheme}
+use Rattle.version_commands.specs.BySchemes.{is_named, schemes_after, scheme_in, version_as, with_scheme}
 use Rattle.version_commands.specs.Picked.{Versions, has, kept_lines}
 use Rattle.version_commands.specs.declared.options.VersionPlace.{VersionPlace}
+use Rattle.version_commands.specs.Place.{reads_as}
+use Rattle.version_lines.proofs.lemmas.Sorting.{by_test}
+use Rattle.version_lines.specs.Sort.{version_in}
 use Rattle.version_lines.specs.declared.column.Column.{Column}
 use Rattle.version_schemes.specs.any.Order.{PlainAny}
 use Rattle.version_schemes.specs.declared.scheme.Scheme.{Scheme}
@@ -15,6 +18,12 @@ pub schemes-next : (place : VersionPlace) (column : Column) (schemes : List Sche
     ≡ schemes_after place column (with_scheme schemes (scheme_in place column line)) (drop (i + 1) lines)
 schemes-next place column schemes lines i line inside same =
     ap (schemes_after place column schemes) (drop-cons lines i [] inside) ∙ rw (add-one i, same) refl
+
+-- a line whose column names a scheme is read as one of it
+pub as-read : (place : VersionPlace) (column : Column) (scheme : Scheme) (line : List ℕ) (v : PlainAny)
+    → version_as place column scheme line ≡ Some v → version_in (reads_as place scheme) line ≡ Some v
+as-read place column scheme line v is =
+    by_test (is_named place column scheme line) (λ yes. rw yes at is) (λ no. let never = rw no at is in cc never)
 
 -- lines that are kept, and those that are left from a place on
 module _ (versions : Versions) (keeps : PlainAny → Bool) (lines : List (List ℕ)) (i : ℕ) (line : List ℕ)

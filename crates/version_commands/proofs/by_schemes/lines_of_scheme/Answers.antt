@@ -2,7 +2,7 @@ use Rattle.std.proofs.Common.{◌≡◌, ◌<◌, List, [], Some, None, true, le
 use Rattle.std.proofs.lemmas.List.{get_or-map, length-map}
 use Rattle.std.specs.Option.{option_map}
 use Rattle.version_commands.specs.BySchemes.{version_as}
-use Rattle.version_commands.proofs.lemmas.BySchemes.{line-added, line-left}
+use Rattle.version_commands.proofs.lemmas.BySchemes.{as-read, line-added, line-left}
 use Rattle.version_commands.proofs.by_schemes.lines_of_scheme.Goals as goal
 use Rattle.version_commands.proofs.by_schemes.lines_of_scheme.Goals.{in-Some+in_ok-add, in_default}
 use Rattle.version_lines.specs.KeyedLines.{lines_in}
@@ -37,3 +37,12 @@ loop-line-preserved c =
             line-left versions (λ v. true) lines i line within same (lines_in c.loop-line.of_scheme) [] _ so_far none,
           )
     ]
+
+pub add-requires-clause-version : goal.add-requires-clause-version
+add-requires-clause-version c =
+    let (read, by, so_far) = c.loop-line.invariant in
+    let place = c.args.by.place in
+    let line = (get_or c.args.lines.now c.loop-line.line-index (record { ref_ptr = (0, 0); now = [] })).now in
+    let some : version_as place c.args.column place.scheme line ≡ Some (plain_any c.in-Some.version) =
+    sym c.version_as.ensures ∙ ap (option_map plain_any) c.in-Some.is in
+    rw by (as-read place c.args.column place.scheme line _ some)
