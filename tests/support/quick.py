@@ -76,7 +76,7 @@ def left_to_the_gate():
     """What the gate runs and this does not."""
     scripts = dict.fromkeys(re.findall(r"\btests/\w+\b(?!/)", (TOP / ".ci/run").read_text()))
     others = [name for name in scripts if name not in (*SCRIPTS, "tests/quick")]
-    return ["every proof, and the must-fail edits", *others, "the rows of vectors on great lengths", "bench_growth"]
+    return ["every proof, and the must-fail edits", *others, "the rows of vectors on great lengths"]
 
 
 class Cases:

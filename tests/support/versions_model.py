@@ -18,6 +18,7 @@ PLACES = ["major", "minor", "patch"]
 # A member of a set, as it stands there.
 MEMBER = re.compile(r"\*|[=!<>~^]+[ \t]*[^ \t,|]+")
 SHOWN = 60
+ORDINALS = "first second third fourth fifth sixth seventh eighth ninth tenth".split()
 
 SHORT = {"r": "reverse", "u": "unique", "k": "key", "t": "field-separator", "z": "zero-terminated", "n": "count"}
 SHORT.update(g="group", v="invert-match")
@@ -257,8 +258,15 @@ class Run:
     def each(self, words, answer):
         """The answers of the versions that words or lines name, each in lines: by the text and its version."""
         if words and words != ("-",):
-            given = [word.encode() for word in words]
-            found = [self.version(word) for word in words]
+            given, found = [], []
+            for word in words:
+                try:
+                    found.append(self.version(word))
+                    given.append(word.encode())
+                except Ended as ended:
+                    self.status, self.error = ended.status, self.error + b"versions: " + ended.text + b"\n"
+            if not found:
+                raise Ended(1, self.error.removeprefix(b"versions: ").removesuffix(b"\n"))
         else:
             lines = self.input([])
             given, texts = [self.column(line, None) for line in lines], self.texts(lines, None)
@@ -325,13 +333,11 @@ class Run:
     def compare(self, first, second):
         first, second = self.version(first), self.version(second)
         sign = "<=>"[versions.compare(first, second, scheme=self.scheme) + 1]
+        if self.scheme == "mixed" and not NAMING & {*self.options} and all(map(looks_like_a_tag, (first, second))):
+            self.error = b"versions: all versions begin with v: --tags compares what follows it\n"
         if "explain" not in self.options:
             return f"{sign}\n".encode()
-        found = first.difference(second)
-        if found.kind.name == "NONE":
-            same = str(first) == str(second)
-            found = "they are the same version" if same else "they differ only after the plus, which doesn't count"
-        return f"{sign} {found}\n".encode()
+        return f"{first} {sign} {second}: {explained(first, second, sign)}\n".encode()
 
     def diff(self, first, second):
         if "lists" in self.options:
@@ -427,6 +433,45 @@ def are_right(command, options):
         and not ("scheme-column" in options and ("scheme" in options or "match" in options))
         and (command != "diff" or "lists" in options or not {*options} - NAMING)
     )
+
+
+def looks_like_a_tag(one):
+    return re.match("[vV][0-9]", str(one))
+
+
+def explained(first, second, sign):
+    """Where two versions differ first, and what they have there."""
+    kind, part = first.difference(second).kind.name, first.difference(second).part
+    if kind == "NONE" and str(first) != str(second):
+        return "they differ only after the plus, which doesn't count"
+    said = {"NONE": "they are the same version", "TIE": "they compare equal, and are not the same version"}
+    if kind in said:
+        return said[kind]
+    place, both = "the epoch", [str(one).partition(":")[0] if one.epoch is not None else "nothing" for one in (first, second)]
+    if kind == "PART":
+        both = [pieces[part] if part < len(pieces) else "nothing" for pieces in map(parts_of, (first, second))]
+        noun = "number" if all(re.fullmatch("[0-9]+", it) for it in both) else "part"
+        place = f"the {ORDINALS[part]} {noun}" if part < len(ORDINALS) else f"{noun} {part + 1}"
+    if kind == "TAIL":
+        place, both = "what follows the parts", [*map(tail_of, (first, second))]
+    return f"{place}, {both[0]} {sign} {both[1]}"
+
+
+def behind_epoch(one):
+    return str(one).partition(":")[2] if one.epoch is not None else str(one)
+
+
+def parts_of(one):
+    return re.match("[0-9A-Za-z.]*", behind_epoch(one))[0].split(".")
+
+
+def tail_of(one):
+    """What counts behind the parts of a version."""
+    rest = behind_epoch(one)[len(".".join(parts_of(one))) :]
+    if one.kind == "complex":
+        return rest or "nothing"
+    text = rest.partition("+")[0].removeprefix("-")
+    return f"{'the pre-release' if one.kind == 'ideal' else 'the release'} {text}" if text else "nothing"
 
 
 def readable(text):

@@ -1,11 +1,11 @@
 -- Why a task fails: what each of its faults comes of. Refused memory and a writer that takes no more
 -- can end any task.
 use Rattle.std.proofs.Common.{Global, String}
-use Rattle.std.specs.Prelude.{◌≡◌, ◌⊎◌, ⊤, ℕ, List, [], ◌∷◌, codes, map, Option, Some, string_bytes}
+use Rattle.std.specs.Prelude.{◌≡◌, ◌⊎◌, ⊤, ℕ, false, List, [], ◌∷◌, ◌++◌, codes, map, Option, string_bytes}
 use Rattle.std.specs.Io.KnownBytes.{Consumes, IsAtEnd}
 use Rattle.version_commands.specs.Arranged.{policy}
 use Rattle.version_commands.specs.Choice.{wrong_set}
-use Rattle.version_commands.specs.Each.{AreTexts, IsFirstWithoutNext, reads_by, version_asked}
+use Rattle.version_commands.specs.Each.{has_version, AreTexts, IsFirstWithoutNext, reads_by}
 use Rattle.version_commands.specs.Fault.{first_wrong, ComesOfLines, ComesOfMatching, ComesOfPut, ComesOfReading, ComesOfSets, ComesOfStandard, ComesOfTestOfSet, ComesOfTestOfSets, ComesOfTestOfTwo, ComesOfWords}
 use Rattle.version_commands.specs.Inputs.{joined, names_read, AreInputs, Reading}
 use Rattle.version_commands.specs.Lists.{bad_lines_of, lines_of_list, names_of}
@@ -73,12 +73,12 @@ ComesOfAnswering question naming end texts other = (other ≡ fault.Memory)
     ⊎ ((text : String Global) × (other ≡ fault.NoNext text)
     × QuotesFirstWithoutNext question naming end texts (string_bytes text))
 
--- the faults of `show`, `key`, `why` and `next`: of a word that is no version, or without words of
+-- the faults of `show`, `key`, `why` and `next`: of the last word if none is a version, or without words of
 -- standard input or a line of it, of a version that none comes next to, or of the set of `why`
 abbrev pub ComesOfAsking : Question → EachOptions → Option (List ℕ) → Fault → Type 0
 ComesOfAsking question options old (fault.NotVersion text) =
-    first_wrong (version_asked question options.naming) (map (λ word. word.now) options.versions.items)
-    ≡ Some text.now
+    (has_version question options ≡ false) × (before : List (List ℕ))
+    × (map (λ word. word.now) options.versions.items ≡ before ++ text.now ∷ [])
 ComesOfAsking question options old (fault.BadLine number text ends more) =
     (options.versions.items ≡ []) × (new : Option (List ℕ)) × (input : List ℕ)
     × Consumes old new input × IsAtEnd new
@@ -87,7 +87,7 @@ ComesOfAsking question options old (fault.BadLine number text ends more) =
 ComesOfAsking question options old (fault.Read name) =
     (options.versions.items ≡ []) × (name.now ≡ codes "-")
 ComesOfAsking question options old (fault.NoNext text) =
-    (new : Option (List ℕ)) × (texts : List (List ℕ)) × AreTexts options old new texts
+    (new : Option (List ℕ)) × (texts : List (List ℕ)) × AreTexts question options old new texts
     × QuotesFirstWithoutNext question options.naming options.end texts (string_bytes text)
 ComesOfAsking question options old other = ComesOfQuestion question other
 

@@ -1,6 +1,7 @@
 -- What `show`, `key`, `why` and `next` write.
 use Rattle.std.proofs.Common.{Bor}
-use Rattle.std.specs.Prelude.{◌≡◌, ⊤, ℕ, Bool, true, List, [], ◌∷◌, ◌++◌, map, Option, None, Some, IsSomeAnd}
+use Rattle.std.specs.Prelude.{◌≡◌, ⊤, ℕ, Bool, true, List, [], ◌∷◌, ◌++◌, map, Option, None, Some, is_some, IsSomeAnd}
+use Rattle.std.specs.List.{filter, list_all, list_any}
 use Rattle.std.specs.Io.KnownBytes.{Consumes, IsAtEnd}
 use Rattle.version_commands.specs.Json.{json_line}
 use Rattle.version_commands.specs.Key.{key_line}
@@ -113,15 +114,32 @@ AreLineTexts options old new texts =
     (input : List ℕ) × Consumes old new input × IsAtEnd new
     × (texts ≡ map (line_text options.crlf) (lines_of options.end input))
 
--- those of the words; or without any those of the lines
-abbrev pub AreTextsOf : EachOptions → Option (List ℕ) → Option (List ℕ) → List (List ℕ)
-    → List (List ℕ) → Type 0
-AreTextsOf options old new texts [] = AreLineTexts options old new texts
-AreTextsOf options old new texts (word ∷ words) = (new ≡ old) × (texts ≡ word ∷ words)
+-- whether a text is a version to a question, those of some texts that are, and whether all words are
+abbrev pub is_version : Question → Naming → List ℕ → Bool
+is_version question naming text = is_some (version_asked question naming text)
 
-abbrev pub AreTexts : EachOptions → Option (List ℕ) → Option (List ℕ) → List (List ℕ) → Type 0
-AreTexts options old new texts =
-    AreTextsOf options old new texts (map (λ word. word.now) options.versions.items)
+abbrev pub versions_among : Question → Naming → List (List ℕ) → List (List ℕ)
+versions_among question naming = filter (is_version question naming)
+
+abbrev pub are_versions : Question → EachOptions → Bool
+are_versions question options =
+    list_all (λ word. is_version question options.naming word.now) options.versions.items
+
+-- whether any word is one
+abbrev pub has_version : Question → EachOptions → Bool
+has_version question options =
+    list_any (λ word. is_version question options.naming word.now) options.versions.items
+
+-- those of the words that are versions; or without any words those of the lines
+abbrev pub AreTextsOf : Question → EachOptions → Option (List ℕ) → Option (List ℕ) → List (List ℕ)
+    → List (List ℕ) → Type 0
+AreTextsOf question options old new texts [] = AreLineTexts options old new texts
+AreTextsOf question options old new texts (word ∷ words) =
+    (new ≡ old) × (texts ≡ versions_among question options.naming (word ∷ words))
+
+abbrev pub AreTexts : Question → EachOptions → Option (List ℕ) → Option (List ℕ) → List (List ℕ) → Type 0
+AreTexts question options old new texts =
+    AreTextsOf question options old new texts (map (λ word. word.now) options.versions.items)
 
 -- the whole output
 pub record IsAnswered (question : Question) (options : EachOptions) (old new : Option (List ℕ))
@@ -129,7 +147,7 @@ pub record IsAnswered (question : Question) (options : EachOptions) (old new : O
   pub texts : List (List ℕ)
   pub head : List ℕ
   pub answers : List ℕ
-  pub texts_are : AreTexts options old new texts
+  pub texts_are : AreTexts question options old new texts
   pub head_is : IsHead question options.end head
   pub answers_are : AreAnswered question options.naming options.end texts answers
   pub output_is : output ≡ head ++ answers

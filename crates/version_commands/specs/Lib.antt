@@ -8,6 +8,7 @@ pub mod Difference
 pub mod Each
 pub mod Early
 pub mod Ends
+pub mod Explain
 pub mod Fault
 pub mod Files
 pub mod Inputs

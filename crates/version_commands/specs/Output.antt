@@ -1,8 +1,9 @@
 -- What a task writes.
 use Rattle.std.specs.Prelude.{◌≡◌, ◌==◌, ℕ, Bool, false, true, List, [], ◌∷◌, length, map, Option, None, Some, string_bytes}
-use Rattle.version_commands.specs.Compare.{comparison_line, explained_line}
+use Rattle.version_commands.specs.Compare.{comparison_line}
 use Rattle.version_commands.specs.Difference.{difference_line}
-use Rattle.version_commands.specs.Each.{IsAnswered}
+use Rattle.version_commands.specs.Each.{are_versions, IsAnswered}
+use Rattle.version_commands.specs.Explain.{explained_line}
 use Rattle.version_commands.specs.Inputs.{joined, names_read, reads_standard, AreInputs, Reading}
 use Rattle.version_commands.specs.Label.{AreLabelled}
 use Rattle.version_commands.specs.Lists.{bad_lines_of, difference_text, names_of, rows_of}
@@ -45,12 +46,13 @@ abbrev pub IsLineOfSets : Scheme → (Bool → (List ℕ → Bool) → (List ℕ
 IsLineOfSets scheme Holds one other output =
     (yes : Bool) × AreSetsSo scheme (Holds yes) one other × (output ≡ answer_line yes)
 
--- whether a task answers yes: one that answers by its output alone does
+-- whether a task answers yes: one that answers by its output alone does, if no word that it asks was left out
 abbrev pub Answers : Task → Bool → Type 0
 Answers (task.TestTwo spelling a operator b) answer = answer_of_two spelling operator a.now b.now ≡ Some answer
 Answers (task.TestSet spelling version set) answer = answer_of_set spelling version.now set.now ≡ Some answer
 Answers (task.Implies scheme one other) answer = AreSetsSo scheme (IsPart answer) one.now other.now
 Answers (task.Meets scheme one other) answer = AreSetsSo scheme (Meet answer) one.now other.now
+Answers (task.Each question options) answer = answer ≡ are_versions question options
 Answers other answer = answer ≡ true
 
 -- What a task that ends well writes, by what its files give and what standard input had before and

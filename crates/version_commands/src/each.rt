@@ -4,7 +4,7 @@ ghost use Rattle.std.specs.Io.KnownBytes.{Consumes, IsAtEnd};
 ghost use Rattle.version_commands.specs.Cause.{ComesOfAnswering, ComesOfAsking, ComesOfQuestion};
 ghost use Rattle.version_commands.specs.declared.each.Answers.{Answers};
 ghost use Rattle.version_commands.specs.Early.{IfOfWord};
-ghost use Rattle.version_commands.specs.Each.{scheme_of, version_asked, AreAnswered, HasSet, HaveAnswered, IsAnswer, IsAnswered, IsHead};
+ghost use Rattle.version_commands.specs.Each.{has_version, scheme_of, version_asked, versions_among, AreAnswered, HasSet, HaveAnswered, IsAnswer, IsAnswered, IsHead};
 ghost use Rattle.version_commands.specs.Pieces.{Adds};
 ghost use Rattle.version_commands.specs.Place.{line_text};
 ghost use Rattle.version_lines.specs.Lines.{lines_of};
@@ -23,12 +23,13 @@ use crate::quote::quoted;
 use crate::set::{Set, room_of};
 use crate::show::add_show;
 use crate::why::{add_head, add_why};
-use crate::word::{set_of_word, version_of_word};
+use crate::word::set_of_word;
 use std::alloc::{AllocError, Global};
 use std::io::Read;
 use version_schemes::{AnyVersion, Scheme};
 
-/// Answers the question for each version: of the words, or without any of the lines of the reader.
+/// Answers the question for each version: of the words, or without any of the lines of the reader. Words that are none
+/// are left out beside one that is; a line that is none is a fault.
 pub fn answer_each<'w, R: Read>(
     alloc: Global,
     question: Question<'w>,
@@ -81,11 +82,11 @@ fn ask<'w>(alloc: Global, question: Question<'w>, end: u8) -> Result<Asked, Faul
     })
 }
 
-// Answers the question for each word. It fails with the first that is no version.
+// Answers the question for each word that is a version. It fails with the last word if none is.
 fn answer_words<'w>(
     alloc: Global,
     question: Question<'w>,
-    options: &EachOptions<'_>,
+    options: &EachOptions<'w>,
     words: &[&'w str],
     asked: Asked,
 ) -> Result<Vec<u8>, Fault<'w>>
@@ -93,9 +94,11 @@ fn answer_words<'w>(
     requires words { words.now ≡ options.now.versions.items }
     requires some { 0 < length words.now }
     ensures answers { IfOk result (λ output. Adds (AreAnswered question.entry options.now.naming options.now.end
-        (map (λ word. word.now) words.now)) asked.head.items output.items) }
+        (versions_among question.entry options.now.naming (map (λ word. word.now) words.now)))
+        asked.head.items output.items) }
     ensures faults { (old : Option (List ℕ)) → IfErr result (ComesOfAsking question.entry options.now old) }
 {
+    refuse_none(question, options)?;
     let mut answers = Answers {
         alloc,
         question,
@@ -112,10 +115,35 @@ fn answer_words<'w>(
         scheme: question.scheme(),
     };
     for word in words {
-        let version = version_of_word(&spelling, word)?;
-        answers.add(word.as_bytes(), &version)?;
+        if let Some(version) = spelling.version(word.as_bytes()) {
+            answers.add(word.as_bytes(), &version)?;
+        }
     }
     answers.finish()
+}
+
+// Fails with the last word if none is a version.
+fn refuse_none<'w>(question: Question<'_>, options: &EachOptions<'w>) -> Result<(), Fault<'w>>
+    ensures { (old : Option (List ℕ)) → IfErr result (ComesOfAsking question.entry options.now old) }
+{
+    match options.versions.as_slice() {
+        [_before @ .., last] if !has_version(&question, options) => Err(Fault::NotVersion(last)),
+        _ => Ok(()),
+    }
+}
+
+// Whether any of the words is a version.
+fn has_version(question: &Question<'_>, options: &EachOptions<'_>) -> bool
+    ensures { result ≡ has_version question.now options.now }
+{
+    let spelling = Spelling {
+        naming: options.naming,
+        scheme: question.scheme(),
+    };
+    options
+        .versions
+        .iter()
+        .any(|word| spelling.version(word.as_bytes()).is_some())
 }
 
 // Answers the question for each line. It fails with the first that is no version.
@@ -274,8 +302,8 @@ fn add_answer(
 }
 
 impl Question<'_> {
-    // Returns the scheme by which it reads versions.
-    fn scheme(self) -> Scheme
+    /// Returns the scheme by which it reads versions.
+    pub fn scheme(self) -> Scheme
         ensures { result ≡ scheme_of self.entry }
     {
         match self {

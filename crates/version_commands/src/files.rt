@@ -15,9 +15,13 @@ pub enum Stage {
     Ordered(usize),
 }
 
-/// What a run that did well tells beside: it may not have done what was meant.
+/// What a run tells beside: it may not have done what was meant.
 #[derive(Clone, Copy, Debug)]
-pub enum Hint {
+pub enum Hint<'w> {
+    /// This word is no version, and was left out.
+    NotVersion(&'w str),
+    /// This word of `filter` is a version, and there is no file of that name.
+    NoFile(&'w str),
     /// Each version begins with a `v` and a digit, and was compared as a whole.
     Tags,
     /// The input has lines, and none was kept.
@@ -55,7 +59,7 @@ pub trait Files {
     fn tell(&self, stage: Stage);
 
     /// Tells what may not have been meant.
-    fn hint(&self, hint: Hint);
+    fn hint(&self, hint: Hint<'_>);
 }
 
 /// No files: none can be read or written.
@@ -81,5 +85,5 @@ impl Files for NoFiles {
 
     fn tell(&self, _stage: Stage) {}
 
-    fn hint(&self, _hint: Hint) {}
+    fn hint(&self, _hint: Hint<'_>) {}
 }

@@ -1,12 +1,18 @@
-//! What a run that did well tells beside: it may not have done what was meant.
+//! What a run tells beside: it may not have done what was meant.
+
+ghost use Rattle.std.specs.Prelude.{◌≡◌};
+ghost use Rattle.version_commands.specs.Each.{are_versions};
 
 use crate::arrange::Input;
 use crate::bad::ends_in_return;
 use crate::choice::Chooser;
+use crate::faults::Fault;
 use crate::files::{Files, Hint};
-use crate::options::{Arrangement, LineOptions, Naming, VersionPlace};
+use crate::options::{
+    Arrangement, EachOptions, LineOptions, Naming, Question, Spelling, VersionPlace,
+};
 use version_lines::split_line;
-use version_schemes::Scheme;
+use version_schemes::{AnyVersion, Scheme};
 
 /// Tells where all versions look like tags and were compared as a whole, and where no line was kept by `filter`.
 pub fn tell_hints<F: Files>(
@@ -30,7 +36,7 @@ pub fn tell_hints<F: Files>(
 
 // Whether there are versions in the lines, and each begins with a `v` that nothing was asked to cut off.
 fn look_like_tags(place: &VersionPlace<'_>, end: u8, input: &[u8]) -> bool {
-    if !matches!((place.naming, place.scheme), (Naming::Bare, Scheme::Mixed)) {
+    if !is_whole(place.naming, place.scheme) {
         return false;
     }
     let mut found = false;
@@ -46,6 +52,88 @@ fn look_like_tags(place: &VersionPlace<'_>, end: u8, input: &[u8]) -> bool {
         rest = after;
     }
     found
+}
+
+/// Tells where both of two versions look like tags and were compared as a whole.
+pub fn tell_of_two<F: Files>(
+    naming: Naming<'_>,
+    scheme: Scheme,
+    first: &str,
+    second: &str,
+    files: &F,
+) {
+    if is_whole(naming, scheme)
+        && begins_with_v(first.as_bytes())
+        && begins_with_v(second.as_bytes())
+    {
+        files.hint(Hint::Tags);
+    }
+}
+
+/// Tells where `filter` was given a version in the place of a file, as `test` takes it.
+pub fn tell_of_fault<F: Files>(
+    arrangement: &Arrangement<'_>,
+    place: &VersionPlace<'_>,
+    served: &Result<(), Fault<'_>>,
+    files: &F,
+) {
+    if let (Arrangement::Filter { .. }, Err(Fault::Read(name))) = (arrangement, served) {
+        if AnyVersion::read(place.scheme, name.as_bytes()).is_some() {
+            files.hint(Hint::NoFile(name));
+        }
+    }
+}
+
+/// Tells which words are no versions, and returns whether all are.
+pub fn tell_of_words<F: Files>(
+    question: &Question<'_>,
+    options: &EachOptions<'_>,
+    files: &F,
+) -> bool
+    ensures { result ≡ are_versions question.now options.now }
+{
+    let spelling = Spelling {
+        naming: options.naming,
+        scheme: question.scheme(),
+    };
+    let all = options
+        .versions
+        .iter()
+        .all(|word| spelling.version(word.as_bytes()).is_some());
+    if !all {
+        tell_others(&spelling, options.versions.as_slice(), files);
+    }
+    all
+}
+
+/// Tells which words but the last are no versions, if that one is the fault.
+pub fn tell_before_last<F: Files>(
+    question: &Question<'_>,
+    options: &EachOptions<'_>,
+    answered: &Result<Vec<u8>, Fault<'_>>,
+    files: &F,
+) {
+    if let (Err(Fault::NotVersion(_)), [before @ .., _]) = (answered, options.versions.as_slice()) {
+        let spelling = Spelling {
+            naming: options.naming,
+            scheme: question.scheme(),
+        };
+        tell_others(&spelling, before, files);
+    }
+}
+
+// Tells which words are no versions.
+fn tell_others<F: Files>(spelling: &Spelling<'_>, words: &[&str], files: &F) {
+    for word in words {
+        if spelling.version(word.as_bytes()).is_none() {
+            files.hint(Hint::NotVersion(word));
+        }
+    }
+}
+
+// Whether a text is compared as a whole, by mixed.
+fn is_whole(naming: Naming<'_>, scheme: Scheme) -> bool {
+    matches!((naming, scheme), (Naming::Bare, Scheme::Mixed))
 }
 
 // Whether a text begins with a `v` and a digit.

@@ -9,6 +9,7 @@ mod choice;
 mod compare;
 mod difference;
 mod each;
+mod explain;
 mod faults;
 mod files;
 mod hint;

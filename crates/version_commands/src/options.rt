@@ -113,7 +113,7 @@ pub enum Question<'w> {
     Next(usize),
 }
 
-/// Which versions are asked: those of the words, or without any those of the lines of standard input.
+/// Which versions are asked: the words that are versions, or without any word the lines of standard input.
 #[derive(Debug, Drop)]
 pub struct EachOptions<'w> {
     pub versions: Vec<&'w str>,

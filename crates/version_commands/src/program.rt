@@ -1,7 +1,8 @@
 //! What a task does over any files, reader and writer.
 ghost use Rattle.std.specs.Prelude.{◌≡◌, ◌∷◌, [], false, true, IfErr, IfOk};
 ghost use Rattle.version_commands.specs.Cause.{ComesOf, ComesOfChanges};
-ghost use Rattle.version_commands.specs.Compare.{comparison_line, explained_line};
+ghost use Rattle.version_commands.specs.Compare.{comparison_line};
+ghost use Rattle.version_commands.specs.Explain.{explained_line};
 ghost use Rattle.version_commands.specs.Difference.{difference_line};
 ghost use Rattle.version_commands.specs.Early.{IfOfWord, UnlessLate};
 ghost use Rattle.version_commands.specs.Ends.{Ends};
@@ -16,11 +17,13 @@ ghost use Rattle.version_lines.specs.Lines.{line_feed};
 
 use crate::arrange::serve_lines;
 use crate::bad::refuse_if;
-use crate::compare::{add_explained, sign_line};
+use crate::compare::sign_line;
 use crate::difference::add_difference;
 use crate::each::answer_each;
+use crate::explain::add_explained;
 use crate::faults::Fault;
 use crate::files::Files;
+use crate::hint::{tell_before_last, tell_of_fault, tell_of_two, tell_of_words};
 use crate::inputs::read_inputs;
 use crate::label::write_labels;
 use crate::lists::{add_lists, read_names};
@@ -31,6 +34,7 @@ use crate::word::{mixed_of_word, version_of_word};
 use crate::write::write_answer;
 use std::alloc::Global;
 use std::io::{Read, Write};
+use version_schemes::Scheme;
 
 /// Does a task, and returns whether it answers yes: one that answers by its output alone does. What it writes is
 /// `IsOutput` of the task and of what its files and the reader hold, and a fault `ComesOf` the same. At a fault the writer got nothing, or a proper beginning if it takes no more. A task that doesn't
@@ -55,12 +59,16 @@ pub fn serve<'w, F: Files, R: Read, W: Write>(
 {
     match task {
         Task::Lines(arrangement, options) => {
-            serve_lines(alloc, *arrangement, options, files, reader, writer)?;
+            let served = serve_lines(alloc, *arrangement, options, files, reader, writer);
+            tell_of_fault(arrangement, &options.place, &served, files);
+            served?;
             Ok(true)
         }
         Task::Each(question, options) => {
-            let output = answer_each(alloc, *question, options, reader)?;
-            write_text(writer, output.as_slice())
+            let answered = answer_each(alloc, *question, options, reader);
+            tell_before_last(question, options, &answered, files);
+            write_answer(writer, answered?.as_slice())?;
+            Ok(tell_of_words(question, options, files))
         }
         Task::TestTwo(spelling, first, operator, second) => {
             test_two(spelling, first, *operator, second)
@@ -73,11 +81,15 @@ pub fn serve<'w, F: Files, R: Read, W: Write>(
             write_yes_or_no(writer, meets(alloc, *scheme, one, other)?)
         }
         Task::Compare(spelling, first, second) => {
-            write_text(writer, comparison(spelling, first, second)?)
+            write_answer(writer, comparison(spelling, first, second)?)?;
+            tell_of_two(spelling.naming, spelling.scheme, first, second, files);
+            Ok(true)
         }
         Task::Explain(naming, first, second) => {
             let output = explanation(alloc, naming, first, second)?;
-            write_text(writer, output.as_slice())
+            write_answer(writer, output.as_slice())?;
+            tell_of_two(*naming, Scheme::Mixed, first, second, files);
+            Ok(true)
         }
         Task::Difference(naming, first, second) => {
             let output = difference(alloc, naming, first, second)?;

@@ -153,7 +153,7 @@ pub fn entry_of(command: Verb) -> Entry
             usage: None,
             example: "Example:
   $ versions compare --explain 1.10 1.9
-  > they differ first in part 1",
+  1.10 > 1.9: the second number, 10 > 9",
             own: &COMPARE,
             shared: &NOTHING,
         },
@@ -394,7 +394,7 @@ static COMPARE: [Argument; 6] = [
         form: Form::Flag,
         letter: None,
         name: "explain",
-        help: "Write in which part they differ first",
+        help: "Write where they differ first, and what they have there",
     },
     TAGS,
     PREFIX,

@@ -1,7 +1,7 @@
 //! The files of the system, as the program reads and writes them.
 
 use std::fs;
-use version_commands::{Files, Hint, Stage};
+use version_commands::{Files, Hint, Shown, Stage};
 use version_lines::{Trouble, read_onto, write_whole};
 
 /// The files of the system. What they hold is not known to any contract.
@@ -44,8 +44,20 @@ impl Files for SystemFiles<'_> {
         };
     }
 
-    fn hint(&self, hint: Hint) {
+    fn hint(&self, hint: Hint<'_>) {
         let _ = match hint {
+            Hint::NotVersion(word) => {
+                let shown = Shown {
+                    text: word.as_bytes(),
+                };
+                eprintln!(self.rt; "versions: not a version: {shown}")
+            }
+            Hint::NoFile(word) => {
+                let shown = Shown {
+                    text: word.as_bytes(),
+                };
+                eprintln!(self.rt; "versions: {shown} is a version: versions test {shown} SET")
+            }
             Hint::Tags => eprintln!(self.rt;
                 "versions: all versions begin with v: --tags compares what follows it"
             ),

@@ -1,10 +1,11 @@
 -- Answers that follow one another, and the texts that are asked.
-use Rattle.std.proofs.Common.{◌≡◌, ◌<◌, ℕ, true, false, Bor, List, [], ◌∷◌, ◌++◌, ◌+◌, drop, get_or, length, map, Option, None, Some, is_some, inl, inr, refl, sym, subst, ap, ◌∙◌, arith, append-nil, append_assoc}
-use Rattle.std.proofs.lemmas.List.{drop_more}
+use Rattle.std.proofs.Common.{◌≡◌, ◌<◌, ℕ, true, false, Bor, List, [], ◌∷◌, ◌++◌, ◌+◌, ◌-◌, ◌≤◌, get_or, length, map, take, Option, None, Some, is_some, inl, inr, refl, sym, subst, ap, ◌∙◌, arith, append-nil, append_assoc}
+use Rattle.std.proofs.lemmas.List.{take_all}
+use Rattle.std.proofs.lemmas.List.Elements.{filter-append}
+use Rattle.version_commands.proofs.lemmas.Pieces.{texts-next}
 use Rattle.std.specs.Io.KnownBytes.{Consumes, IsAtEnd}
 use Rattle.version_commands.specs.Cause.{ComesOfAnswering, ComesOfAsking}
-use Rattle.version_commands.specs.Each.{AnsweredOr, AreAnswered, AreTexts, AreTextsOf, HasNoNext, HaveAnswered, IsAnswer, version_asked}
-use Rattle.version_commands.specs.Fault.{first_wrong}
+use Rattle.version_commands.specs.Each.{AnsweredOr, AreAnswered, AreTexts, AreTextsOf, HasNoNext, HasSet, HaveAnswered, IsAnswer, is_version, version_asked, versions_among}
 use Rattle.version_commands.specs.Pieces.{Adds}
 use Rattle.version_commands.specs.Place.{line_text}
 use Rattle.version_commands.specs.declared.each.Answers.{Answers}
@@ -94,38 +95,61 @@ pub have-still : (first now : Answers) (texts : List (List ℕ)) (text : List �
 have-still first now texts text have some = grind (arith, still-unanswered)
 
 -- the texts that are asked are those of the words, if there are any
-pub word-texts : (options : EachOptions) (old : Option (List ℕ)) (words : List (Bor (List ℕ)))
-    → words ≡ options.versions.items → 0 < length words
-    → AreTexts options old old (map (λ word. word.now) words)
-word-texts options old [] same some = absurd (omega (arith, some))
-word-texts options old (word ∷ words) same some =
+pub word-texts : (question : Question) (options : EachOptions) (old : Option (List ℕ))
+    (words : List (Bor (List ℕ))) → words ≡ options.versions.items → 0 < length words
+    → AreTexts question options old old (versions_among question options.naming (map (λ word. word.now) words))
+word-texts question options old [] same some = absurd (omega (arith, some))
+word-texts question options old (word ∷ words) same some =
     subst (λ (w : List (Bor (List ℕ))).
-    AreTextsOf options old old (map (λ t. t.now) (word ∷ words)) (map (λ t. t.now) w))
+    AreTextsOf question options old old
+    (versions_among question options.naming (map (λ t. t.now) (word ∷ words))) (map (λ t. t.now) w))
     same (refl, refl)
 
--- the first of some words that is none, from a place on
-pub wrong-next : (read : List ℕ → Option PlainAny) (words : List (Bor (List ℕ))) (i : ℕ) (d : Bor (List ℕ))
-    (v : PlainAny) → i < length words → read (get_or words i d).now ≡ Some v
-    → first_wrong read (map (λ word. word.now) (drop i words))
-    ≡ first_wrong read (map (λ word. word.now) (drop (i + 1) words))
-wrong-next read words i d v inside some = grind (arith, drop_more)
+-- one word more is among them if it is a version
+pub among-next : (question : Question) (naming : Naming) (words : List (Bor (List ℕ))) (i : ℕ) (d : Bor (List ℕ))
+    → i < length words → is_version question naming (get_or words i d).now ≡ true
+    → versions_among question naming (map (λ word. word.now) (take (i + 1) words))
+    ≡ versions_among question naming (map (λ word. word.now) (take i words)) ++ (get_or words i d).now ∷ []
+among-next question naming words i d inside is =
+    ap (versions_among question naming) (texts-next (λ (word : Bor (List ℕ)). word.now) words i d inside)
+    ∙ filter-append (is_version question naming) (map (λ word. word.now) (take i words)) ((get_or words i d).now ∷ [])
+    ∙ rw is refl
 
-pub wrong-here : (read : List ℕ → Option PlainAny) (words : List (Bor (List ℕ))) (i : ℕ) (d : Bor (List ℕ))
-    → i < length words → read (get_or words i d).now ≡ None
-    → first_wrong read (map (λ word. word.now) (drop i words)) ≡ Some (get_or words i d).now
-wrong-here read words i d inside none = grind (arith, drop_more)
+pub among-still : (question : Question) (naming : Naming) (words : List (Bor (List ℕ))) (i : ℕ) (d : Bor (List ℕ))
+    → i < length words → is_version question naming (get_or words i d).now ≡ false
+    → versions_among question naming (map (λ word. word.now) (take (i + 1) words))
+    ≡ versions_among question naming (map (λ word. word.now) (take i words))
+among-still question naming words i d inside isnt =
+    ap (versions_among question naming) (texts-next (λ (word : Bor (List ℕ)). word.now) words i d inside)
+    ∙ filter-append (is_version question naming) (map (λ word. word.now) (take i words)) ((get_or words i d).now ∷ [])
+    ∙ rw isnt (append-nil (versions_among question naming (map (λ word. word.now) (take i words))))
 
 -- and else those of the lines
-pub line-texts : (options : EachOptions) (old new : Option (List ℕ)) (input : List ℕ)
+pub line-texts : (question : Question) (options : EachOptions) (old new : Option (List ℕ)) (input : List ℕ)
     → options.versions.items ≡ [] → Consumes old new input → IsAtEnd new
-    → AreTexts options old new (map (line_text options.crlf) (lines_of options.end input))
-line-texts options old new input none read end = grind arith
+    → AreTexts question options old new (map (line_text options.crlf) (lines_of options.end input))
+line-texts question options old new input none read end = grind arith
 
 -- the faults of answering to the texts that are asked
 pub asking-answering : (question : Question) (options : EachOptions) (old new : Option (List ℕ))
-    (texts : List (List ℕ)) → AreTexts options old new texts → (fault : Fault)
+    (texts : List (List ℕ)) → AreTexts question options old new texts → (fault : Fault)
     → ComesOfAnswering question options.naming options.end texts fault → ComesOfAsking question options old fault
 asking-answering question options old new texts are fault (inl memory) =
     subst (ComesOfAsking question options old) (sym memory) tt
 asking-answering question options old new texts are fault (inr (text, is, quotes)) =
     subst (ComesOfAsking question options old) (sym is) (new, texts, are, quotes)
+
+-- the answers so far, by another name
+pub still-held : (first now after : Answers) (texts : List (List ℕ)) → after ≡ now → HasSet now.question now.set
+    → HaveAnswered first now texts → HasSet after.question after.set × HaveAnswered first after texts
+still-held first now after texts same set have =
+    subst (λ (a : Answers). HasSet a.question a.set × HaveAnswered first a texts) (sym same) (set, have)
+
+-- the last word apart
+pub last-apart : (words : List (Bor (List ℕ))) (d : Bor (List ℕ)) → 1 ≤ length words
+    → map (λ word. word.now) words
+    ≡ map (λ word. word.now) (take (length words - 1) words) ++ (get_or words (length words - 1) d).now ∷ []
+last-apart words d some =
+    let all : take (length words - 1 + 1) words ≡ words = take_all (length words - 1 + 1) words (omega (arith, some)) in
+    ap (map (λ (word : Bor (List ℕ)). word.now)) (sym all)
+    ∙ texts-next (λ (word : Bor (List ℕ)). word.now) words (length words - 1) d (omega (arith, some))

@@ -13,7 +13,7 @@ returns-in_ok-input-clause-output g c =
       texts = _;
       head = c.in_ok-asked.asked.head.items;
       answers = answers;
-      texts_are = line-texts options _ _ c.as_slice.result.now (nil_from_length _ nothing)
+      texts_are = line-texts c.args.question options _ _ c.as_slice.result.now (nil_from_length _ nothing)
           (search rules) c.in_ok-input.ensures.end;
       head_is = c.in_ok-asked.ensures.head;
       answers_are = are;
@@ -33,7 +33,7 @@ returns-else-is_empty-clause-output g c =
       texts = _;
       head = c.in_ok-asked.asked.head.items;
       answers = answers;
-      texts_are = word-texts options _ c.as_slice-else-is_empty.result.now (search rules) (search rules);
+      texts_are = word-texts c.args.question options _ c.as_slice-else-is_empty.result.now (search rules) (search rules);
       head_is = c.in_ok-asked.ensures.head;
       answers_are = are;
       output_is = whole;

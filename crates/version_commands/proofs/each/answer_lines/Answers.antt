@@ -30,5 +30,5 @@ returns-clause-faults c = λ old new read end.
     IfErr-weaker c.finish.result _ _
     (λ fault comes. asking-answering c.args.question options old new
     (map (line_text options.crlf) lines)
-    (line-texts options old new c.args.input.now c.requires.words read end) fault (comes _ _ have))
+    (line-texts c.args.question options old new c.args.input.now c.requires.words read end) fault (comes _ _ have))
     c.finish.ensures.faults

@@ -1,7 +1,7 @@
 //! The calls that are timed. All results are checked, so that no call can be optimized away; a wrong result is an error.
 
-use crate::checks::holds;
-use crate::watch::Watch;
+use super::checks::holds;
+use super::watch::Watch;
 use std::hash::{DefaultHasher, Hash, Hasher};
 use std::io;
 use std::io::ErrorKind;

@@ -1,7 +1,7 @@
 //! What is checked of a text and isn't timed. A wrong result is an error.
 
-use crate::calls::{hash_of, on_owned};
-use crate::watch::Watch;
+use super::calls::{hash_of, on_owned};
+use super::watch::Watch;
 use std::fmt::{self, Write};
 use std::io;
 use std::io::ErrorKind;

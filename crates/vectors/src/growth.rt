@@ -1,8 +1,6 @@
-//! The program `bench_growth`: the time of each call on one long version, or on a long list and a long version, for each
-//! byte of its text. If the work is linear, that time is the same for texts of any length. `bench/growth` runs it. With
-//! the word `check`, as the gate runs it, it makes the same calls and checks more of the texts, short ones or one of a
-//! length, and prints no times. Each call goes along a text by a loop, so a program's default stack is enough.
-#![tactic(auto)]
+//! The time of each call on one long version, or on a long list and a long version, for each byte of its text. If the work
+//! is linear, that time is the same for texts of any length. With the word `check` it makes the same calls and checks more
+//! of the texts, and prints no times. Each call goes along a text by a loop, so a program's default stack is enough.
 
 mod calls;
 mod checks;
@@ -11,19 +9,16 @@ mod watch;
 use calls::{on_list, on_tag, on_version};
 use checks::{check_list, check_version};
 use std::alloc::{AllocError, Global};
+use std::io;
 use std::num::nearest_usize_to_f64;
-use std::{env, io};
 use versions::Kind;
 use watch::Watch;
 
 const USAGE: &str =
-    "usage: bench_growth SHAPE MEGABYTES, or bench_growth check [SHAPE MEGABYTES]; SHAPE is signs, \
-    colons, nines, letters, dots, parts, metadata, or of a list zeros, digits, words, epochs, or signs_of_a_tag";
+    "usage: vectors [check] SHAPE MEGABYTES; SHAPE is signs, colons, nines, letters, dots, parts, metadata, or of a list \
+    zeros, digits, words, epochs, or signs_of_a_tag";
 
 const ROUNDS: u8 = 3;
-
-// The length of a short text in bytes.
-const FEW: usize = 19;
 
 // The shapes of versions, with their kinds: sections of a messy version, each inside the one before it, with two signs;
 // one number, one part of a general version, many parts, parts of letters and digits, and the metadata of a strict
@@ -49,14 +44,13 @@ const LISTS: [(&str, [&str; 5]); 4] = [
 // The shape of a tag in which no version begins.
 const TAG: &str = "signs_of_a_tag";
 
-fn main(rt: HostRuntime) -> io::Result<()> {
-    let words: Vec<String> = env::args(&rt)?.skip(1).collect(rt.alloc())?;
-    match words.as_slice() {
-        [word] if word.as_str() == "check" => check(&rt),
+/// Makes the calls that the words of a command name.
+pub fn grow(rt: &HostRuntime, words: &[String]) -> io::Result<()> {
+    match words {
         [word, shape, megabytes] if word.as_str() == "check" => {
-            check_shape(&rt, shape.as_str(), bytes_of(megabytes.as_str()))
+            check(rt, shape.as_str(), bytes_of(megabytes.as_str()))
         }
-        [shape, megabytes] => time(&rt, shape.as_str(), bytes_of(megabytes.as_str())),
+        [shape, megabytes] => time(rt, shape.as_str(), bytes_of(megabytes.as_str())),
         _ => println!(rt; "{USAGE}"),
     }
 }
@@ -71,7 +65,7 @@ fn time(rt: &HostRuntime, name: &str, bytes: Option<usize>) -> io::Result<()> {
     let mut watch = Watch::new(rt);
     let mut length = None;
     for _ in 0..ROUNDS {
-        length = make_calls(rt, &mut watch, name, bytes, false)?.map(|texts| texts.1);
+        length = make_calls(rt, &mut watch, name, bytes, false)?;
     }
     let Some(length) = length else {
         return println!(rt; "{USAGE}");
@@ -84,42 +78,28 @@ fn time(rt: &HostRuntime, name: &str, bytes: Option<usize>) -> io::Result<()> {
     Ok(())
 }
 
-// Checks a short text of each shape.
-fn check(rt: &HostRuntime) -> io::Result<()> {
-    for (name, ..) in VERSIONS {
-        check_shape(rt, name, Some(FEW))?;
-    }
-    for (name, ..) in LISTS {
-        check_shape(rt, name, Some(FEW))?;
-    }
-    check_shape(rt, TAG, Some(FEW))
-}
-
-// Prints a line for a shape, with a short text or the length of a long one, and the calls whose results were checked.
-fn check_shape(rt: &HostRuntime, name: &str, bytes: Option<usize>) -> io::Result<()> {
+// Prints a line for a shape, with the length of a text and the calls whose results were checked.
+fn check(rt: &HostRuntime, name: &str, bytes: Option<usize>) -> io::Result<()> {
     let mut watch = Watch::new(rt);
-    let Some((texts, length)) = make_calls(rt, &mut watch, name, bytes, true)? else {
+    let Some(length) = make_calls(rt, &mut watch, name, bytes, true)? else {
         return println!(rt; "{USAGE}");
     };
     watch.check()?;
-    match bytes {
-        Some(FEW) => print!(rt; "{name} {texts}:")?,
-        _ => print!(rt; "{name} of {length} bytes:")?,
-    }
+    print!(rt; "{name} of {length} bytes:")?;
     for (call, _) in &watch.least {
         print!(rt; " {call}")?;
     }
     println!(rt)
 }
 
-// Makes the calls on a text of the shape. Returns the text, after that of a list the version, and the text's length.
+// Makes the calls on a text of the shape, and returns the text's length.
 fn make_calls(
     rt: &HostRuntime,
     watch: &mut Watch<'_>,
     name: &str,
     bytes: Option<usize>,
     is_checked: bool,
-) -> io::Result<Option<(String, usize)>> {
+) -> io::Result<Option<usize>> {
     let Some(bytes) = bytes else {
         return Ok(None);
     };
@@ -145,14 +125,13 @@ fn of_version(
     (_, kind, front, further): (&str, Kind, &str, &str),
     bytes: usize,
     is_checked: bool,
-) -> io::Result<(String, usize)> {
+) -> io::Result<usize> {
     let text = filled(rt.alloc(), front, further, bytes)?;
     on_version(rt, watch, text.as_str())?;
     if is_checked {
         check_version(rt, text.as_str(), kind)?;
     }
-    let length = text.len();
-    Ok((text, length))
+    Ok(text.len())
 }
 
 fn of_list(
@@ -161,7 +140,7 @@ fn of_list(
     [member, further_member, front, further, end]: [&str; 5],
     bytes: usize,
     is_checked: bool,
-) -> io::Result<(String, usize)> {
+) -> io::Result<usize> {
     let list = filled(rt.alloc(), member, further_member, bytes)?;
     let mut version = filled(rt.alloc(), front, further, bytes)?;
     version.push_str(end)?;
@@ -169,15 +148,13 @@ fn of_list(
     if is_checked {
         check_list(rt, list.as_str(), front, end)?;
     }
-    let both = format!(in rt.alloc(); "{list} {version}")?;
-    Ok((both, list.len()))
+    Ok(list.len())
 }
 
-fn of_tag(rt: &HostRuntime, watch: &mut Watch<'_>, bytes: usize) -> io::Result<(String, usize)> {
+fn of_tag(rt: &HostRuntime, watch: &mut Watch<'_>, bytes: usize) -> io::Result<usize> {
     let tag = filled(rt.alloc(), "-", "v-", bytes)?;
     on_tag(watch, tag.as_bytes())?;
-    let length = tag.len();
-    Ok((tag, length))
+    Ok(tag.len())
 }
 
 // Returns a text that goes on as it began, of as many bytes or a few more.
