@@ -385,7 +385,7 @@ int versions_after_prefix(const char *prefix, size_t prefix_len, const char *tag
  * ASCII letters, in upper or lower case:
  *
  *     VERSIONS_DEV    dev, devel, snapshot, nightly, canary
- *     VERSIONS_ALPHA  alpha, pre, preview, prerelease, milestone, eap
+ *     VERSIONS_ALPHA  alpha, pre, preview, prerelease, milestone, eap, ea
  *     VERSIONS_BETA   beta
  *     VERSIONS_RC     rc, cr
  *

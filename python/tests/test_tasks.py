@@ -38,7 +38,7 @@ PREFIXED = {
 STABLE = "1.0 1.1.1k 1.0.Final 1.0.post1 1.2.3-5 1.2.3-r0 1.5.0-1ubuntu1 1.2.3+rc1 1.2-3+b1 0.1.1+git1-1"
 LESS_STABLE = {
     Stability.DEV: "1.0-SNAPSHOT 1.0.dev3 v1.0-nightly 1.0-beta-dev 1.2.0~DEVEL+20220331-1",
-    Stability.ALPHA: "1.0a1 2.0-M1 1.0preview3 1.0.0-alpha.beta 1.2.3-x.y 1.0.0--x",
+    Stability.ALPHA: "1.0a1 2.0-M1 1.0preview3 1.0.0-alpha.beta 1.2.3-x.y 1.0.0--x 22-ea",
     Stability.BETA: "2.0.0-beta.1 1.0b2 3.0~beta1-2",
     Stability.RC: "1.0rc1 1.0.0-rc.1 1.0c1 1.0CR2 1_0rc1+b1",
     Stability.STABLE: f"{STABLE} 0.0~git20170716.74609b8-1.1",

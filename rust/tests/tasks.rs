@@ -86,7 +86,7 @@ const STABILITIES: [(Stability, &str); 5] = [
     ),
     (
         Stability::Alpha,
-        "1.0a1 2.0-M1 1.0preview3 1.0.0-alpha.beta 1.2.3-x.y 1.0.0--x",
+        "1.0a1 2.0-M1 1.0preview3 1.0.0-alpha.beta 1.2.3-x.y 1.0.0--x 22-ea",
     ),
     (Stability::Beta, "2.0.0-beta.1 1.0b2 3.0~beta1-2"),
     (Stability::Rc, "1.0rc1 1.0.0-rc.1 1.0c1 1.0CR2 1_0rc1+b1"),

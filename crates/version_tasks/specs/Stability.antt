@@ -43,7 +43,7 @@ names Dev =
     codes "dev" ∷ codes "devel" ∷ codes "snapshot" ∷ codes "nightly" ∷ codes "canary" ∷ []
 names Alpha =
     codes "alpha" ∷ codes "pre" ∷ codes "preview" ∷ codes "prerelease" ∷ codes "milestone"
-    ∷ codes "eap" ∷ []
+    ∷ codes "eap" ∷ codes "ea" ∷ []
 names Beta = codes "beta" ∷ []
 names Rc = codes "rc" ∷ codes "cr" ∷ []
 names Stable = []

@@ -89,6 +89,7 @@ stabilities =
     ∷ (Alpha, codes "1.0.0-alpha.beta")
     ∷ (Alpha, codes "1.2.3-x.y")
     ∷ (Alpha, codes "1.0.0--x")
+    ∷ (Alpha, codes "22-ea")
     ∷ (Stable, codes "0.0~git20170716.74609b8-1.1")
     ∷ (Stable, codes "0.1.1+git1-1")
     ∷ []

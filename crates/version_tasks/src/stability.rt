@@ -34,7 +34,7 @@ pub enum Stability {
 /// | stability | words | runs |
 /// |---|---|---|
 /// | `Dev` | `dev`, `devel`, `snapshot`, `nightly`, `canary` | |
-/// | `Alpha` | `alpha`, `pre`, `preview`, `prerelease`, `milestone`, `eap` | `0a1`, `m2` |
+/// | `Alpha` | `alpha`, `pre`, `preview`, `prerelease`, `milestone`, `eap`, `ea` | `0a1`, `m2` |
 /// | `Beta` | `beta` | `0b1` |
 /// | `Rc` | `rc`, `cr` | `0c1` |
 ///
@@ -127,7 +127,15 @@ fn of_word(word: &[u8]) -> Stability
     }
     if is_one_of(
         word,
-        &["alpha", "pre", "preview", "prerelease", "milestone", "eap"],
+        &[
+            "alpha",
+            "pre",
+            "preview",
+            "prerelease",
+            "milestone",
+            "eap",
+            "ea",
+        ],
     ) {
         return Stability::Alpha;
     }
