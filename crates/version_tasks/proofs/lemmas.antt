@@ -1,5 +1,6 @@
 pub mod Newest
 pub mod Next
+pub mod NextPre
 pub mod Stability
 pub mod Tag
 pub mod Worked

@@ -59,14 +59,28 @@ pub record IsOfForm (v : PlainVersioning) (place : ℕ) (w : PlainVersioning) : 
 abbrev pub IsAfter : PlainVersioning → PlainVersioning → Type 0
 IsAfter w v = precedence (key_of w) (key_of v) ≡ Greater
 
--- The version w is what comes next after v at a place: it is of the form, it comes after v, and no
--- version of the form that comes after v is before it.
-pub record IsNext (v : PlainVersioning) (place : ℕ) (w : PlainVersioning) : Type 0 where
-  pub form : IsOfForm v place w
+-- The version w is the least of a form after v: it is of the form, it comes after v, and no version
+-- of the form that comes after v is before it.
+pub record IsLeastAfter (v : PlainVersioning) (Form : PlainVersioning → Type 0) (w : PlainVersioning)
+    : Type 0 where
+  pub form : Form w
   pub after : IsAfter w v
-  pub least : (u : PlainVersioning) → IsOfForm v place u → IsAfter u v
+  pub least : (u : PlainVersioning) → Form u → IsAfter u v
       → ¬ (precedence (key_of u) (key_of w) ≡ Less)
 
--- no version of the form comes after v
+-- no version of a form comes after v
+abbrev pub NoneAfter : PlainVersioning → (PlainVersioning → Type 0) → Type 0
+NoneAfter v Form = (w : PlainVersioning) → Form w → ¬ (IsAfter w v)
+
+-- the version w is what comes next after v at a place, and no version is
+abbrev pub IsNext : PlainVersioning → ℕ → PlainVersioning → Type 0
+IsNext v place = IsLeastAfter v (IsOfForm v place)
+
 abbrev pub NoNext : PlainVersioning → ℕ → Type 0
-NoNext v place = (w : PlainVersioning) → IsOfForm v place w → ¬ (IsAfter w v)
+NoNext v place = NoneAfter v (IsOfForm v place)
+
+-- the last place of the numbers of a version, or of its parts
+abbrev pub last_place : PlainVersioning → ℕ
+last_place (Ideal v) = 2
+last_place (General v) = length v.chunks
+last_place (Complex m) = 0

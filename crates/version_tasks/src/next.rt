@@ -3,7 +3,7 @@
 ghost use Rattle.std.specs.Prelude.{◌≡◌, ◌≤◌, ◌&&◌, ◌^◌, if◌then◌else◌, length, suc, IfNone, IfSome, Some};
 ghost use Rattle.std.specs.List.{list_all};
 ghost use Rattle.version_rules.specs.grammar.Versioning.{is_prerelease, versioning_of, versioning_text};
-ghost use Rattle.version_tasks.specs.Next.{IsNext, NoNext};
+ghost use Rattle.version_tasks.specs.Next.{IsNext, NoNext, last_place};
 ghost use Rattle.version_tasks.specs.NextRef.{plain_next};
 ghost use Rattle.version_tasks.specs.NextText.{is_zero};
 ghost use Rattle.version_texts.specs.order.Piece.{further_pieces, is_dot};
@@ -48,6 +48,38 @@ pub fn next_of<'a>(version: &VersioningRef<'a>, place: usize) -> Option<Next<'a>
         number,
         zeros: count_parts(rest),
     })
+}
+
+/// Returns the version that comes next after another at the last place of its numbers, as `next_of` has it: the release
+/// that a pre-release precedes, or the one after a release. Returns None where `next_of` does. Does not allocate.
+///
+/// | version | next release |
+/// |---|---|
+/// | `1.2.3-rc.1` | `1.2.3` |
+/// | `1.2.3` | `1.2.4` |
+/// | `1:1.9-3` | `1:1.10` |
+pub fn next_release<'a>(version: &VersioningRef<'a>) -> Option<Next<'a>>
+    ensures some { IfSome result
+        (λ next. IsNext (plain_versioning_ref version.now)
+        (last_place (plain_versioning_ref version.now)) (plain_next next)) }
+    ensures none { IfNone result (NoNext (plain_versioning_ref version.now)
+        (last_place (plain_versioning_ref version.now))) }
+
+    // The text that it writes parses as that version.
+    ensures read { IfSome result (λ next. versioning_of (versioning_text (plain_next next))
+        ≡ Some (plain_next next)) }
+{
+    next_of(version, last_place(version))
+}
+
+// The last place of the numbers of a version, or of its parts. 0 of a messy version.
+fn last_place(version: &VersioningRef<'_>) -> usize
+    ensures { result ≡ last_place (plain_versioning_ref version.now) }
+{
+    match version.epoch_and_parts() {
+        Some((_, parts)) => count_parts(split_piece(parts).1),
+        None => 0,
+    }
 }
 
 // Whether each piece of a text is a numeral.
@@ -103,6 +135,14 @@ fn next_number(number: u32, stays: bool) -> Option<u32>
     if stays {
         Some(number)
     } else {
-        number.checked_add(1)
+        successor(number)
     }
+}
+
+// The number after another. None past the largest number.
+pub(crate) fn successor(number: u32) -> Option<u32>
+    ensures some { IfSome result (λ next. next ≡ suc number) }
+    ensures none { IfNone result (2 ^ 32 ≤ suc number) }
+{
+    number.checked_add(1)
 }

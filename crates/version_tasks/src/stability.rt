@@ -64,7 +64,7 @@ fn counted_text<'a>(version: &VersioningRef<'a>) -> &'a [u8]
 }
 
 // The text of the pre-release of a strict version; empty if there is none.
-fn pre_release_text<'a>(version: &VersioningRef<'a>) -> &'a [u8]
+pub(crate) fn pre_release_text<'a>(version: &VersioningRef<'a>) -> &'a [u8]
     ensures { result.now ≡ pre_release_text (plain_versioning_ref version.now) }
 {
     match version.span(Field::PreRelease) {

@@ -23,10 +23,10 @@ use Rattle.version_tasks.specs.Next.{IsAfter, IsBare, IsNext, IsOfForm, MayFollo
 use Rattle.version_rules.specs.grammar.Chunk as chunk
 use Rattle.version_rules.specs.grammar.Last as last
 
-three_ways : (m n : ℕ) → (m < n) ⊎ ((m ≡ n) ⊎ (n < m))
+pub three_ways : (m n : ℕ) → (m < n) ⊎ ((m ≡ n) ⊎ (n < m))
 three_ways m n = grind arith
 
-same : (n : ℕ) → nat_cmp n n ≡ Equal
+pub same : (n : ℕ) → nat_cmp n n ≡ Equal
 same n = sym (nat_cmp_is n n Equal refl)
 
 -- ---- numbers
@@ -171,7 +171,7 @@ raised_cmp zero (n ∷ ns) k within =
 raised_cmp (suc place) (n ∷ ns) k within =
     alike n (raised place ns k) ns ∙ raised_cmp place ns k (omega (arith, within))
 
-both_raised : (place : ℕ) (ns : List ℕ) (j k : ℕ) → place < length ns
+pub both_raised : (place : ℕ) (ns : List ℕ) (j k : ℕ) → place < length ns
     → list_cmp (parts (raised place ns j)) (parts (raised place ns k)) ≡ nat_cmp j k
 both_raised place [] j k within = absurd (omega (arith, within))
 both_raised zero (n ∷ ns) j k within =

@@ -2,7 +2,7 @@
 use Rattle.std.proofs.Common.{◌≡◌, ◌==◌, ◌&&◌, ◌-◌, ◌+◌, ◌<◌, ◌≤◌, ◌^◌, ◌∙◌, if◌then◌else◌, ℕ, zero, suc, Bool, true, false, List, [], ◌∷◌, ◌++◌, drop, length, map, take, Some, None, refl, sym, ap, subst, arith, append_assoc, append-nil, length-append, inl, inr}
 use Rattle.std.proofs.Math.Seq.{drop-nil}
 use Rattle.std.proofs.lemmas.Bool.{and_from, cases_Bool, lt-ltb}
-use Rattle.std.proofs.lemmas.List.{map-append, take_all, take_at}
+use Rattle.std.proofs.lemmas.List.{length-map, map-append, take_all, take_at}
 use Rattle.std.proofs.lemmas.List.Splits.{join_with_byte-slice_split}
 use Rattle.std.specs.Cmp.{first_so, second_so}
 use Rattle.std.specs.Fmt.{decimal}
@@ -28,11 +28,11 @@ use Rattle.version_texts.specs.key.TextKey.{pieces}
 use Rattle.version_texts.specs.scan.TextKind.{is_numeral}
 use Rattle.version_texts.specs.versioning_ref.VersioningRef.{version_in}
 use Rattle.version_texts.proofs.lemmas.order.Piece.{pieces_are}
-use Rattle.version_texts.proofs.lemmas.order.Piece.Spelled.{NonePass, alphanumeric_no_dot, chunk_bytes, none_pass, pieces_give}
+use Rattle.version_texts.proofs.lemmas.order.Piece.Spelled.{NonePass, alphanumeric_no_dot, body_pieces, chunk_bytes, none_pass, pieces_give}
 use Rattle.version_texts.proofs.lemmas.scan.TextKind.Chunks.{numeral_passes, numeral_spells}
 use Rattle.version_texts.proofs.lemmas.scan.TextKind.Numeral.{no_numeral}
 use Rattle.version_texts.proofs.lemmas.scan.TextKind.Runs.{digits_not}
-use Rattle.version_tasks.specs.Next.{IsNext, NoNext, all_of, last_number, numbers_of}
+use Rattle.version_tasks.specs.Next.{IsNext, NoNext, all_of, last_number, last_place, numbers_of}
 use Rattle.version_tasks.specs.NextText.{is_zero, is_zero_number, next_text, zeros_text}
 use Rattle.version_tasks.proofs.lemmas.Next.Order.{are_zeros, fit, is_next, next_at, none_beyond, none_past, none_without, number_at, raised, raised_count, raised_fit, raised_follows, raised_number}
 use Rattle.version_tasks.proofs.lemmas.Next.Text.{both_same, joined, joined_at, numbered, numbered_form, numbered_spelled, pieces_before, printed, raised_joined}
@@ -71,6 +71,36 @@ general_numbers text v s =
     (v.chunks ++ part ∷ []) s.body_is.parts_are
     ∙ map-append number_of v.chunks (part ∷ [])
     ∙ ap (λ n. map number_of v.chunks ++ n ∷ []) (last_part part v.last s.body_is.last_is))
+
+-- the last place of its numbers is that of the pieces
+general_count : (text : List ℕ) (v : PlainVersion) → SpellsVersion text v
+    → length (pieces (body_text (v.chunks, v.last))) ≡ suc (length v.chunks)
+general_count text v s =
+    ap (λ (l : List ℕ). length (pieces l)) (body_printed s.body (v.chunks, v.last) s.body_is)
+    ∙ ap (λ (l : List (List ℕ)). length l) (body_pieces s.body (v.chunks, v.last) s.body_is)
+    ∙ length-map (v.chunks ++ s.body_is.part ∷ []) chunk.chunk_text
+    ∙ length-append v.chunks (s.body_is.part ∷ []) ∙ omega arith
+
+last_of : (parts : List ℕ) (place : ℕ) → length (pieces parts) ≡ suc place
+    → length (further_pieces is_dot (behind_piece parts)) ≡ place
+last_of parts place count =
+    let whole = ap (λ (l : List (List ℕ)). length l) (pieces_are is_dot parts) in
+    omega (arith, count, whole)
+
+pub last_place_read : (text : List ℕ) (v : PlainVersioning) → SpellsVersioning text v
+    → (epoch parts : List ℕ) → epoch_and_parts v ≡ Some (epoch, parts)
+    → length (further_pieces is_dot (behind_piece parts)) ≡ last_place v
+last_place_read text (Ideal v) s epoch parts texts =
+    let printed : body_text ((version_of_semver v).chunks, (version_of_semver v).last)
+    ≡ semver_text (numbers_alone v) = simp (append_assoc, append-nil) in
+    let is : parts ≡ semver_text (numbers_alone v) = sym (both_same _ _ texts).1 in
+    last_of parts 2 (ap (λ (l : List ℕ). length (pieces l)) (is ∙ sym printed)
+    ∙ general_count text (version_of_semver v) (strict_is_general text v s))
+last_place_read text (General v) s epoch parts texts =
+    let is : parts ≡ body_text (v.chunks, v.last) = sym (both_same _ _ texts).1 in
+    last_of parts (length v.chunks)
+    (ap (λ (l : List ℕ). length (pieces l)) is ∙ general_count text v s.0)
+last_place_read text (Complex m) s epoch parts texts = cc texts
 
 numbers_read : (text : List ℕ) (v : PlainVersioning) → SpellsVersioning text v
     → (epoch parts : List ℕ) → epoch_and_parts v ≡ Some (epoch, parts)

@@ -42,12 +42,12 @@ pub in_pieces : (epoch front digits zeros e f z : List ℕ) → e ≡ epoch → 
 in_pieces epoch front digits zeros e f z first next last = grind (arith, append_assoc)
 
 -- the pieces of an ASCII text are ASCII, so they are UTF-8
-ascii_left : (xs ys : List ℕ) → IsAscii (xs ++ ys) → IsAscii xs
+pub ascii_left : (xs ys : List ℕ) → IsAscii (xs ++ ys) → IsAscii xs
 ascii_left [] ys h i = IsAscii-nil i
 ascii_left (x ∷ xs) ys h zero = h zero
 ascii_left (x ∷ xs) ys h (suc i) = ascii_left xs ys (λ j. h (suc j)) i
 
-ascii_right : (xs ys : List ℕ) → IsAscii (xs ++ ys) → IsAscii ys
+pub ascii_right : (xs ys : List ℕ) → IsAscii (xs ++ ys) → IsAscii ys
 ascii_right [] ys h = h
 ascii_right (x ∷ xs) ys h = ascii_right xs ys (λ j. h (suc j))
 

@@ -1,0 +1,14 @@
+use Rattle.std.proofs.Common.{rules, tests}
+use Rattle.std.proofs.lemmas.Iterator.Search.{all_from_yields_List}
+use Rattle.std.proofs.lemmas.Iterator.Splits.{YieldsList-from_slice_split}
+use Rattle.version_rules.specs.grammar.Bytes.{is_identifier_byte}
+use Rattle.version_texts.specs.order.Piece.{is_dot}
+use Rattle.version_texts.specs.scan.TextKind.{is_chunk}
+use Rattle.version_tasks.proofs.pre.is_release.Goals as goal
+
+pub returns : goal.returns
+returns c =
+    all_from_yields_List (is_chunk is_identifier_byte) _ _ c.all.result c.all.ensures.ran
+    (YieldsList-from_slice_split _ is_dot c.args.text.now c.split.ensures.rest
+    c.split.ensures.done c.split.ensures.closure (λ x r q k. search (rules, tests)))
+    (λ x b q k. search (rules, tests))
