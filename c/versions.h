@@ -72,7 +72,7 @@ extern "C" {
 #define VERSIONS_UNKNOWN_FIELD 14   /* no field has that number */
 #define VERSIONS_ALL_MATCH 15       /* each member of the list matches the version */
 #define VERSIONS_NO_CONFLICT 16     /* no two members of the list exclude each other */
-#define VERSIONS_NO_NEXT 17         /* the version has no next one at that place */
+#define VERSIONS_NO_NEXT 17         /* no version comes next after the version */
 #define VERSIONS_NO_SET 18          /* the text is not a set of versions */
 #define VERSIONS_NO_FORM 19         /* the bytes are not the form of a set */
 #define VERSIONS_NO_SCHEME 20       /* no scheme has that number */
@@ -434,6 +434,40 @@ int versions_difference(const char *a, size_t a_len, const char *b, size_t b_len
  * Returns VERSIONS_OK, VERSIONS_NO_VERSION, VERSIONS_NO_NEXT or VERSIONS_NO_ROOM.
  */
 int versions_next(const char *text, size_t text_len, size_t place, char *next, size_t room, size_t *next_len);
+
+/*
+ * Writes the version that comes next after another at the last place of its numbers, as versions_next does: the release
+ * that a pre-release precedes, or the one after a release. After 1.2.3-rc.1 comes 1.2.3, after 1.2.3 comes 1.2.4, after
+ * 1.2 comes 1.3, and after 1:1.9-3 comes 1:1.10.
+ *
+ * Returns the statuses of versions_next.
+ */
+int versions_next_release(const char *text, size_t text_len, char *next, size_t room, size_t *next_len);
+
+/*
+ * Writes the pre-release of a word that comes next after a strict version, as text.
+ *
+ * The word is what stands before the number of the pre-release: one chunk or more, joined by dots, such as rc. Where
+ * word_len is 0 it is what stands before the last chunk of the version's own pre-release, if that chunk is a number, and
+ * may then be nothing. What is written is the least version that comes after that one with the same major and minor
+ * numbers, any patch, the word and one number from 1 on as pre-release, and no metadata.
+ *
+ *     version        word   next
+ *     1.2.3          rc     1.2.4-rc.1
+ *     1.2.3-rc.1     rc     1.2.3-rc.2
+ *     1.2.3-alpha.4  rc     1.2.3-rc.1
+ *     1.2.3-rc.1     beta   1.2.4-beta.1
+ *     1.2.3-rc.1            1.2.3-rc.2
+ *     1.2.3-1               1.2.3-2
+ *
+ * There is none after a version that is not strict, for a word that is not such chunks, without a word after a version
+ * whose pre-release does not end with a number, such as 1.2.3 and 1.2.3-rc1, and where the patch would be past
+ * 4294967295.
+ *
+ * Writes as versions_next does, and returns its statuses.
+ */
+int versions_next_pre(const char *text, size_t text_len, const char *word, size_t word_len, char *next, size_t room,
+                      size_t *next_len);
 
 /*
  * Finds the first member of a list of requirements that does not match a version, and why it does not.

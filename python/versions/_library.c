@@ -208,39 +208,83 @@ static PyObject *is_prerelease(PyObject *Py_UNUSED(module), PyObject *object) {
   return status == VERSIONS_OK ? PyBool_FromLong(answer) : none_or_raise(status, object);
 }
 
-static int ask_next(const struct text *text, size_t place, char *room, size_t *size) {
-  PyThreadState *thread = let_go(text->size);
-  int status = versions_next(text->bytes, text->size, place, room, *size, size);
+/* What comes next after a version: at a place, at the last one, or as a pre-release of a word, which may be empty. */
+enum next_kind { NEXT, NEXT_RELEASE, NEXT_PRE };
+
+struct asked {
+  enum next_kind kind;
+  size_t place;
+  struct text word;
+};
+
+static int call_next(const struct text *text, const struct asked *asked, char *room, size_t *size) {
+  const struct text *word = &asked->word;
+
+  switch (asked->kind) {
+    case NEXT_RELEASE: return versions_next_release(text->bytes, text->size, room, *size, size);
+    case NEXT_PRE: return versions_next_pre(text->bytes, text->size, word->bytes, word->size, room, *size, size);
+    default: return versions_next(text->bytes, text->size, asked->place, room, *size, size);
+  }
+}
+
+static int ask_next(const struct text *text, const struct asked *asked, char *room, size_t *size) {
+  PyThreadState *thread = let_go(text->size + asked->word.size);
+  int status = call_next(text, asked, room, size);
 
   take_again(thread);
   return status;
 }
 
 /* Asks again, with room for a text that is longer than the room on the stack. Returns its status. */
-static int ask_long_next(const struct text *text, size_t place, PyObject **next, size_t size) {
+static int ask_long_next(const struct text *text, const struct asked *asked, PyObject **next, size_t size) {
   char *room = allocated(size, 1);
-  int status = room == NULL ? VERSIONS_NO_MEMORY : ask_next(text, place, room, &size);
+  int status = room == NULL ? VERSIONS_NO_MEMORY : ask_next(text, asked, room, &size);
 
   if (status == VERSIONS_OK) *next = PyUnicode_FromStringAndSize(room, (Py_ssize_t)size);
   PyMem_Free(room);
   return status;
 }
 
-/* next(text, place): the text of the version that comes next at a place, and None where there is none */
-static PyObject *next(PyObject *Py_UNUSED(module), PyObject *args) {
-  PyObject *object, *at, *next = NULL;
+/* The text of the version that comes next, and None where there is none. */
+static PyObject *next_of(PyObject *object, const struct asked *asked) {
+  PyObject *next = NULL;
   struct text text;
   char room[256];
-  size_t place, size = sizeof room;
+  size_t size = sizeof room;
   int status;
 
-  if (!PyArg_ParseTuple(args, "OO:next", &object, &at) || read_place(at, &place) < 0) return NULL;
   if (read_text(object, &text) < 0) return NULL;
-  status = ask_next(&text, place, room, &size);
+  status = ask_next(&text, asked, room, &size);
   if (status == VERSIONS_OK) return PyUnicode_FromStringAndSize(room, (Py_ssize_t)size);
-  if (status == VERSIONS_NO_ROOM) status = ask_long_next(&text, place, &next, size);
+  if (status == VERSIONS_NO_ROOM) status = ask_long_next(&text, asked, &next, size);
   if (status == VERSIONS_OK || PyErr_Occurred()) return next;
   return none_or_raise(status, object);
+}
+
+/* next(text, place) */
+static PyObject *next(PyObject *Py_UNUSED(module), PyObject *args) {
+  PyObject *object, *at;
+  struct asked asked = {NEXT, 0, {NULL, 0}};
+
+  if (!PyArg_ParseTuple(args, "OO:next", &object, &at) || read_place(at, &asked.place) < 0) return NULL;
+  return next_of(object, &asked);
+}
+
+/* next_release(text) */
+static PyObject *next_release(PyObject *Py_UNUSED(module), PyObject *object) {
+  struct asked asked = {NEXT_RELEASE, 0, {NULL, 0}};
+
+  return next_of(object, &asked);
+}
+
+/* next_pre(text, word), where the word may be None */
+static PyObject *next_pre(PyObject *Py_UNUSED(module), PyObject *args) {
+  PyObject *object, *word;
+  struct asked asked = {NEXT_PRE, 0, {NULL, 0}};
+
+  if (!PyArg_ParseTuple(args, "OO:next_pre", &object, &word)) return NULL;
+  if (word != Py_None && read_text(word, &asked.word) < 0) return NULL;
+  return next_of(object, &asked);
 }
 
 static int ask_why(const struct text *list, const struct text *version, char *room, size_t *size) {
@@ -1329,6 +1373,8 @@ static PyMethodDef functions[] = {
     {"is_prerelease", is_prerelease, METH_O, NULL},
     {"difference", difference, METH_VARARGS, NULL},
     {"next", next, METH_VARARGS, NULL},
+    {"next_release", next_release, METH_O, NULL},
+    {"next_pre", next_pre, METH_VARARGS, NULL},
     {"in_tag", in_tag, METH_VARARGS, NULL},
     {"stability", stability, METH_O, NULL},
     {"wrong_member", wrong_member, METH_O, NULL},

@@ -236,6 +236,43 @@ class Version(Value, _library.Keyed):
             raise ValueError(f"{self._text} has no next version at place {place}")
         return type(self)(text)
 
+    def next_release(self) -> Self:
+        """The version that comes next at the last place of its numbers: the release that a pre-release precedes, or the
+        one after a release.
+
+        `ValueError` where there is none, as `next` has it.
+
+        >>> str(Version("1.2.3-rc.1").next_release()), str(Version("1.2.3").next_release())
+        ('1.2.3', '1.2.4')
+        """
+        text = _library.next_release(self._mixed)
+        if text is None:
+            raise ValueError(f"{self._text} has no next release")
+        return type(self)(text)
+
+    def next_pre(self, word: Optional[str] = None) -> Self:
+        """The least version after a strict one with its major and minor numbers whose pre-release is a word and one number
+        from 1 on.
+
+        A word is one chunk or more, joined by dots. Without a word, or with an empty one, it is what stands before the
+        number that the version's own pre-release ends with. `ValueError` where there is no such version: of a version
+        that isn't strict, without a word for one whose pre-release doesn't end with a number, for a word that isn't such
+        chunks, and past the patch 4294967295.
+
+        >>> [str(Version(text).next_pre("rc")) for text in ("1.2.3", "1.2.3-rc.1", "1.2.3-alpha.4")]
+        ['1.2.4-rc.1', '1.2.3-rc.2', '1.2.3-rc.1']
+        >>> str(Version("1.2.3-rc.1").next_pre())
+        '1.2.3-rc.2'
+        >>> Version("1.2.3").next_pre()
+        Traceback (most recent call last):
+        ValueError: 1.2.3 has no next pre-release
+        """
+        text = _library.next_pre(self._mixed, word)
+        if text is None:
+            of = f" of {word}" if word else ""
+            raise ValueError(f"{self._text} has no next pre-release{of}")
+        return type(self)(text)
+
     @property
     def pre_release(self) -> Optional[str]:
         """What follows the hyphen of a strict version, or None.

@@ -207,6 +207,22 @@ extern "C" {
         room: usize,
         next_len: *mut usize,
     ) -> c_int;
+    pub fn versions_next_release(
+        text: *const c_char,
+        text_len: usize,
+        next: *mut c_char,
+        room: usize,
+        next_len: *mut usize,
+    ) -> c_int;
+    pub fn versions_next_pre(
+        text: *const c_char,
+        text_len: usize,
+        word: *const c_char,
+        word_len: usize,
+        next: *mut c_char,
+        room: usize,
+        next_len: *mut usize,
+    ) -> c_int;
     pub fn versions_why_not(
         list: *const c_char,
         list_len: usize,

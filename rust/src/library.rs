@@ -385,36 +385,76 @@ pub fn difference(a: &str, b: &str) -> Option<Difference> {
 
 /// The text of the version that comes next at a place. Panics where the text is not a version.
 pub fn next(text: &str, place: usize) -> Option<String> {
-    // For most there is room in this; the library says how much it takes if there isn't.
-    let mut room = vec![0; text.len() + 1];
-    let (mut status, mut length) = next_into(text, place, &mut room);
-    if status == NO_ROOM {
-        room.resize(length, 0);
-        (status, length) = next_into(text, place, &mut room);
-    }
-    match status {
-        OK => Some(written("versions_next", room, length)),
-        NO_NEXT => None,
-        _ => unexpected("versions_next", "status", status),
-    }
+    next_text("versions_next", text.len() + 1, |room, length| {
+        // SAFETY: the pointer and the length are those of `text`, which is only read. `room` and
+        // `length` are written, and overlap with nothing, as they are borrowed mutably.
+        unsafe {
+            versions_next(
+                start(text),
+                text.len(),
+                place,
+                room.as_mut_ptr().cast(),
+                room.len(),
+                length,
+            )
+        }
+    })
 }
 
-/// Writes that text to the beginning of `room`, if it has the room. The status, and the text's length.
-fn next_into(text: &str, place: usize, room: &mut [u8]) -> (c_int, usize) {
-    let mut length = 0;
-    // SAFETY: the pointer and the length are those of `text`, which is only read. `room` and `length`
-    // are written, and overlap with nothing, as they are borrowed mutably.
-    let status = unsafe {
-        versions_next(
-            start(text),
-            text.len(),
-            place,
-            room.as_mut_ptr().cast(),
-            room.len(),
-            &mut length,
-        )
-    };
-    (status, length)
+/// The same at the last place of its numbers.
+pub fn next_release(text: &str) -> Option<String> {
+    next_text("versions_next_release", text.len() + 1, |room, length| {
+        // SAFETY: as in `next`.
+        unsafe {
+            versions_next_release(
+                start(text),
+                text.len(),
+                room.as_mut_ptr().cast(),
+                room.len(),
+                length,
+            )
+        }
+    })
+}
+
+/// The text of the pre-release that comes next, of a word, or of the version's own where the word is
+/// empty. Panics where the text is not a version.
+pub fn next_pre(text: &str, word: &str) -> Option<String> {
+    let size = text.len() + word.len() + 4;
+    next_text("versions_next_pre", size, |room, length| {
+        // SAFETY: each pointer has the length of its text, which is only read; the rest as in `next`.
+        unsafe {
+            versions_next_pre(
+                start(text),
+                text.len(),
+                start(word),
+                word.len(),
+                room.as_mut_ptr().cast(),
+                room.len(),
+                length,
+            )
+        }
+    })
+}
+
+/// The text that a call writes to the beginning of a buffer, if it has the room, with its length. For
+/// most there is room in `size`; the library says how much it takes if there isn't.
+fn next_text(
+    call: &str,
+    size: usize,
+    mut ask: impl FnMut(&mut [u8], &mut usize) -> c_int,
+) -> Option<String> {
+    let (mut room, mut length) = (vec![0; size], 0);
+    let mut status = ask(&mut room, &mut length);
+    if status == NO_ROOM {
+        room.resize(length, 0);
+        status = ask(&mut room, &mut length);
+    }
+    match status {
+        OK => Some(written(call, room, length)),
+        NO_NEXT => None,
+        _ => unexpected(call, "status", status),
+    }
 }
 
 /// Where the first member of a list lies that does not match a version, and why it doesn't; `None`

@@ -337,6 +337,44 @@ impl<'a> Versioning<'a> {
         Some(valid(Versioning::new(next).ok()))
     }
 
+    /// Returns the version that comes next at the last place of its numbers, as [`next`](Versioning::next)
+    /// has it: the release that a pre-release precedes, or the one after a release.
+    ///
+    /// ```
+    /// use proved_versions::Versioning;
+    ///
+    /// let next = ["1.2.3-rc.1", "1.2.3", "1:1.9-3"]
+    ///     .map(|text| Versioning::new(text).unwrap().next_release().unwrap().to_string());
+    /// assert_eq!(next, ["1.2.3", "1.2.4", "1:1.10"]);
+    /// ```
+    pub fn next_release(&self) -> Option<Versioning<'static>> {
+        let next = library::next_release(&self.text)?;
+        Some(valid(Versioning::new(next).ok()))
+    }
+
+    /// Returns the least version after this one with its major and minor numbers whose pre-release is a
+    /// word and one number from 1 on. A word is one chunk or more, joined by dots. Without a word, or with
+    /// an empty one, it is what stands before the number that its own pre-release ends with.
+    ///
+    /// `None` for a version that isn't strict, without a word for one whose pre-release doesn't end with
+    /// a number, for a word that isn't such chunks, and where the patch would be above `u32::MAX`.
+    /// Allocates the text, and what [`new`](Versioning::new) does.
+    ///
+    /// ```
+    /// use proved_versions::Versioning;
+    ///
+    /// let next = ["1.2.3", "1.2.3-rc.1", "1.2.3-alpha.4"]
+    ///     .map(|text| Versioning::new(text).unwrap().next_pre(Some("rc")).unwrap().to_string());
+    /// assert_eq!(next, ["1.2.4-rc.1", "1.2.3-rc.2", "1.2.3-rc.1"]);
+    /// let version = Versioning::new("1.2.3-rc.1").unwrap();
+    /// assert_eq!(version.next_pre(None).unwrap().as_str(), "1.2.3-rc.2");
+    /// assert!(Versioning::new("1.2.3").unwrap().next_pre(None).is_none());
+    /// ```
+    pub fn next_pre(&self, word: Option<&str>) -> Option<Versioning<'static>> {
+        let next = library::next_pre(&self.text, word.unwrap_or_default())?;
+        Some(valid(Versioning::new(next).ok()))
+    }
+
     /// Compares by precedence, the one order of all kinds. Allocates nothing.
     ///
     /// Different versions may tie, as `1.0` and `0:1.0`; [`Ord`] breaks these ties. The operators

@@ -30,7 +30,7 @@ pub const UNKNOWN_FIELD: i32 = 14;
 pub const ALL_MATCH: i32 = 15;
 /// No two members of the list exclude each other.
 pub const NO_CONFLICT: i32 = 16;
-/// The version has no next one at that place.
+/// No version comes next after the version.
 pub const NO_NEXT: i32 = 17;
 /// The text is not a set of versions.
 pub const NO_SET: i32 = 18;

@@ -1,5 +1,6 @@
 use Rattle.std.proofs.Common.{◌<◌, ◌≤◌, ◌^◌, arith, length}
 use Rattle.version_tasks.specs.NextRef.{plain_next}
+use Rattle.version_tasks.specs.Next.{IsOfForm}
 use Rattle.version_texts.specs.versioning_ref.VersioningRef.{plain_versioning_ref}
 use Rattle.versions_c.proofs.lemmas.Next.{next_written}
 use Rattle.versions_c.proofs.next.versions_next.Goals as goal
@@ -9,7 +10,7 @@ returns-clause-next c =
     let small : length c.args.next.now < 2 ^ 63 = omega arith in
     let within : c.write.result ≤ length c.args.next.now =
     omega (arith, c.if-next_len-next.false, c.write.auto.room) in
-    next_written _ (plain_versioning_ref c.in-Some.version) c.in-Some.ensures c.args.place
+    next_written (λ v. IsOfForm v c.args.place) _ (plain_versioning_ref c.in-Some.version) c.in-Some.ensures
     c.args.next.now (plain_next c.in-Some-next_of.found) c.in-Some-next_of.ensures.some _
     c.write.ensures.length small within _
     (c.write.ensures.bytes.fitting (omega (arith, c.write.ensures.length, within, small)))
