@@ -67,8 +67,8 @@ export class InvalidVersionSet extends RangeError {
  * `==` compares objects, so take `equals`.
  *
  * A version of another scheme than mixed has a text, a key and its scheme, and compares with versions of its own. Its
- * kind, numbers, fields, stability, difference and next are a TypeError, and so are `<` and `>`, which can't see the
- * scheme of the other side.
+ * kind, numbers, fields, stability, difference and what comes next are a TypeError, and so are `<` and `>`, which can't
+ * see the scheme of the other side.
  */
 export class Version {
   /** InvalidVersion for a text that is not a version of the scheme. Of a `Version` of it, it takes the text. */
@@ -111,6 +111,14 @@ export class Version {
   nth(n: number): number | null;
   /** The version that comes next at a place from 0 on: 1.3.0 after 1.2.3 at place 1. RangeError where there is none. */
   next(place: number): Version;
+  /** The version that comes next at the last place of its numbers: 1.2.3 after 1.2.3-rc.1. RangeError where there is none. */
+  nextRelease(): Version;
+  /**
+   * The least version after it with its major and minor numbers whose pre-release is a word and one number from 1 on:
+   * 1.2.4-rc.1 after 1.2.3 for rc. Without a word, or with an empty one, that of its own pre-release: 1.2.3-rc.2 after
+   * 1.2.3-rc.1. RangeError where there is none, as of a version that isn't strict.
+   */
+  nextPre(word?: string | null): Version;
   /** Where it first differs from another version. */
   difference(other: Text): Difference;
   /** -1, 0 or 1, by the order of its scheme. InvalidVersion for a text that is not a version of it. */

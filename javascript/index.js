@@ -130,11 +130,11 @@ function write(text, more = 0) {
   return put(text, FIRST) - FIRST;
 }
 
-// Writes two texts, one after the other, and sets their lengths.
+// Writes two texts, one after the other, with room for more after them, and sets their lengths.
 let one = 0;
 let two = 0;
-function writeTwo(a, b) {
-  reserve(FIRST + 3 * (a.length + b.length));
+function writeTwo(a, b, more = 0) {
+  reserve(FIRST + 3 * (a.length + b.length) + more);
   one = put(a, FIRST) - FIRST;
   two = put(b, FIRST + one) - FIRST - one;
 }
@@ -697,6 +697,32 @@ export class Version {
     const length = write(this.#ofMixed(this.#text), room);
     const status = call.versions_next(FROM, big(length), at, after(length), big(room), SLOTS[0]);
     if (status !== OK) throw new RangeError(`${this.#text} has no next version at place ${place}`);
+    return this.#written(length);
+  }
+
+  nextRelease() {
+    const room = 3 * this.#text.length + 8;
+    const length = write(this.#ofMixed(this.#text), room);
+    const status = call.versions_next_release(FROM, big(length), after(length), big(room), SLOTS[0]);
+    if (status !== OK) throw new RangeError(`${this.#text} has no next release`);
+    return this.#written(length);
+  }
+
+  nextPre(word = null) {
+    const its = word === null ? "" : asText(word, "the word");
+    // The word, a dot and a number follow three numbers, of which one may have one digit more.
+    const room = 3 * (this.#text.length + its.length) + 16;
+    writeTwo(this.#ofMixed(this.#text), its, room);
+    const both = one + two;
+    const status = call.versions_next_pre(FROM, big(one), after(one), big(two), after(both), big(room), SLOTS[0]);
+    if (status !== OK) {
+      throw new RangeError(`${this.#text} has no next pre-release${its && ` of ${its}`}`);
+    }
+    return this.#written(both);
+  }
+
+  // The version whose text a call has written after so many bytes.
+  #written(length) {
     return new this.constructor(binary(FIRST + length, FIRST + length + slot(0)));
   }
 

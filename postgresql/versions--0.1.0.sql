@@ -61,8 +61,16 @@ CREATE FUNCTION version_stability(text) RETURNS stability
 CREATE FUNCTION version_difference(text, text) RETURNS text
   AS 'MODULE_PATHNAME' LANGUAGE C IMMUTABLE STRICT PARALLEL SAFE COST 10;
 
--- The version that comes next at a place, counted from 0; NULL if there is none.
+-- The version that comes next at a place, counted from 0, and at the last place of its numbers; NULL if there is none.
 CREATE FUNCTION version_next(text, place bigint) RETURNS text
+  AS 'MODULE_PATHNAME' LANGUAGE C IMMUTABLE STRICT PARALLEL SAFE COST 10;
+CREATE FUNCTION version_next_release(text) RETURNS text
+  AS 'MODULE_PATHNAME' LANGUAGE C IMMUTABLE STRICT PARALLEL SAFE COST 10;
+
+-- The pre-release that comes next, of the version's own word or of one such as rc; NULL if there is none.
+CREATE FUNCTION version_next_pre(text) RETURNS text
+  AS 'MODULE_PATHNAME' LANGUAGE C IMMUTABLE STRICT PARALLEL SAFE COST 10;
+CREATE FUNCTION version_next_pre(text, word text) RETURNS text
   AS 'MODULE_PATHNAME' LANGUAGE C IMMUTABLE STRICT PARALLEL SAFE COST 10;
 
 -- Why a version does not match a requirement or a list, in a sentence; NULL if it matches. Fails if the first does not
@@ -596,6 +604,12 @@ CREATE FUNCTION version_difference(version, version) RETURNS text
   AS 'MODULE_PATHNAME', 'version_difference_of_version' LANGUAGE C IMMUTABLE STRICT PARALLEL SAFE COST 10;
 CREATE FUNCTION version_next(version, place bigint) RETURNS version
   AS 'MODULE_PATHNAME', 'version_next_of_version' LANGUAGE C IMMUTABLE STRICT PARALLEL SAFE COST 10;
+CREATE FUNCTION version_next_release(version) RETURNS version
+  AS 'MODULE_PATHNAME', 'version_next_release_of_version' LANGUAGE C IMMUTABLE STRICT PARALLEL SAFE COST 10;
+CREATE FUNCTION version_next_pre(version) RETURNS version
+  AS 'MODULE_PATHNAME', 'version_next_pre_of_version' LANGUAGE C IMMUTABLE STRICT PARALLEL SAFE COST 10;
+CREATE FUNCTION version_next_pre(version, word text) RETURNS version
+  AS 'MODULE_PATHNAME', 'version_next_pre_of_version' LANGUAGE C IMMUTABLE STRICT PARALLEL SAFE COST 10;
 
 -- The type requirement: a list of requirements as written, and the range of keys that it asks for.
 

@@ -423,17 +423,50 @@ FUNCTIONS(version_difference) {
   PG_RETURN_TEXT_P(cstring_to_text(names[difference]));
 }
 
+/* What comes next after a version: at a place, at the last one, or as a pre-release of a word, which may be empty. */
+typedef struct {
+  enum { NEXT, NEXT_RELEASE, NEXT_PRE } what;
+  Span text, word;
+  size_t place;
+} Asked;
+
+static int ask_next(const Asked *asked, char *next, size_t room, size_t *len) {
+  Span text = asked->text, word = asked->word;
+  switch (asked->what) {
+    case NEXT_RELEASE: return versions_next_release(text.bytes, text.len, next, room, len);
+    case NEXT_PRE: return versions_next_pre(text.bytes, text.len, word.bytes, word.len, next, room, len);
+    default: return versions_next(text.bytes, text.len, asked->place, next, room, len);
+  }
+}
+
+/* What comes next, which has to fit its type. */
+static Datum next_of(FunctionCallInfo fcinfo, bool typed, const Asked *asked) {
+  Span found = {NULL, 0};
+  text *next;
+  int status = ask_next(asked, NULL, 0, &found.len);
+  if (status != VERSIONS_NO_ROOM) return no_result(fcinfo, typed, status, asked->text);
+  if (typed) fits(NULL, found, "version");
+  next = palloc(VARHDRSZ + found.len);
+  SET_VARSIZE(next, VARHDRSZ + found.len);
+  ask_next(asked, VARDATA(next), found.len, &found.len);
+  PG_RETURN_TEXT_P(next);
+}
+
 /* A place below 0 is, as a size_t, above each place of a version. */
 FUNCTIONS(version_next) {
-  Span span = span_of(PG_GETARG_TEXT_PP(0));
-  size_t place = (size_t)PG_GETARG_INT64(1), len;
-  text *next;
-  int status = versions_next(span.bytes, span.len, place, NULL, 0, &len);
-  if (status != VERSIONS_NO_ROOM) return no_result(fcinfo, typed, status, span);
-  next = palloc(VARHDRSZ + len);
-  SET_VARSIZE(next, VARHDRSZ + len);
-  versions_next(span.bytes, span.len, place, VARDATA(next), len, &len);
-  PG_RETURN_TEXT_P(next);
+  Asked asked = {NEXT, span_of(PG_GETARG_TEXT_PP(0)), {NULL, 0}, (size_t)PG_GETARG_INT64(1)};
+  return next_of(fcinfo, typed, &asked);
+}
+
+FUNCTIONS(version_next_release) {
+  Asked asked = {NEXT_RELEASE, span_of(PG_GETARG_TEXT_PP(0)), {NULL, 0}, 0};
+  return next_of(fcinfo, typed, &asked);
+}
+
+FUNCTIONS(version_next_pre) {
+  Asked asked = {NEXT_PRE, span_of(PG_GETARG_TEXT_PP(0)), {NULL, 0}, 0};
+  if (PG_NARGS() == 2) asked.word = span_of(PG_GETARG_TEXT_PP(1));
+  return next_of(fcinfo, typed, &asked);
 }
 
 /* Why a version does not match a list, a sentence, if the status says that there is one. */

@@ -26,6 +26,10 @@
  *   version_stability_rank(text)         the same as an integer to order by, from 1 for 'dev' to 5 for 'stable'
  *   version_difference(a, b)             where two versions differ first: 'epoch', 'part 0', 'tail', 'tie' or 'same'
  *   version_next(text, n)                the version that comes next at a place, an integer counted from 0
+ *   version_next_release(text)           the same at the last place of its numbers
+ *   version_next_pre(text), version_next_pre(text, word)
+ *                                        the pre-release that comes next, of the version's own word or of one such as
+ *                                        'rc'
  *   version_why_not(requirement, text)   why a version does not match, a sentence; NULL if it matches
  *   version_max(text)                    aggregate and window function: the greatest version of the rows
  *   version_min(text)                    the least version of the rows
@@ -36,7 +40,7 @@
  * BLOBs and texts that are not UTF-8 are not versions. A number is not converted to text, since 1.10 is already 1.1.
  * The aggregates skip values that are not versions. A function of a requirement returns NULL for NULL, and fails if the
  * requirement does not parse. version_nth and version_next return NULL for NULL, and fail if the place is not an
- * integer. version_in returns NULL if the prefix is not a text.
+ * integer. version_in and version_next_pre return NULL if the prefix or the word is not a text.
  *
  * A scheme is a name, such as 'deb', and may differ from row to row; without one it is 'mixed'. The functions return
  * NULL for a scheme that is NULL, and else fail if it is not the name of one, whatever the other arguments are.
@@ -556,10 +560,29 @@ static void version_nth(sqlite3_context *context, int count, sqlite3_value **val
   }
 }
 
-/* Gives the version that comes next, of a length that versions_next has told. */
-static void give_next(sqlite3_context *context, struct text text, size_t place, size_t len) {
-  char *next = sqlite3_malloc64(len);
-  if (next && versions_next(text.bytes, text.len, place, next, len, &len) == VERSIONS_OK) {
+/* What comes next after a version: at a place, at the last one, or as a pre-release of a word, which may be empty. */
+struct asked {
+  struct text text, word;
+  size_t place;
+  enum { NEXT, NEXT_RELEASE, NEXT_PRE } what;
+};
+
+static int ask_next(const struct asked *asked, char *next, size_t room, size_t *len) {
+  struct text text = asked->text, word = asked->word;
+  switch (asked->what) {
+    case NEXT_RELEASE: return versions_next_release(text.bytes, text.len, next, room, len);
+    case NEXT_PRE: return versions_next_pre(text.bytes, text.len, word.bytes, word.len, next, room, len);
+    default: return versions_next(text.bytes, text.len, asked->place, next, room, len);
+  }
+}
+
+/* Gives the version that comes next, if there is one. */
+static void give_next(sqlite3_context *context, const struct asked *asked) {
+  size_t len;
+  char *next;
+  if (ask_next(asked, NULL, 0, &len) != VERSIONS_NO_ROOM) return;
+  next = sqlite3_malloc64(len);
+  if (next && ask_next(asked, next, len, &len) == VERSIONS_OK) {
     sqlite3_result_text64(context, next, len, sqlite3_free, SQLITE_UTF8);
   } else {
     sqlite3_free(next);
@@ -568,14 +591,32 @@ static void give_next(sqlite3_context *context, struct text text, size_t place, 
 }
 
 static void version_next(sqlite3_context *context, int count, sqlite3_value **values) {
-  struct text text = text_of(values[0]);
-  size_t place, len;
+  struct asked asked = {text_of(values[0]), {NULL, 0}, 0, NEXT};
   (void)count;
-  if (!text.bytes) {
+  if (!asked.text.bytes) {
     sqlite3_result_error_nomem(context);
-  } else if (place_of(context, values[1], &place) &&
-             versions_next(text.bytes, text.len, place, NULL, 0, &len) == VERSIONS_NO_ROOM) {
-    give_next(context, text, place, len);
+  } else if (place_of(context, values[1], &asked.place)) {
+    give_next(context, &asked);
+  }
+}
+
+static void version_next_release(sqlite3_context *context, int count, sqlite3_value **values) {
+  struct asked asked = {text_of(values[0]), {NULL, 0}, 0, NEXT_RELEASE};
+  (void)count;
+  if (!asked.text.bytes) {
+    sqlite3_result_error_nomem(context);
+  } else {
+    give_next(context, &asked);
+  }
+}
+
+static void version_next_pre(sqlite3_context *context, int count, sqlite3_value **values) {
+  struct asked asked = {text_of(values[0]), {"", 0}, 0, NEXT_PRE};
+  if (count == 2) asked.word = text_of(values[1]);
+  if (!asked.text.bytes || !asked.word.bytes) {
+    sqlite3_result_error_nomem(context);
+  } else {
+    give_next(context, &asked);
   }
 }
 
@@ -876,6 +917,9 @@ static int define_functions(sqlite3 *db) {
       {"version_stability_rank", 1, version_stability_rank},
       {"version_difference", 2, version_difference},
       {"version_next", 2, version_next},
+      {"version_next_release", 1, version_next_release},
+      {"version_next_pre", 1, version_next_pre},
+      {"version_next_pre", 2, version_next_pre},
       {"version_why_not", 2, version_why_not},
       {"versions_version", 0, give_library_version},
   };

@@ -211,13 +211,13 @@ static PyObject *is_prerelease(PyObject *Py_UNUSED(module), PyObject *object) {
 /* What comes next after a version: at a place, at the last one, or as a pre-release of a word, which may be empty. */
 enum next_kind { NEXT, NEXT_RELEASE, NEXT_PRE };
 
-struct asked {
+struct next_asked {
   enum next_kind kind;
   size_t place;
   struct text word;
 };
 
-static int call_next(const struct text *text, const struct asked *asked, char *room, size_t *size) {
+static int call_next(const struct text *text, const struct next_asked *asked, char *room, size_t *size) {
   const struct text *word = &asked->word;
 
   switch (asked->kind) {
@@ -227,7 +227,7 @@ static int call_next(const struct text *text, const struct asked *asked, char *r
   }
 }
 
-static int ask_next(const struct text *text, const struct asked *asked, char *room, size_t *size) {
+static int ask_next(const struct text *text, const struct next_asked *asked, char *room, size_t *size) {
   PyThreadState *thread = let_go(text->size + asked->word.size);
   int status = call_next(text, asked, room, size);
 
@@ -236,7 +236,7 @@ static int ask_next(const struct text *text, const struct asked *asked, char *ro
 }
 
 /* Asks again, with room for a text that is longer than the room on the stack. Returns its status. */
-static int ask_long_next(const struct text *text, const struct asked *asked, PyObject **next, size_t size) {
+static int ask_long_next(const struct text *text, const struct next_asked *asked, PyObject **next, size_t size) {
   char *room = allocated(size, 1);
   int status = room == NULL ? VERSIONS_NO_MEMORY : ask_next(text, asked, room, &size);
 
@@ -246,7 +246,7 @@ static int ask_long_next(const struct text *text, const struct asked *asked, PyO
 }
 
 /* The text of the version that comes next, and None where there is none. */
-static PyObject *next_of(PyObject *object, const struct asked *asked) {
+static PyObject *next_of(PyObject *object, const struct next_asked *asked) {
   PyObject *next = NULL;
   struct text text;
   char room[256];
@@ -264,7 +264,7 @@ static PyObject *next_of(PyObject *object, const struct asked *asked) {
 /* next(text, place) */
 static PyObject *next(PyObject *Py_UNUSED(module), PyObject *args) {
   PyObject *object, *at;
-  struct asked asked = {NEXT, 0, {NULL, 0}};
+  struct next_asked asked = {NEXT, 0, {NULL, 0}};
 
   if (!PyArg_ParseTuple(args, "OO:next", &object, &at) || read_place(at, &asked.place) < 0) return NULL;
   return next_of(object, &asked);
@@ -272,7 +272,7 @@ static PyObject *next(PyObject *Py_UNUSED(module), PyObject *args) {
 
 /* next_release(text) */
 static PyObject *next_release(PyObject *Py_UNUSED(module), PyObject *object) {
-  struct asked asked = {NEXT_RELEASE, 0, {NULL, 0}};
+  struct next_asked asked = {NEXT_RELEASE, 0, {NULL, 0}};
 
   return next_of(object, &asked);
 }
@@ -280,7 +280,7 @@ static PyObject *next_release(PyObject *Py_UNUSED(module), PyObject *object) {
 /* next_pre(text, word), where the word may be None */
 static PyObject *next_pre(PyObject *Py_UNUSED(module), PyObject *args) {
   PyObject *object, *word;
-  struct asked asked = {NEXT_PRE, 0, {NULL, 0}};
+  struct next_asked asked = {NEXT_PRE, 0, {NULL, 0}};
 
   if (!PyArg_ParseTuple(args, "OO:next_pre", &object, &word)) return NULL;
   if (word != Py_None && read_text(word, &asked.word) < 0) return NULL;

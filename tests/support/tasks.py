@@ -87,8 +87,7 @@ class Model:
 
     def next(self, version, place):
         """The text of the next version, or None."""
-        read = re.fullmatch(rb"([0-9]+:)?([0-9]+(?:[.][0-9]+)*)(?:[-+].*)?", version)
-        parts = read[2].split(b".") if read and self.library.kind(version) in (IDEAL, GENERAL) else []
+        read, parts = self._parts(version)
         numerals = all(re.fullmatch(b"0|[1-9][0-9]*", part) and int(part) <= LARGEST for part in parts)
         if place >= len(parts) or not numerals:
             return None
@@ -98,6 +97,42 @@ class Model:
             if number <= LARGEST and self.library.compare(text, version) > 0:
                 return text
         return None
+
+    def _parts(self, version):
+        """What is read of a strict or general version of numbers alone, and its parts; of another there are none."""
+        read = re.fullmatch(rb"([0-9]+:)?([0-9]+(?:[.][0-9]+)*)(?:[-+].*)?", version)
+        return read, read[2].split(b".") if read and self.library.kind(version) in (IDEAL, GENERAL) else []
+
+    def next_release(self, version):
+        _, parts = self._parts(version)
+        return self.next(version, len(parts) - 1) if parts else None
+
+    def next_pre(self, version, word):
+        """The least of all the versions that may be next, or None. No word is empty."""
+        if self.library.kind(version) != IDEAL:
+            return None
+        major, minor, patch, own = re.fullmatch(rb"(\d+)[.](\d+)[.](\d+)(?:-([^+]*))?(?:[+].*)?", version).groups()
+        chunks = own.split(b".") if own else []
+        if word:
+            # The chunks of a word are what a strict version may have as a pre-release.
+            front = word + b"."
+            if b"+" in word or self.library.kind(b"0.0.0-" + word) != IDEAL:
+                return None
+        elif chunks and re.fullmatch(b"[0-9]+", chunks[-1]):
+            front = b"".join(chunk + b"." for chunk in chunks[:-1])
+        else:
+            return None
+        # The least number is 1, or one above a number of the pre-release; at a later patch it is 1.
+        numbers = {1} | {int(chunk) + 1 for chunk in chunks if re.fullmatch(b"[0-9]+", chunk)}
+        places = [(int(patch), number) for number in numbers] + [(int(patch) + 1, 1)]
+        best = None
+        for at, number in places:
+            text = b"%s.%s.%d-%s%d" % (major, minor, at, front, number)
+            if max(at, number) > LARGEST or self.library.compare(text, version) <= 0:
+                continue
+            if best is None or self.library.compare(text, best) < 0:
+                best = text
+        return best
 
     def why_not(self, requirements, version):
         """The first member that does not match, where it lies, and why; or None."""
