@@ -1,0 +1,3 @@
+pub mod General
+pub mod Left
+pub mod Mixed

@@ -1,0 +1,322 @@
+-- What is left of a text as a version of each kind, piece by piece.
+use Rattle.std.proofs.Common.{◌≡◌, ◌==◌, ◌&&◌, ◌∙◌, ℕ, Bool, true, false, List, [], ◌∷◌, ◌++◌, ap, arith, drop, length, not, refl, subst, sym, inl, inr, if◌then◌else◌}
+use Rattle.std.specs.Char.{is_ascii_alphanumeric, is_ascii_digit}
+use Rattle.std.specs.Cmp.{first_so, second_so}
+use Rattle.std.specs.List.{list_all, prefix_len, take_while}
+use Rattle.std.proofs.lemmas.Bool.{and_from, cases_Bool, eqb-true, or_right}
+use Rattle.std.proofs.Math.Dec.{eqb-suc-zero}
+use Rattle.std.proofs.lemmas.Bool.Decides.{nat_tests}
+use Rattle.version_rules.specs.grammar.Bytes.{dot, hyphen, is_identifier_byte, is_metadata_byte, plus}
+use Rattle.version_rules.specs.grammar.Class.{is_mark}
+use Rattle.version_rules.specs.grammar.Front.{begins}
+use Rattle.version_rules.proofs.lemmas.Front.Runs.{begins-drop, list_all-take_while}
+use Rattle.version_texts.specs.scan.Shape.{is_section_byte}
+use Rattle.version_texts.specs.scan.TextKind.{is_chunk, is_messy, is_metadata_tail, is_numeral, is_released, is_run, is_tail}
+use Rattle.version_texts.proofs.lemmas.scan.General.Runs.{and-false, last_piece as last_of, next_piece as next_of, run_cons, run_none, split_end, split_mark, split_other}
+use Rattle.version_texts.proofs.lemmas.scan.General.RunsWithin.{rest_within}
+use Rattle.version_texts.proofs.lemmas.scan.TextKind.Messy.{fails_first, no_mark_in_run}
+use Rattle.version_texts.proofs.lemmas.scan.TextKind.Release.{bad_chunk, released_last, released_next}
+use Rattle.version_texts.proofs.lemmas.scan.Shape.Section.{no_dot_in_run, run_in_section}
+use Rattle.version_viable.specs.Viable.{IsLeft}
+use Rattle.version_viable.specs.mixed.Parts.{is_parts}
+use Rattle.version_viable.proofs.lemmas.Left.{alone, at_end, behind, is_nothing, last_piece, nothing_apart, nothing_left, whole_run, run_is_run, next, next_piece, stays, unless, wrong_piece}
+
+-- ---- messy versions
+
+abbrev is_letter_run : List ℕ → Bool
+is_letter_run = is_run is_ascii_alphanumeric
+
+messy_by : (text rest : List ℕ) → drop (prefix_len is_ascii_alphanumeric text) text ≡ rest
+    → is_messy text ≡ (is_letter_run (take_while is_ascii_alphanumeric text) && next is_mark is_messy is_nothing rest)
+messy_by text [] e = rw (split_end is_ascii_alphanumeric is_mark no_mark_in_run text e) refl
+messy_by text (c ∷ rest) e = elim (cases_Bool (is_mark c)) [
+  | inl marked ↦
+      rw (split_mark is_ascii_alphanumeric is_mark no_mark_in_run text c rest e marked, marked) refl
+  | inr other ↦
+      let more = split_other is_ascii_alphanumeric is_mark no_mark_in_run text c rest e other in
+      fails_first is_letter_run _ more.1 more.0 more.2 (and-false _ _ more.3)
+      ∙ sym (and-false _ (next is_mark is_messy is_nothing (c ∷ rest)) (rw other refl))
+]
+
+messy_split : (text : List ℕ) → is_messy text
+    ≡ (is_letter_run (take_while is_ascii_alphanumeric text)
+    && next is_mark is_messy is_nothing (drop (prefix_len is_ascii_alphanumeric text) text))
+messy_split text = messy_by text _ refl
+
+mark_apart : (byte : ℕ) → is_mark byte ≡ true → is_ascii_alphanumeric byte ≡ false
+mark_apart byte h = grind (arith, nat_tests)
+
+module _ (text run rest : List ℕ) (run_is : run ≡ take_while is_ascii_alphanumeric text)
+    (rest_is : rest ≡ drop (prefix_len is_ascii_alphanumeric text) text) where
+  all_run : list_all is_ascii_alphanumeric run ≡ true
+  all_run = ap (list_all is_ascii_alphanumeric) run_is ∙ list_all-take_while is_ascii_alphanumeric text
+
+  pub no_run : (length run == 0) ≡ true → IsLeft is_messy text rest
+  no_run none = wrong_piece is_ascii_alphanumeric is_mark is_letter_run is_messy is_nothing messy_split mark_apart
+      (nothing_apart is_ascii_alphanumeric is_mark) text run rest run_is rest_is (rw none refl) (97 ∷ []) (by run none)
+    where
+      by : (l : List ℕ) → (length l == 0) ≡ true → is_messy (l ++ 97 ∷ []) ≡ true
+      by [] e = refl
+      by (b ∷ l) e = cc (sym (eqb-suc-zero (length l)) ∙ e)
+
+  pub last_run : (length run == 0) ≡ false → begins is_mark rest ≡ false → IsLeft is_messy text rest
+  last_run some none = last_piece is_ascii_alphanumeric is_mark is_letter_run is_messy is_nothing messy_split mark_apart
+      (nothing_apart is_ascii_alphanumeric is_mark) text run rest run_is rest_is
+      (run_is_run is_ascii_alphanumeric run all_run some) none rest (nothing_left rest)
+
+  pub next_run : (length run == 0) ≡ false → (byte : ℕ) (more : List ℕ) → rest ≡ byte ∷ more → is_mark byte ≡ true
+      → (left : List ℕ) → IsLeft is_messy more left → IsLeft is_messy text left
+  next_run some = next_piece is_ascii_alphanumeric is_mark is_letter_run is_messy is_nothing messy_split mark_apart
+      (nothing_apart is_ascii_alphanumeric is_mark) text run rest run_is rest_is
+      (run_is_run is_ascii_alphanumeric run all_run some)
+
+-- ---- metadata
+
+tail_begins : (text : List ℕ) → is_metadata_tail text ≡ true → (test : ℕ → Bool) → test plus ≡ false
+    → begins test text ≡ false
+tail_begins [] passes test apart = refl
+tail_begins (byte ∷ text) passes test apart =
+    ap test (eqb-true byte plus (first_so (byte == plus) _ passes)) ∙ apart
+
+pub no_metadata : (text : List ℕ) → begins (λ b. b == plus) text ≡ false → IsLeft is_metadata_tail text text
+no_metadata text none = stays is_metadata_tail text [] refl (by text none)
+  where
+    by : (l : List ℕ) → begins (λ b. b == plus) l ≡ false → (byte : ℕ) (after : List ℕ) → l ≡ byte ∷ after
+        → (more : List ℕ) → is_metadata_tail (byte ∷ more) ≡ false
+    by l e byte after f more = rw (rw f at e) refl
+
+metadata_split : (text : List ℕ) → is_run is_metadata_byte text
+    ≡ (not (length (take_while is_metadata_byte text) == 0) && is_nothing (drop (prefix_len is_metadata_byte text) text))
+metadata_split [] = refl
+metadata_split (byte ∷ text) = elim (cases_Bool (is_metadata_byte byte)) [
+  | inl passes ↦
+      let step = run_cons is_metadata_byte byte text passes in
+      let here : is_run is_metadata_byte (byte ∷ text) ≡ list_all is_metadata_byte text = rw (eqb-suc-zero (length text), passes) refl in
+      let some : (length (take_while is_metadata_byte (byte ∷ text)) == 0) ≡ false =
+      ap (λ (l : List ℕ). length l == 0) step.0 ∙ eqb-suc-zero (length (take_while is_metadata_byte text)) in
+      here ∙ whole_run is_metadata_byte text ∙ ap is_nothing (sym step.1)
+      ∙ sym (ap (λ (b : Bool). not b && is_nothing (drop (prefix_len is_metadata_byte (byte ∷ text)) (byte ∷ text))) some)
+  | inr fails ↦
+      let step = run_none is_metadata_byte byte text fails in
+      let none : (length (take_while is_metadata_byte (byte ∷ text)) == 0) ≡ true =
+      ap (λ (l : List ℕ). length l == 0) step.0 in
+      and-false (not (length (byte ∷ text) == 0)) _ (rw fails refl)
+      ∙ sym (ap (λ (b : Bool). not b && is_nothing (drop (prefix_len is_metadata_byte (byte ∷ text)) (byte ∷ text))) none)
+]
+
+metadata_run : (text run rest : List ℕ) → run ≡ take_while is_metadata_byte text
+    → rest ≡ drop (prefix_len is_metadata_byte text) text → IsLeft (is_run is_metadata_byte) text rest
+metadata_run text run rest run_is rest_is =
+    at_end is_metadata_byte (is_run is_metadata_byte) (λ run rest. not (length run == 0) && is_nothing rest) metadata_split
+    text run rest run_is rest_is (97 ∷ []) (by run all) (λ byte after e t. and-false _ _ refl)
+  where
+    all : list_all is_metadata_byte run ≡ true
+    all = ap (list_all is_metadata_byte) run_is ∙ list_all-take_while is_metadata_byte text
+
+    grown : (l : List ℕ) → list_all is_metadata_byte l ≡ true → list_all is_metadata_byte (l ++ 97 ∷ []) ≡ true
+    grown [] e = refl
+    grown (b ∷ l) e = and_from _ _ (first_so _ _ e) (grown l (second_so (is_metadata_byte b) _ e))
+
+    by : (l : List ℕ) → list_all is_metadata_byte l ≡ true → is_run is_metadata_byte (l ++ 97 ∷ []) ≡ true
+    by [] e = refl
+    by (b ∷ l) e = run_is_run is_metadata_byte (b ∷ (l ++ 97 ∷ [])) (grown (b ∷ l) e) (eqb-suc-zero (length (l ++ 97 ∷ [])))
+
+pub some_metadata : (text behind run rest : List ℕ) → text ≡ plus ∷ behind → run ≡ take_while is_metadata_byte behind
+    → rest ≡ drop (prefix_len is_metadata_byte behind) behind → IsLeft is_metadata_tail text rest
+some_metadata text more run rest cut run_is rest_is =
+    subst (λ (l : List ℕ). IsLeft is_metadata_tail l rest) (sym cut)
+    (behind is_metadata_tail (is_run is_metadata_byte) (plus ∷ []) (λ t. refl) more rest
+    (metadata_run more run rest run_is rest_is))
+
+-- ---- chunks
+
+pub grown : (test : ℕ → Bool) → test 97 ≡ true → (run : List ℕ) → list_all test run ≡ true
+    → list_all test (run ++ 97 ∷ []) ≡ true
+grown test letter [] e = rw letter refl
+grown test letter (b ∷ run) e = and_from _ _ (first_so _ _ e) (grown test letter run (second_so (test b) _ e))
+
+no_digits : (run : List ℕ) → list_all is_ascii_digit (run ++ 97 ∷ []) ≡ false
+no_digits [] = refl
+no_digits (b ∷ run) = and-false (is_ascii_digit b) _ (no_digits run)
+
+some_bytes : (run : List ℕ) → (length (run ++ 97 ∷ []) == 0) ≡ false
+some_bytes [] = refl
+some_bytes (b ∷ run) = eqb-suc-zero (length (run ++ 97 ∷ []))
+
+-- with a letter behind it, any run is a chunk
+pub word : (test : ℕ → Bool) → test 97 ≡ true → (run : List ℕ) → list_all test run ≡ true
+    → is_chunk test (run ++ 97 ∷ []) ≡ true
+word test letter run all =
+    and_from _ _ (run_is_run test (run ++ 97 ∷ []) (grown test letter run all) (some_bytes run))
+    (or_right (is_numeral (run ++ 97 ∷ [])) _ (rw (no_digits run) refl))
+
+-- ---- releases
+
+abbrev is_release_chunk : List ℕ → Bool
+is_release_chunk = is_chunk is_identifier_byte
+
+abbrev pub is_dot : ℕ → Bool
+is_dot b = b == dot
+
+released_by : (text rest : List ℕ) → drop (prefix_len is_identifier_byte text) text ≡ rest
+    → is_released text
+    ≡ (is_release_chunk (take_while is_identifier_byte text) && next is_dot is_released is_metadata_tail rest)
+released_by text rest e = elim (cases_Bool (is_release_chunk (take_while is_identifier_byte text))) [
+  | inr bad ↦ bad_chunk text bad ∙ sym (ap (λ (b : Bool). b && next is_dot is_released is_metadata_tail rest) bad)
+  | inl good ↦ by good rest e ∙ sym (ap (λ (b : Bool). b && next is_dot is_released is_metadata_tail rest) good)
+]
+  where
+    by : is_release_chunk (take_while is_identifier_byte text) ≡ true → (rest : List ℕ)
+        → drop (prefix_len is_identifier_byte text) text ≡ rest
+        → is_released text ≡ next is_dot is_released is_metadata_tail rest
+    by good [] e = released_last text good [] e refl
+    by good (c ∷ rest) e = elim (cases_Bool (c == dot)) [
+      | inl dots ↦
+          released_next text good rest (e ∙ ap (λ (b : ℕ). b ∷ rest) (eqb-true c dot dots))
+          ∙ sym (ap (λ (b : Bool). if b then is_released rest else is_metadata_tail (c ∷ rest)) dots)
+      | inr other ↦
+          released_last text good (c ∷ rest) e other
+          ∙ sym (ap (λ (b : Bool). if b then is_released rest else is_metadata_tail (c ∷ rest)) other)
+    ]
+
+released_split : (text : List ℕ) → is_released text
+    ≡ (is_release_chunk (take_while is_identifier_byte text)
+    && next is_dot is_released is_metadata_tail (drop (prefix_len is_identifier_byte text) text))
+released_split text = released_by text _ refl
+
+dot_no_identifier : (byte : ℕ) → is_dot byte ≡ true → is_identifier_byte byte ≡ false
+dot_no_identifier byte e = ap is_identifier_byte (eqb-true byte dot e)
+
+metadata_apart : (text : List ℕ) → is_metadata_tail text ≡ true
+    → (begins is_identifier_byte text ≡ false) × (begins is_dot text ≡ false)
+metadata_apart text passes = (tail_begins text passes is_identifier_byte refl, tail_begins text passes is_dot refl)
+
+module _ (text run rest : List ℕ) (run_is : run ≡ take_while is_identifier_byte text)
+    (rest_is : rest ≡ drop (prefix_len is_identifier_byte text) text) where
+  all_chunk : list_all is_identifier_byte run ≡ true
+  all_chunk = ap (list_all is_identifier_byte) run_is ∙ list_all-take_while is_identifier_byte text
+
+  pub no_chunk : is_release_chunk run ≡ false → IsLeft is_released text rest
+  no_chunk fails = wrong_piece is_identifier_byte is_dot is_release_chunk is_released is_metadata_tail released_split
+      dot_no_identifier metadata_apart text run rest run_is rest_is fails (97 ∷ [])
+      (alone is_identifier_byte is_dot is_release_chunk is_released is_metadata_tail released_split
+      dot_no_identifier metadata_apart (run ++ 97 ∷ []) (grown is_identifier_byte refl run all_chunk)
+      (word is_identifier_byte refl run all_chunk) refl)
+
+  pub last_chunk : is_release_chunk run ≡ true → begins is_dot rest ≡ false → (left : List ℕ)
+      → IsLeft is_metadata_tail rest left → IsLeft is_released text left
+  last_chunk = last_piece is_identifier_byte is_dot is_release_chunk is_released is_metadata_tail released_split
+      dot_no_identifier metadata_apart text run rest run_is rest_is
+
+  pub next_chunk : is_release_chunk run ≡ true → (more : List ℕ) → rest ≡ dot ∷ more → (left : List ℕ)
+      → IsLeft is_released more left → IsLeft is_released text left
+  next_chunk good more cut = next_piece is_identifier_byte is_dot is_release_chunk is_released is_metadata_tail released_split
+      dot_no_identifier metadata_apart text run rest run_is rest_is good dot more cut refl
+
+-- ---- tails
+
+pub released_tail : (text more left : List ℕ) → text ≡ hyphen ∷ more → IsLeft is_released more left → IsLeft is_tail text left
+released_tail text more left cut is =
+    subst (λ (l : List ℕ). IsLeft is_tail l left) (sym cut) (behind is_tail is_released (hyphen ∷ []) (λ t. refl) more left is)
+
+metadata_tail : (text : List ℕ) → begins (λ b. b == hyphen) text ≡ false → is_tail text ≡ is_metadata_tail text
+metadata_tail [] e = refl
+metadata_tail (byte ∷ text) e = rw e refl
+
+pub unreleased_tail : (text left : List ℕ) → begins (λ b. b == hyphen) text ≡ false → IsLeft is_metadata_tail text left
+    → IsLeft is_tail text left
+unreleased_tail text left none =
+    unless (λ b. b == hyphen) is_tail is_metadata_tail metadata_tail (λ t e. tail_begins t e (λ b. b == hyphen) refl) text left none
+
+tail_apart_from : (test : ℕ → Bool) → test hyphen ≡ false → test plus ≡ false → (text : List ℕ) → is_tail text ≡ true
+    → begins test text ≡ false
+tail_apart_from test no_hyphen no_plus [] passes = refl
+tail_apart_from test no_hyphen no_plus (byte ∷ text) passes = elim (cases_Bool (byte == hyphen)) [
+  | inl here ↦ ap test (eqb-true byte hyphen here) ∙ no_hyphen
+  | inr other ↦ tail_begins (byte ∷ text) (sym (metadata_tail (byte ∷ text) other) ∙ passes) test no_plus
+]
+
+-- ---- parts
+
+abbrev pub is_part : List ℕ → Bool
+is_part = is_chunk is_ascii_alphanumeric
+
+pub and-assoc : (p q r : Bool) → ((p && q) && r) ≡ (p && (q && r))
+and-assoc true q r = refl
+and-assoc false q r = refl
+
+and-true : (p : Bool) → (p && true) ≡ p
+and-true true = refl
+and-true false = refl
+
+parts_by : (text rest : List ℕ) → drop (prefix_len is_ascii_alphanumeric text) text ≡ rest
+    → is_parts text ≡ (is_part (take_while is_ascii_alphanumeric text) && next is_dot is_parts is_tail rest)
+parts_by text rest e = by rest e
+  where
+    last : (rest : List ℕ) → drop (prefix_len is_ascii_alphanumeric text) text ≡ rest → begins is_section_byte rest ≡ false
+        → drop (prefix_len is_section_byte rest) rest ≡ rest
+        → is_parts text ≡ (is_part (take_while is_ascii_alphanumeric text) && is_tail rest)
+    last rest e ends stays =
+        let split = last_of is_ascii_alphanumeric is_section_byte run_in_section is_dot no_dot_in_run text
+        (ap (begins is_section_byte) e ∙ ends) in
+        let more : drop (prefix_len is_section_byte text) text ≡ rest =
+        sym (rest_within is_ascii_alphanumeric is_section_byte run_in_section text)
+        ∙ ap (λ (l : List ℕ). drop (prefix_len is_section_byte l) l) e ∙ stays in
+        (λ i. list_all is_part (split i) && is_tail (more i))
+        ∙ ap (λ (b : Bool). b && is_tail rest) (and-true (is_part (take_while is_ascii_alphanumeric text)))
+
+    by : (rest : List ℕ) → drop (prefix_len is_ascii_alphanumeric text) text ≡ rest
+        → is_parts text ≡ (is_part (take_while is_ascii_alphanumeric text) && next is_dot is_parts is_tail rest)
+    by [] e = last [] e refl refl
+    by (c ∷ rest) e = elim (cases_Bool (c == dot)) [
+      | inl dots ↦
+          let large : is_section_byte c ≡ true = ap is_section_byte (eqb-true c dot dots) in
+          let split = next_of is_ascii_alphanumeric is_section_byte run_in_section is_dot no_dot_in_run text c rest e dots large in
+          let more : drop (prefix_len is_section_byte text) text ≡ drop (prefix_len is_section_byte rest) rest =
+          sym (rest_within is_ascii_alphanumeric is_section_byte run_in_section text)
+          ∙ ap (λ (l : List ℕ). drop (prefix_len is_section_byte l) l) e ∙ (run_cons is_section_byte c rest large).1 in
+          (λ i. list_all is_part (split i) && is_tail (more i))
+          ∙ and-assoc (is_part (take_while is_ascii_alphanumeric text)) _ _
+          ∙ sym (ap (λ (b : Bool). is_part (take_while is_ascii_alphanumeric text) && (if b then is_parts rest else is_tail (c ∷ rest))) dots)
+      | inr other ↦
+          let small : is_ascii_alphanumeric c ≡ false =
+          ap (begins is_ascii_alphanumeric) (sym e) ∙ begins-drop is_ascii_alphanumeric text in
+          let large : is_section_byte c ≡ false = rw (small, other) refl in
+          last (c ∷ rest) e large (run_none is_section_byte c rest large).1
+          ∙ sym (ap (λ (b : Bool). is_part (take_while is_ascii_alphanumeric text) && (if b then is_parts rest else is_tail (c ∷ rest))) other)
+    ]
+
+pub parts_split : (text : List ℕ) → is_parts text
+    ≡ (is_part (take_while is_ascii_alphanumeric text)
+    && next is_dot is_parts is_tail (drop (prefix_len is_ascii_alphanumeric text) text))
+parts_split text = parts_by text _ refl
+
+pub dot_no_letter : (byte : ℕ) → is_dot byte ≡ true → is_ascii_alphanumeric byte ≡ false
+dot_no_letter byte e = ap is_ascii_alphanumeric (eqb-true byte dot e)
+
+pub tail_apart : (text : List ℕ) → is_tail text ≡ true
+    → (begins is_ascii_alphanumeric text ≡ false) × (begins is_dot text ≡ false)
+tail_apart text passes =
+    (tail_apart_from is_ascii_alphanumeric refl refl text passes, tail_apart_from is_dot refl refl text passes)
+
+module _ (text run rest : List ℕ) (run_is : run ≡ take_while is_ascii_alphanumeric text)
+    (rest_is : rest ≡ drop (prefix_len is_ascii_alphanumeric text) text) where
+  all_part : list_all is_ascii_alphanumeric run ≡ true
+  all_part = ap (list_all is_ascii_alphanumeric) run_is ∙ list_all-take_while is_ascii_alphanumeric text
+
+  pub no_part : is_part run ≡ false → IsLeft is_parts text rest
+  no_part fails = wrong_piece is_ascii_alphanumeric is_dot is_part is_parts is_tail parts_split
+      dot_no_letter tail_apart text run rest run_is rest_is fails (97 ∷ [])
+      (alone is_ascii_alphanumeric is_dot is_part is_parts is_tail parts_split
+      dot_no_letter tail_apart (run ++ 97 ∷ []) (grown is_ascii_alphanumeric refl run all_part)
+      (word is_ascii_alphanumeric refl run all_part) refl)
+
+  pub last_part : is_part run ≡ true → begins is_dot rest ≡ false → (left : List ℕ)
+      → IsLeft is_tail rest left → IsLeft is_parts text left
+  last_part = last_piece is_ascii_alphanumeric is_dot is_part is_parts is_tail parts_split
+      dot_no_letter tail_apart text run rest run_is rest_is
+
+  pub next_part : is_part run ≡ true → (more : List ℕ) → rest ≡ dot ∷ more → (left : List ℕ)
+      → IsLeft is_parts more left → IsLeft is_parts text left
+  next_part good more cut = next_piece is_ascii_alphanumeric is_dot is_part is_parts is_tail parts_split
+      dot_no_letter tail_apart text run rest run_is rest_is good dot more cut refl

@@ -1,0 +1,2 @@
+pub mod mixed
+pub mod Viable

@@ -1,0 +1,8 @@
+//! How far a text that may be no version could still become one: the length of its longest beginning that some
+//! continuation makes a version. No call allocates.
+#![tactic(auto)]
+
+mod mixed;
+mod texts;
+
+pub use mixed::mixed_length;
