@@ -1,3 +1,4 @@
 pub mod General
 pub mod Left
 pub mod Mixed
+pub mod Within

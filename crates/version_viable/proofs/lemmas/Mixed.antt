@@ -1,5 +1,5 @@
 -- What is left of a text as a version of each kind, piece by piece.
-use Rattle.std.proofs.Common.{◌≡◌, ◌==◌, ◌&&◌, ◌∙◌, ℕ, Bool, true, false, List, [], ◌∷◌, ◌++◌, ap, arith, drop, length, not, refl, subst, sym, inl, inr, if◌then◌else◌}
+use Rattle.std.proofs.Common.{◌≡◌, ◌==◌, ◌&&◌, ◌||◌, ◌∙◌, ℕ, Bool, true, false, List, [], ◌∷◌, ◌++◌, ap, arith, drop, length, not, refl, subst, sym, inl, inr}
 use Rattle.std.specs.Char.{is_ascii_alphanumeric, is_ascii_digit}
 use Rattle.std.specs.Cmp.{first_so, second_so}
 use Rattle.std.specs.List.{list_all, prefix_len, take_while}
@@ -9,16 +9,16 @@ use Rattle.std.proofs.lemmas.Bool.Decides.{nat_tests}
 use Rattle.version_rules.specs.grammar.Bytes.{dot, hyphen, is_identifier_byte, is_metadata_byte, plus}
 use Rattle.version_rules.specs.grammar.Class.{is_mark}
 use Rattle.version_rules.specs.grammar.Front.{begins}
-use Rattle.version_rules.proofs.lemmas.Front.Runs.{begins-drop, list_all-take_while}
+use Rattle.version_rules.proofs.lemmas.Front.Runs.{list_all-take_while}
 use Rattle.version_texts.specs.scan.Shape.{is_section_byte}
-use Rattle.version_texts.specs.scan.TextKind.{is_chunk, is_messy, is_metadata_tail, is_numeral, is_released, is_run, is_tail}
-use Rattle.version_texts.proofs.lemmas.scan.General.Runs.{and-false, last_piece as last_of, next_piece as next_of, run_cons, run_none, split_end, split_mark, split_other}
-use Rattle.version_texts.proofs.lemmas.scan.General.RunsWithin.{rest_within}
+use Rattle.version_texts.specs.scan.TextKind.{is_chunk, is_messy, is_metadata_tail, is_not_plus, is_numeral, is_released, is_run, is_tail}
+use Rattle.version_texts.proofs.lemmas.scan.General.Runs.{and-false, not_true, run_cons, run_none, split_end, split_mark, split_other}
 use Rattle.version_texts.proofs.lemmas.scan.TextKind.Messy.{fails_first, no_mark_in_run}
-use Rattle.version_texts.proofs.lemmas.scan.TextKind.Release.{bad_chunk, released_last, released_next}
 use Rattle.version_texts.proofs.lemmas.scan.Shape.Section.{no_dot_in_run, run_in_section}
 use Rattle.version_viable.specs.Viable.{IsLeft}
 use Rattle.version_viable.specs.mixed.Parts.{is_parts}
+use Rattle.version_texts.proofs.lemmas.order.Piece.Spelled.{identifier_no_dot}
+use Rattle.version_viable.proofs.lemmas.Within.{split_within}
 use Rattle.version_viable.proofs.lemmas.Left.{alone, at_end, behind, is_nothing, last_piece, nothing_apart, nothing_left, whole_run, run_is_run, next, next_piece, stays, unless, wrong_piece}
 
 -- ---- messy versions
@@ -158,31 +158,19 @@ is_release_chunk = is_chunk is_identifier_byte
 abbrev pub is_dot : ℕ → Bool
 is_dot b = b == dot
 
-released_by : (text rest : List ℕ) → drop (prefix_len is_identifier_byte text) text ≡ rest
-    → is_released text
-    ≡ (is_release_chunk (take_while is_identifier_byte text) && next is_dot is_released is_metadata_tail rest)
-released_by text rest e = elim (cases_Bool (is_release_chunk (take_while is_identifier_byte text))) [
-  | inr bad ↦ bad_chunk text bad ∙ sym (ap (λ (b : Bool). b && next is_dot is_released is_metadata_tail rest) bad)
-  | inl good ↦ by good rest e ∙ sym (ap (λ (b : Bool). b && next is_dot is_released is_metadata_tail rest) good)
-]
-  where
-    by : is_release_chunk (take_while is_identifier_byte text) ≡ true → (rest : List ℕ)
-        → drop (prefix_len is_identifier_byte text) text ≡ rest
-        → is_released text ≡ next is_dot is_released is_metadata_tail rest
-    by good [] e = released_last text good [] e refl
-    by good (c ∷ rest) e = elim (cases_Bool (c == dot)) [
-      | inl dots ↦
-          released_next text good rest (e ∙ ap (λ (b : ℕ). b ∷ rest) (eqb-true c dot dots))
-          ∙ sym (ap (λ (b : Bool). if b then is_released rest else is_metadata_tail (c ∷ rest)) dots)
-      | inr other ↦
-          released_last text good (c ∷ rest) e other
-          ∙ sym (ap (λ (b : Bool). if b then is_released rest else is_metadata_tail (c ∷ rest)) other)
-    ]
-
 released_split : (text : List ℕ) → is_released text
     ≡ (is_release_chunk (take_while is_identifier_byte text)
     && next is_dot is_released is_metadata_tail (drop (prefix_len is_identifier_byte text) text))
-released_split text = released_by text _ refl
+released_split = split_within is_identifier_byte is_not_plus is_dot is_release_chunk is_metadata_tail no_plus
+    (λ byte e. ap is_not_plus (eqb-true byte dot e)) identifier_no_dot
+    (λ piece e. ap (λ (b : Bool). b && (is_numeral piece || not (list_all is_ascii_digit piece))) (and-false (not (length piece == 0)) _ e))
+    no_plus_tail
+  where
+    no_plus : (byte : ℕ) → is_identifier_byte byte ≡ true → is_not_plus byte ≡ true
+    no_plus byte h = grind (arith, nat_tests)
+
+    no_plus_tail : (byte : ℕ) (text : List ℕ) → is_not_plus byte ≡ true → is_metadata_tail (byte ∷ text) ≡ false
+    no_plus_tail byte text e = rw (not_true (byte == plus) e) refl
 
 dot_no_identifier : (byte : ℕ) → is_dot byte ≡ true → is_identifier_byte byte ≡ false
 dot_no_identifier byte e = ap is_identifier_byte (eqb-true byte dot e)
@@ -241,55 +229,19 @@ tail_apart_from test no_hyphen no_plus (byte ∷ text) passes = elim (cases_Bool
 abbrev pub is_part : List ℕ → Bool
 is_part = is_chunk is_ascii_alphanumeric
 
-pub and-assoc : (p q r : Bool) → ((p && q) && r) ≡ (p && (q && r))
-and-assoc true q r = refl
-and-assoc false q r = refl
-
-and-true : (p : Bool) → (p && true) ≡ p
-and-true true = refl
-and-true false = refl
-
-parts_by : (text rest : List ℕ) → drop (prefix_len is_ascii_alphanumeric text) text ≡ rest
-    → is_parts text ≡ (is_part (take_while is_ascii_alphanumeric text) && next is_dot is_parts is_tail rest)
-parts_by text rest e = by rest e
-  where
-    last : (rest : List ℕ) → drop (prefix_len is_ascii_alphanumeric text) text ≡ rest → begins is_section_byte rest ≡ false
-        → drop (prefix_len is_section_byte rest) rest ≡ rest
-        → is_parts text ≡ (is_part (take_while is_ascii_alphanumeric text) && is_tail rest)
-    last rest e ends stays =
-        let split = last_of is_ascii_alphanumeric is_section_byte run_in_section is_dot no_dot_in_run text
-        (ap (begins is_section_byte) e ∙ ends) in
-        let more : drop (prefix_len is_section_byte text) text ≡ rest =
-        sym (rest_within is_ascii_alphanumeric is_section_byte run_in_section text)
-        ∙ ap (λ (l : List ℕ). drop (prefix_len is_section_byte l) l) e ∙ stays in
-        (λ i. list_all is_part (split i) && is_tail (more i))
-        ∙ ap (λ (b : Bool). b && is_tail rest) (and-true (is_part (take_while is_ascii_alphanumeric text)))
-
-    by : (rest : List ℕ) → drop (prefix_len is_ascii_alphanumeric text) text ≡ rest
-        → is_parts text ≡ (is_part (take_while is_ascii_alphanumeric text) && next is_dot is_parts is_tail rest)
-    by [] e = last [] e refl refl
-    by (c ∷ rest) e = elim (cases_Bool (c == dot)) [
-      | inl dots ↦
-          let large : is_section_byte c ≡ true = ap is_section_byte (eqb-true c dot dots) in
-          let split = next_of is_ascii_alphanumeric is_section_byte run_in_section is_dot no_dot_in_run text c rest e dots large in
-          let more : drop (prefix_len is_section_byte text) text ≡ drop (prefix_len is_section_byte rest) rest =
-          sym (rest_within is_ascii_alphanumeric is_section_byte run_in_section text)
-          ∙ ap (λ (l : List ℕ). drop (prefix_len is_section_byte l) l) e ∙ (run_cons is_section_byte c rest large).1 in
-          (λ i. list_all is_part (split i) && is_tail (more i))
-          ∙ and-assoc (is_part (take_while is_ascii_alphanumeric text)) _ _
-          ∙ sym (ap (λ (b : Bool). is_part (take_while is_ascii_alphanumeric text) && (if b then is_parts rest else is_tail (c ∷ rest))) dots)
-      | inr other ↦
-          let small : is_ascii_alphanumeric c ≡ false =
-          ap (begins is_ascii_alphanumeric) (sym e) ∙ begins-drop is_ascii_alphanumeric text in
-          let large : is_section_byte c ≡ false = rw (small, other) refl in
-          last (c ∷ rest) e large (run_none is_section_byte c rest large).1
-          ∙ sym (ap (λ (b : Bool). is_part (take_while is_ascii_alphanumeric text) && (if b then is_parts rest else is_tail (c ∷ rest))) other)
-    ]
-
 pub parts_split : (text : List ℕ) → is_parts text
     ≡ (is_part (take_while is_ascii_alphanumeric text)
     && next is_dot is_parts is_tail (drop (prefix_len is_ascii_alphanumeric text) text))
-parts_split text = parts_by text _ refl
+parts_split = split_within is_ascii_alphanumeric is_section_byte is_dot is_part is_tail run_in_section
+    (λ byte e. or_right (is_ascii_alphanumeric byte) _ e) no_dot_in_run
+    (λ piece e. ap (λ (b : Bool). b && (is_numeral piece || not (list_all is_ascii_digit piece))) (and-false (not (length piece == 0)) _ e))
+    inside
+  where
+    inside : (byte : ℕ) (text : List ℕ) → is_section_byte byte ≡ true → is_tail (byte ∷ text) ≡ false
+    inside byte text e = elim (cases_Bool (is_tail (byte ∷ text))) [
+      | inr none ↦ none
+      | inl tail ↦ cc (sym e ∙ tail_apart_from is_section_byte refl refl (byte ∷ text) tail)
+    ]
 
 pub dot_no_letter : (byte : ℕ) → is_dot byte ≡ true → is_ascii_alphanumeric byte ≡ false
 dot_no_letter byte e = ap is_ascii_alphanumeric (eqb-true byte dot e)
