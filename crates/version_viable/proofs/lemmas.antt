@@ -1,4 +1,5 @@
 pub mod General
 pub mod Left
 pub mod Mixed
+pub mod SemVer
 pub mod Within

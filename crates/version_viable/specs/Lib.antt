@@ -1,2 +1,3 @@
 pub mod mixed
+pub mod semver
 pub mod Viable

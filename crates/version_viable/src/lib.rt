@@ -3,6 +3,8 @@
 #![tactic(auto)]
 
 mod mixed;
+mod semver;
 mod texts;
 
 pub use mixed::mixed_length;
+pub use semver::semver_length;

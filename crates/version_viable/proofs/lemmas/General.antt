@@ -150,7 +150,7 @@ more_no_colon run (c ∷ text) passes = elim (cases_Bool (ends_epoch run c)) [
   | inr other ↦ other
   | inl ends ↦
       let here : c ≡ colon = eqb-true c colon (second_so (is_digits run) _ ends) in
-      cc (sym passes ∙ ap (λ (b : ℕ). more (b ∷ text)) here)
+      cc (rw here at passes)
 ]
 
 first_closed : (run text : List ℕ) → first_by run text ≡ true → begins is_ascii_alphanumeric text ≡ false

@@ -5,7 +5,7 @@ use Rattle.version_rules.specs.grammar.Front.{begins}
 use Rattle.version_rules.proofs.lemmas.Front.Runs.{begins-drop, list_all-take_while, prefix_len-append, take_while-all}
 use Rattle.std.proofs.lemmas.Bool.{cases_Bool, or_left}
 use Rattle.std.specs.Cmp.{second_so}
-use Rattle.std.proofs.lemmas.List.{drop_at, take-append-drop, take_at}
+use Rattle.std.proofs.lemmas.List.{drop_at, length-drop, take-append-drop, take_all, take_at}
 use Rattle.version_texts.specs.scan.TextKind.{is_run}
 use Rattle.version_texts.proofs.lemmas.scan.General.Runs.{run_cons, run_none}
 use Rattle.version_viable.specs.Viable.{IsLeft, IsLongestViable, IsViable}
@@ -331,3 +331,8 @@ longest test text left is =
     omega (arith, ap (λ (l : List ℕ). length l) is.whole, length-append is.begun left) in
     subst (λ (l : List ℕ). IsLongestViable test l (length text - length left)) (sym is.whole)
     (subst (IsLongestViable test (is.begun ++ left)) count (as_length test is.begun left is.viable is.stuck))
+
+-- ---- slices
+
+pub behind_first : (text : List ℕ) → take (length text - 1) (drop 1 text) ≡ drop 1 text
+behind_first text = take_all (length text - 1) (drop 1 text) (omega (arith, length-drop 1 text))

@@ -12,13 +12,13 @@ use Rattle.version_rules.specs.grammar.Front.{begins}
 use Rattle.version_rules.proofs.lemmas.Front.Runs.{list_all-take_while}
 use Rattle.version_texts.specs.scan.Shape.{is_section_byte}
 use Rattle.version_texts.specs.scan.TextKind.{is_chunk, is_messy, is_metadata_tail, is_not_plus, is_numeral, is_released, is_run, is_tail}
-use Rattle.version_texts.proofs.lemmas.scan.General.Runs.{and-false, not_true, run_cons, run_none, split_end, split_mark, split_other}
-use Rattle.version_texts.proofs.lemmas.scan.TextKind.Messy.{fails_first, no_mark_in_run}
+use Rattle.version_texts.proofs.lemmas.scan.General.Runs.{and-false, not_true, run_cons, run_none}
+use Rattle.version_texts.proofs.lemmas.scan.TextKind.Messy.{no_mark_in_run}
 use Rattle.version_texts.proofs.lemmas.scan.Shape.Section.{no_dot_in_run, run_in_section}
 use Rattle.version_viable.specs.Viable.{IsLeft}
 use Rattle.version_viable.specs.mixed.Parts.{is_parts}
 use Rattle.version_texts.proofs.lemmas.order.Piece.Spelled.{identifier_no_dot}
-use Rattle.version_viable.proofs.lemmas.Within.{split_within}
+use Rattle.version_viable.proofs.lemmas.Within.{split_pieces, split_within}
 use Rattle.version_viable.proofs.lemmas.Left.{alone, at_end, behind, is_nothing, last_piece, nothing_apart, nothing_left, whole_run, run_is_run, next, next_piece, stays, unless, wrong_piece}
 
 -- ---- messy versions
@@ -26,22 +26,11 @@ use Rattle.version_viable.proofs.lemmas.Left.{alone, at_end, behind, is_nothing,
 abbrev is_letter_run : List ℕ → Bool
 is_letter_run = is_run is_ascii_alphanumeric
 
-messy_by : (text rest : List ℕ) → drop (prefix_len is_ascii_alphanumeric text) text ≡ rest
-    → is_messy text ≡ (is_letter_run (take_while is_ascii_alphanumeric text) && next is_mark is_messy is_nothing rest)
-messy_by text [] e = rw (split_end is_ascii_alphanumeric is_mark no_mark_in_run text e) refl
-messy_by text (c ∷ rest) e = elim (cases_Bool (is_mark c)) [
-  | inl marked ↦
-      rw (split_mark is_ascii_alphanumeric is_mark no_mark_in_run text c rest e marked, marked) refl
-  | inr other ↦
-      let more = split_other is_ascii_alphanumeric is_mark no_mark_in_run text c rest e other in
-      fails_first is_letter_run _ more.1 more.0 more.2 (and-false _ _ more.3)
-      ∙ sym (and-false _ (next is_mark is_messy is_nothing (c ∷ rest)) (rw other refl))
-]
-
 messy_split : (text : List ℕ) → is_messy text
     ≡ (is_letter_run (take_while is_ascii_alphanumeric text)
     && next is_mark is_messy is_nothing (drop (prefix_len is_ascii_alphanumeric text) text))
-messy_split text = messy_by text _ refl
+messy_split = split_pieces is_ascii_alphanumeric is_mark is_letter_run no_mark_in_run
+    (λ piece e. and-false (not (length piece == 0)) _ e)
 
 mark_apart : (byte : ℕ) → is_mark byte ≡ true → is_ascii_alphanumeric byte ≡ false
 mark_apart byte h = grind (arith, nat_tests)
@@ -135,11 +124,11 @@ pub grown : (test : ℕ → Bool) → test 97 ≡ true → (run : List ℕ) → 
 grown test letter [] e = rw letter refl
 grown test letter (b ∷ run) e = and_from _ _ (first_so _ _ e) (grown test letter run (second_so (test b) _ e))
 
-no_digits : (run : List ℕ) → list_all is_ascii_digit (run ++ 97 ∷ []) ≡ false
+pub no_digits : (run : List ℕ) → list_all is_ascii_digit (run ++ 97 ∷ []) ≡ false
 no_digits [] = refl
 no_digits (b ∷ run) = and-false (is_ascii_digit b) _ (no_digits run)
 
-some_bytes : (run : List ℕ) → (length (run ++ 97 ∷ []) == 0) ≡ false
+pub some_bytes : (run : List ℕ) → (length (run ++ 97 ∷ []) == 0) ≡ false
 some_bytes [] = refl
 some_bytes (b ∷ run) = eqb-suc-zero (length (run ++ 97 ∷ []))
 

@@ -3,17 +3,44 @@ use Rattle.std.proofs.Common.{◌≡◌, ◌&&◌, ◌∙◌, ℕ, Bool, true, f
 use Rattle.std.proofs.lemmas.Bool.{cases_Bool}
 use Rattle.std.specs.List.{list_all, prefix_len, slice_split, take_while}
 use Rattle.version_rules.specs.grammar.Front.{begins}
-use Rattle.version_texts.proofs.lemmas.scan.General.Runs.{and-false, last_piece, next_piece, other_piece, run_cons, run_none}
+use Rattle.version_texts.proofs.lemmas.scan.General.Runs.{and-false, last_piece, next_piece, other_piece, run_cons, run_none, split_end, split_mark, split_other}
 use Rattle.version_texts.proofs.lemmas.scan.General.RunsWithin.{rest_within}
-use Rattle.version_viable.proofs.lemmas.Left.{next}
+use Rattle.version_viable.proofs.lemmas.Left.{is_nothing, next}
 
 pub and-assoc : (p q r : Bool) → ((p && q) && r) ≡ (p && (q && r))
 and-assoc true q r = refl
 and-assoc false q r = refl
 
-and-true : (p : Bool) → (p && true) ≡ p
+pub and-true : (p : Bool) → (p && true) ≡ p
 and-true true = refl
 and-true false = refl
+
+-- pieces to the end of the text
+module _ (small mark : ℕ → Bool) (good : List ℕ → Bool) (apart : (byte : ℕ) → small byte ≡ true → mark byte ≡ false)
+    (good_all : (piece : List ℕ) → list_all small piece ≡ false → good piece ≡ false) where
+  abbrev pub all_pieces : List ℕ → Bool
+  all_pieces text = list_all good (slice_split mark text)
+
+  module _ (text : List ℕ) where
+    abbrev piece : List ℕ
+    piece = take_while small text
+
+    by_end : (rest : List ℕ) → drop (prefix_len small text) text ≡ rest
+        → all_pieces text ≡ (good piece && next mark all_pieces is_nothing rest)
+    by_end [] e = ap (list_all good) (split_end small mark apart text e)
+    by_end (c ∷ rest) e = elim (cases_Bool (mark c)) [
+      | inl marked ↦
+          ap (list_all good) (split_mark small mark apart text c rest e marked)
+          ∙ sym (ap (λ (b : Bool). good piece && (if b then all_pieces rest else false)) marked)
+      | inr other ↦
+          let more = split_other small mark apart text c rest e other in
+          ap (list_all good) more.2 ∙ ap (λ (b : Bool). b && list_all good more.1) (good_all more.0 more.3)
+          ∙ sym (ap (λ (b : Bool). good piece && (if b then all_pieces rest else false)) other
+          ∙ and-false (good piece) false refl)
+    ]
+
+    pub split_pieces : all_pieces text ≡ (good piece && next mark all_pieces is_nothing (drop (prefix_len small text) text))
+    split_pieces = by_end _ refl
 
 module _ (small large mark : ℕ → Bool) (good tail : List ℕ → Bool)
     (within : (byte : ℕ) → small byte ≡ true → large byte ≡ true)
