@@ -1,3 +1,6 @@
+pub mod Bytes
+pub mod deb
 pub mod mixed
+pub mod rpm
 pub mod semver
 pub mod Viable

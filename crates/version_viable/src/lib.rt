@@ -2,9 +2,14 @@
 //! continuation makes a version. No call allocates.
 #![tactic(auto)]
 
+mod bytes;
+mod deb;
 mod mixed;
+mod rpm;
 mod semver;
 mod texts;
 
+pub use deb::deb_length;
 pub use mixed::mixed_length;
+pub use rpm::rpm_length;
 pub use semver::semver_length;

@@ -25,9 +25,9 @@ use Rattle.version_texts.proofs.lemmas.scan.Shape.Section.{run_in_section}
 use Rattle.version_texts.proofs.lemmas.scan.TextKind.Runs.{chunk_digits}
 use Rattle.version_viable.specs.Viable.{IsLeft}
 use Rattle.version_viable.specs.mixed.Parts.{is_parts}
-use Rattle.version_viable.proofs.lemmas.Left.{after_run, at_end, behind, last_rest, next, next_closed, next_rest, next_tail, nothing_nil, unless, whole_run}
+use Rattle.version_viable.proofs.lemmas.Left.{after_run, at_end, grown, behind, last_rest, next, next_closed, next_rest, next_tail, nothing_nil, unless, whole_run}
 use Rattle.version_viable.proofs.lemmas.Within.{and-assoc}
-use Rattle.version_viable.proofs.lemmas.Mixed.{dot_no_letter, grown, is_dot, is_part, parts_split, tail_apart, word}
+use Rattle.version_viable.proofs.lemmas.Mixed.{dot_no_letter, is_dot, is_part, parts_split, tail_apart, word}
 
 -- an epoch, if there is one, and what follows it
 general_parts : (text : List ℕ) → is_general text ≡ (epoch_is_numeral text && is_parts (from_body text))

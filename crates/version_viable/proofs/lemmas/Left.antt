@@ -1,13 +1,14 @@
 -- What is left of a text after its longest viable beginning, piece by piece.
-use Rattle.std.proofs.Common.{◌≡◌, ◌==◌, ◌&&◌, ◌||◌, ◌-◌, ◌<◌, ◌≤◌, ◌∙◌, ℕ, Bool, true, false, List, [], ◌∷◌, ◌++◌, ap, append_assoc, arith, drop, length, length-append, refl, subst, suc, sym, take, if◌then◌else◌, inl, inr}
+use Rattle.std.proofs.Common.{◌≡◌, ◌==◌, ◌&&◌, ◌||◌, ◌-◌, ◌<◌, ◌≤◌, ◌∙◌, ℕ, Bool, true, false, List, [], ◌∷◌, ◌++◌, ap, append_assoc, arith, drop, length, length-append, not, refl, subst, suc, sym, take, if◌then◌else◌, inl, inr}
 use Rattle.std.specs.List.{list_all, prefix_len, take_while}
 use Rattle.version_rules.specs.grammar.Front.{begins}
 use Rattle.version_rules.proofs.lemmas.Front.Runs.{begins-drop, list_all-take_while, prefix_len-append, take_while-all}
-use Rattle.std.proofs.lemmas.Bool.{cases_Bool, or_left}
-use Rattle.std.specs.Cmp.{second_so}
+use Rattle.std.proofs.Math.Dec.{eqb-suc-zero}
+use Rattle.std.proofs.lemmas.Bool.{and_from, cases_Bool, or_left}
+use Rattle.std.specs.Cmp.{first_so, second_so}
 use Rattle.std.proofs.lemmas.List.{drop_at, length-drop, take-append-drop, take_all, take_at}
 use Rattle.version_texts.specs.scan.TextKind.{is_run}
-use Rattle.version_texts.proofs.lemmas.scan.General.Runs.{run_cons, run_none}
+use Rattle.version_texts.proofs.lemmas.scan.General.Runs.{and-false, run_cons, run_none}
 use Rattle.version_viable.specs.Viable.{IsLeft, IsLongestViable, IsViable}
 
 -- a test that holds of the same texts
@@ -158,6 +159,44 @@ whole_run test (b ∷ text) = elim (cases_Bool (test b)) [
 pub run_is_run : (test : ℕ → Bool) (run : List ℕ) → list_all test run ≡ true → (length run == 0) ≡ false
     → is_run test run ≡ true
 run_is_run test run all some = rw (some, all) refl
+
+pub run_split : (test : ℕ → Bool) (text : List ℕ) → is_run test text
+    ≡ (not (length (take_while test text) == 0) && is_nothing (drop (prefix_len test text) text))
+run_split test [] = refl
+run_split test (byte ∷ text) = elim (cases_Bool (test byte)) [
+  | inl passes ↦
+      let step = run_cons test byte text passes in
+      let here : is_run test (byte ∷ text) ≡ list_all test text = rw (eqb-suc-zero (length text), passes) refl in
+      let some : (length (take_while test (byte ∷ text)) == 0) ≡ false =
+      ap (λ (l : List ℕ). length l == 0) step.0 ∙ eqb-suc-zero (length (take_while test text)) in
+      here ∙ whole_run test text ∙ ap is_nothing (sym step.1)
+      ∙ sym (ap (λ (b : Bool). not b && is_nothing (drop (prefix_len test (byte ∷ text)) (byte ∷ text))) some)
+  | inr fails ↦
+      let step = run_none test byte text fails in
+      let none : (length (take_while test (byte ∷ text)) == 0) ≡ true =
+      ap (λ (l : List ℕ). length l == 0) step.0 in
+      and-false (not (length (byte ∷ text) == 0)) _ (rw fails refl)
+      ∙ sym (ap (λ (b : Bool). not b && is_nothing (drop (prefix_len test (byte ∷ text)) (byte ∷ text))) none)
+]
+
+pub grown : (test : ℕ → Bool) → test 97 ≡ true → (run : List ℕ) → list_all test run ≡ true
+    → list_all test (run ++ 97 ∷ []) ≡ true
+grown test letter [] e = rw letter refl
+grown test letter (b ∷ run) e = and_from _ _ (first_so _ _ e) (grown test letter run (second_so (test b) _ e))
+
+-- a run, to the end
+pub run_left : (test : ℕ → Bool) → test 97 ≡ true → (text run rest : List ℕ) → run ≡ take_while test text
+    → rest ≡ drop (prefix_len test text) text → IsLeft (is_run test) text rest
+run_left test letter text run rest run_is rest_is =
+    at_end test (is_run test) (λ run rest. not (length run == 0) && is_nothing rest) (run_split test)
+    text run rest run_is rest_is (97 ∷ []) (by run all_pass) (λ byte after e t. and-false _ _ refl)
+  where
+    all_pass : list_all test run ≡ true
+    all_pass = ap (list_all test) run_is ∙ list_all-take_while test text
+
+    by : (l : List ℕ) → list_all test l ≡ true → is_run test (l ++ 97 ∷ []) ≡ true
+    by [] e = run_is_run test (97 ∷ []) (grown test letter [] e) refl
+    by (b ∷ l) e = run_is_run test (b ∷ (l ++ 97 ∷ [])) (grown test letter (b ∷ l) e) (eqb-suc-zero (length (l ++ 97 ∷ [])))
 
 pub nothing_nil : (text : List ℕ) → is_nothing text ≡ true → text ≡ []
 nothing_nil [] e = refl

@@ -1,7 +1,7 @@
 -- What is left of a text as a version of each kind, piece by piece.
 use Rattle.std.proofs.Common.{◌≡◌, ◌==◌, ◌&&◌, ◌||◌, ◌∙◌, ℕ, Bool, true, false, List, [], ◌∷◌, ◌++◌, ap, arith, drop, length, not, refl, subst, sym, inl, inr}
 use Rattle.std.specs.Char.{is_ascii_alphanumeric, is_ascii_digit}
-use Rattle.std.specs.Cmp.{first_so, second_so}
+use Rattle.std.specs.Cmp.{first_so}
 use Rattle.std.specs.List.{list_all, prefix_len, take_while}
 use Rattle.std.proofs.lemmas.Bool.{and_from, cases_Bool, eqb-true, or_right}
 use Rattle.std.proofs.Math.Dec.{eqb-suc-zero}
@@ -12,14 +12,14 @@ use Rattle.version_rules.specs.grammar.Front.{begins}
 use Rattle.version_rules.proofs.lemmas.Front.Runs.{list_all-take_while}
 use Rattle.version_texts.specs.scan.Shape.{is_section_byte}
 use Rattle.version_texts.specs.scan.TextKind.{is_chunk, is_messy, is_metadata_tail, is_not_plus, is_numeral, is_released, is_run, is_tail}
-use Rattle.version_texts.proofs.lemmas.scan.General.Runs.{and-false, not_true, run_cons, run_none}
+use Rattle.version_texts.proofs.lemmas.scan.General.Runs.{and-false, not_true}
 use Rattle.version_texts.proofs.lemmas.scan.TextKind.Messy.{no_mark_in_run}
 use Rattle.version_texts.proofs.lemmas.scan.Shape.Section.{no_dot_in_run, run_in_section}
 use Rattle.version_viable.specs.Viable.{IsLeft}
 use Rattle.version_viable.specs.mixed.Parts.{is_parts}
 use Rattle.version_texts.proofs.lemmas.order.Piece.Spelled.{identifier_no_dot}
 use Rattle.version_viable.proofs.lemmas.Within.{split_pieces, split_within}
-use Rattle.version_viable.proofs.lemmas.Left.{alone, at_end, behind, is_nothing, last_piece, nothing_apart, nothing_left, whole_run, run_is_run, next, next_piece, stays, unless, wrong_piece}
+use Rattle.version_viable.proofs.lemmas.Left.{alone, grown, run_left, behind, is_nothing, last_piece, nothing_apart, nothing_left, run_is_run, next, next_piece, stays, unless, wrong_piece}
 
 -- ---- messy versions
 
@@ -74,55 +74,14 @@ no_metadata text none = stays is_metadata_tail text [] refl (by text none)
         → (more : List ℕ) → is_metadata_tail (byte ∷ more) ≡ false
     by l e byte after f more = rw (rw f at e) refl
 
-metadata_split : (text : List ℕ) → is_run is_metadata_byte text
-    ≡ (not (length (take_while is_metadata_byte text) == 0) && is_nothing (drop (prefix_len is_metadata_byte text) text))
-metadata_split [] = refl
-metadata_split (byte ∷ text) = elim (cases_Bool (is_metadata_byte byte)) [
-  | inl passes ↦
-      let step = run_cons is_metadata_byte byte text passes in
-      let here : is_run is_metadata_byte (byte ∷ text) ≡ list_all is_metadata_byte text = rw (eqb-suc-zero (length text), passes) refl in
-      let some : (length (take_while is_metadata_byte (byte ∷ text)) == 0) ≡ false =
-      ap (λ (l : List ℕ). length l == 0) step.0 ∙ eqb-suc-zero (length (take_while is_metadata_byte text)) in
-      here ∙ whole_run is_metadata_byte text ∙ ap is_nothing (sym step.1)
-      ∙ sym (ap (λ (b : Bool). not b && is_nothing (drop (prefix_len is_metadata_byte (byte ∷ text)) (byte ∷ text))) some)
-  | inr fails ↦
-      let step = run_none is_metadata_byte byte text fails in
-      let none : (length (take_while is_metadata_byte (byte ∷ text)) == 0) ≡ true =
-      ap (λ (l : List ℕ). length l == 0) step.0 in
-      and-false (not (length (byte ∷ text) == 0)) _ (rw fails refl)
-      ∙ sym (ap (λ (b : Bool). not b && is_nothing (drop (prefix_len is_metadata_byte (byte ∷ text)) (byte ∷ text))) none)
-]
-
-metadata_run : (text run rest : List ℕ) → run ≡ take_while is_metadata_byte text
-    → rest ≡ drop (prefix_len is_metadata_byte text) text → IsLeft (is_run is_metadata_byte) text rest
-metadata_run text run rest run_is rest_is =
-    at_end is_metadata_byte (is_run is_metadata_byte) (λ run rest. not (length run == 0) && is_nothing rest) metadata_split
-    text run rest run_is rest_is (97 ∷ []) (by run all) (λ byte after e t. and-false _ _ refl)
-  where
-    all : list_all is_metadata_byte run ≡ true
-    all = ap (list_all is_metadata_byte) run_is ∙ list_all-take_while is_metadata_byte text
-
-    grown : (l : List ℕ) → list_all is_metadata_byte l ≡ true → list_all is_metadata_byte (l ++ 97 ∷ []) ≡ true
-    grown [] e = refl
-    grown (b ∷ l) e = and_from _ _ (first_so _ _ e) (grown l (second_so (is_metadata_byte b) _ e))
-
-    by : (l : List ℕ) → list_all is_metadata_byte l ≡ true → is_run is_metadata_byte (l ++ 97 ∷ []) ≡ true
-    by [] e = refl
-    by (b ∷ l) e = run_is_run is_metadata_byte (b ∷ (l ++ 97 ∷ [])) (grown (b ∷ l) e) (eqb-suc-zero (length (l ++ 97 ∷ [])))
-
 pub some_metadata : (text behind run rest : List ℕ) → text ≡ plus ∷ behind → run ≡ take_while is_metadata_byte behind
     → rest ≡ drop (prefix_len is_metadata_byte behind) behind → IsLeft is_metadata_tail text rest
 some_metadata text more run rest cut run_is rest_is =
     subst (λ (l : List ℕ). IsLeft is_metadata_tail l rest) (sym cut)
     (behind is_metadata_tail (is_run is_metadata_byte) (plus ∷ []) (λ t. refl) more rest
-    (metadata_run more run rest run_is rest_is))
+    (run_left is_metadata_byte refl more run rest run_is rest_is))
 
 -- ---- chunks
-
-pub grown : (test : ℕ → Bool) → test 97 ≡ true → (run : List ℕ) → list_all test run ≡ true
-    → list_all test (run ++ 97 ∷ []) ≡ true
-grown test letter [] e = rw letter refl
-grown test letter (b ∷ run) e = and_from _ _ (first_so _ _ e) (grown test letter run (second_so (test b) _ e))
 
 pub no_digits : (run : List ℕ) → list_all is_ascii_digit (run ++ 97 ∷ []) ≡ false
 no_digits [] = refl

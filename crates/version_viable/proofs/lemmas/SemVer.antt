@@ -27,8 +27,8 @@ use Rattle.version_schemes.specs.semver.Reading.{behind_core, core_pieces, is_of
 use Rattle.version_schemes.specs.semver.Texts.{is_chunk, is_identifier, is_number, of_numbers, of_three, semver_of}
 use Rattle.version_viable.specs.Viable.{IsLeft}
 use Rattle.version_viable.specs.semver.Core.{is_core, is_metadata, is_metadata_tail, is_pre_release, is_tail}
-use Rattle.version_viable.proofs.lemmas.Left.{after_run, alone, behind, is_nothing, last_piece, next, next_piece, nothing_apart, nothing_left, run_is_run, same, stays, wrong_piece}
-use Rattle.version_viable.proofs.lemmas.Mixed.{grown, no_digits, some_bytes}
+use Rattle.version_viable.proofs.lemmas.Left.{after_run, alone, grown, behind, is_nothing, last_piece, next, next_piece, nothing_apart, nothing_left, run_is_run, same, stays, wrong_piece}
+use Rattle.version_viable.proofs.lemmas.Mixed.{no_digits, some_bytes}
 use Rattle.version_viable.proofs.lemmas.Within.{and-assoc, and-true, split_pieces, split_within}
 
 abbrev cut_by : List ℕ → List ℕ → Option (List ℕ × List ℕ)
