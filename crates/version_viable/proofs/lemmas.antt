@@ -1,5 +1,6 @@
 pub mod Cuts
 pub mod Deb
+pub mod Gem
 pub mod General
 pub mod Left
 pub mod Mixed

@@ -13,6 +13,10 @@ pub(crate) enum Bytes {
     Upstream,
     /// The same without the colon.
     BeforeColon,
+    /// The blanks of RubyGems.
+    GemBlank,
+    /// The blanks of Python, in ASCII.
+    PypiBlank,
 }
 
 impl Bytes {
@@ -28,6 +32,8 @@ impl Bytes {
             Bytes::Upstream => {
                 byte.is_ascii_alphanumeric() || matches!(byte, b'+' | b'.' | b'~' | b'-' | b':')
             }
+            Bytes::GemBlank => matches!(byte, 9..=13 | 32),
+            Bytes::PypiBlank => matches!(byte, 9..=13 | 28..=32),
             Bytes::BeforeColon => {
                 byte.is_ascii_alphanumeric() || matches!(byte, b'+' | b'.' | b'~' | b'-')
             }

@@ -4,12 +4,14 @@
 
 mod bytes;
 mod deb;
+mod gem;
 mod mixed;
 mod rpm;
 mod semver;
 mod texts;
 
 pub use deb::deb_length;
+pub use gem::gem_length;
 pub use mixed::mixed_length;
 pub use rpm::rpm_length;
 pub use semver::semver_length;

@@ -1,8 +1,9 @@
 -- Texts cut at a byte that their front does not have.
-use Rattle.std.proofs.Common.{◌≡◌, ◌==◌, ◌∙◌, ℕ, Bool, true, false, List, [], ◌∷◌, ◌++◌, Option, None, Some, ap, inl, inr, refl, sym}
+use Rattle.std.proofs.Common.{◌≡◌, ◌==◌, ◌∙◌, ℕ, Bool, true, false, List, [], ◌∷◌, ◌++◌, Option, None, Some, ap, drop, inl, inr, not, refl, sym}
 use Rattle.std.proofs.lemmas.Bool.{cases_Bool, eqb-true}
 use Rattle.std.specs.Cmp.{first_so, second_so}
-use Rattle.std.specs.List.{list_all}
+use Rattle.std.specs.List.{list_all, prefix_len, take_while}
+use Rattle.version_texts.proofs.lemmas.scan.General.Runs.{run_cons, run_none}
 use Rattle.std.specs.Option.{option_map, option_or}
 use Rattle.version_schemes.specs.Texts.{cut_first, cut_last}
 
@@ -55,4 +56,36 @@ not_all test [] rest byte fails = rw fails refl
 not_all test (first ∷ front) rest byte fails = elim (cases_Bool (test first)) [
   | inl passes ↦ rw (passes, not_all test front rest byte fails) refl
   | inr other ↦ rw other refl
+]
+
+-- ---- by the run before the byte
+
+abbrev pub cut_by : List ℕ → List ℕ → Option (List ℕ × List ℕ)
+cut_by front [] = None
+cut_by front (byte ∷ rest) = Some (front, rest)
+
+grown_cut : (byte : ℕ) (front rest : List ℕ)
+    → option_map (λ (cut : List ℕ × List ℕ). (byte ∷ cut.0, cut.1)) (cut_by front rest) ≡ cut_by (byte ∷ front) rest
+grown_cut byte front [] = refl
+grown_cut byte front (b ∷ rest) = refl
+
+-- a text cut at its first byte of a kind
+pub cutting : (at : ℕ) (text rest : List ℕ) → drop (prefix_len (λ b. not (b == at)) text) text ≡ rest
+    → cut_first at text ≡ cut_by (take_while (λ b. not (b == at)) text) rest
+cutting at [] rest e = ap (cut_by []) e
+cutting at (byte ∷ text) rest e = elim (cases_Bool (byte == at)) [
+  | inl here ↦
+      let fails : not (byte == at) ≡ false = rw here refl in
+      let none = run_none (λ b. not (b == at)) byte text fails in
+      let whole : cut_first at (byte ∷ text) ≡ Some ([], text) = rw here refl in
+      whole ∙ (λ i. cut_by (sym none.0 i) ((sym none.1 ∙ e) i))
+  | inr other ↦
+      let passes : not (byte == at) ≡ true = rw other refl in
+      let some = run_cons (λ b. not (b == at)) byte text passes in
+      let more = cutting at text rest (sym some.1 ∙ e) in
+      let here : cut_first at (byte ∷ text) ≡ option_map (λ (cut : List ℕ × List ℕ). (byte ∷ cut.0, cut.1)) (cut_first at text) =
+      rw other refl in
+      here ∙ ap (option_map (λ (cut : List ℕ × List ℕ). (byte ∷ cut.0, cut.1))) more
+      ∙ grown_cut byte (take_while (λ b. not (b == at)) text) rest
+      ∙ ap (λ (l : List ℕ). cut_by l rest) (sym some.0)
 ]

@@ -7,7 +7,7 @@ use Rattle.std.proofs.lemmas.List.{take-append-drop}
 use Rattle.std.specs.Char.{is_ascii_digit}
 use Rattle.std.specs.Cmp.{first_so, second_so}
 use Rattle.std.specs.List.{list_all, prefix_len, take_while}
-use Rattle.std.specs.Option.{is_some, option_map}
+use Rattle.std.specs.Option.{is_some}
 use Rattle.std.specs.Prelude.{option_and_then}
 use Rattle.std.specs.Str.Parse.{digits_value}
 use Rattle.version_rules.proofs.lemmas.Front.Runs.{begins-drop, list_all-take_while}
@@ -22,23 +22,14 @@ use Rattle.version_texts.specs.order.Piece.{is_dot}
 use Rattle.version_texts.specs.scan.TextKind.{is_not_plus}
 use Rattle.version_schemes.proofs.lemmas.SemVer.Numbers.{last_number, next_number, no_last, no_next}
 use Rattle.version_schemes.proofs.lemmas.SemVer.Reading.{semver_read}
-use Rattle.version_schemes.specs.Texts.{cut_first}
 use Rattle.version_schemes.specs.semver.Reading.{behind_core, core_pieces, is_of_core, pre_release_of, tail_of}
 use Rattle.version_schemes.specs.semver.Texts.{is_chunk, is_identifier, is_number, of_numbers, of_three, semver_of}
 use Rattle.version_viable.specs.Viable.{IsLeft}
 use Rattle.version_viable.specs.semver.Core.{is_core, is_metadata, is_metadata_tail, is_pre_release, is_tail}
+use Rattle.version_viable.proofs.lemmas.Cuts.{cut_by, cutting}
 use Rattle.version_viable.proofs.lemmas.Left.{after_run, alone, grown, behind, is_nothing, last_piece, next, next_piece, nothing_apart, nothing_left, run_is_run, same, stays, wrong_piece}
 use Rattle.version_viable.proofs.lemmas.Mixed.{no_digits, some_bytes}
 use Rattle.version_viable.proofs.lemmas.Within.{and-assoc, and-true, split_pieces, split_within}
-
-abbrev cut_by : List ℕ → List ℕ → Option (List ℕ × List ℕ)
-cut_by front [] = None
-cut_by front (byte ∷ rest) = Some (front, rest)
-
-grown_cut : (byte : ℕ) (front rest : List ℕ)
-    → option_map (λ (cut : List ℕ × List ℕ). (byte ∷ cut.0, cut.1)) (cut_by front rest) ≡ cut_by (byte ∷ front) rest
-grown_cut byte front [] = refl
-grown_cut byte front (b ∷ rest) = refl
 
 -- ---- metadata
 
@@ -87,27 +78,6 @@ no_plus text none = stays is_metadata_tail text [] refl
     (λ byte after e more. ap (λ (b : Bool). b && is_metadata more) (ap (begins (λ b. b == plus)) (sym e) ∙ none))
 
 -- ---- pre-releases
-
--- a text cut at its first byte of a kind
-cutting : (at : ℕ) (text rest : List ℕ) → drop (prefix_len (λ b. not (b == at)) text) text ≡ rest
-    → cut_first at text ≡ cut_by (take_while (λ b. not (b == at)) text) rest
-cutting at [] rest e = ap (cut_by []) e
-cutting at (byte ∷ text) rest e = elim (cases_Bool (byte == at)) [
-  | inl here ↦
-      let fails : not (byte == at) ≡ false = rw here refl in
-      let none = run_none (λ b. not (b == at)) byte text fails in
-      let whole : cut_first at (byte ∷ text) ≡ Some ([], text) = rw here refl in
-      whole ∙ (λ i. cut_by (sym none.0 i) ((sym none.1 ∙ e) i))
-  | inr other ↦
-      let passes : not (byte == at) ≡ true = rw other refl in
-      let some = run_cons (λ b. not (b == at)) byte text passes in
-      let more = cutting at text rest (sym some.1 ∙ e) in
-      let here : cut_first at (byte ∷ text) ≡ option_map (λ (cut : List ℕ × List ℕ). (byte ∷ cut.0, cut.1)) (cut_first at text) =
-      rw other refl in
-      here ∙ ap (option_map (λ (cut : List ℕ × List ℕ). (byte ∷ cut.0, cut.1))) more
-      ∙ grown_cut byte (take_while (λ b. not (b == at)) text) rest
-      ∙ ap (λ (l : List ℕ). cut_by l rest) (sym some.0)
-]
 
 pre_release_pieces : (text : List ℕ) → is_pre_release text
     ≡ (list_all is_chunk (pieces (take_while is_not_plus text)) && is_metadata_tail (drop (prefix_len is_not_plus text) text))
