@@ -66,7 +66,7 @@ Commands:
   implies  Write yes, and end with 0, if all that is in a set is in another; else no and 1
   meets    Write yes, and end with 0, if two sets have something in common; else no and 1
   diff     Write where two versions differ first, or what changed between two lists of names
-  next     Write the version that comes next at a place, and what stands before it in a tag
+  next     Write the version that comes next, and what stands before it in a tag
 
 Options:
   -h, --help     Print help
@@ -115,7 +115,7 @@ NO_PARTS = "versions of this scheme have no parts, which ~, ^ and .* ask for"
 MORE = "\n\nFor more information, try '--help'.\n"
 OPERATORS = "[possible values: <, <=, =, >=, >, lt, le, eq, ge, gt]"
 STABILITIES = "[possible values: dev, alpha, beta, rc, stable]"
-PLACES = "[possible values: major, minor, patch, a number from 0]"
+PLACES = "[possible values: major, minor, patch, release, pre, a number from 0]"
 WITH_SCHEME = "error: the argument '--explain' cannot be used with '--scheme <NAME>'"
 WITH_SCHEME_COLUMN = "error: the argument '--scheme-column <N>' cannot be used with '--scheme <NAME>' or '--match <SET>'"
 
@@ -162,6 +162,8 @@ VERSIONS = (
     Run("meets ^1.2 '<1.1 || >=2'", "", "no\n", status=1),
     Run("next minor 1.2.5", "", "1.3.0\n"),
     Run("next minor --tags v1.2.5 tool-2.0", "", "v1.3.0\ntool-2.1\n"),
+    Run("next release --tags v1.2.3-rc.1 tool-2.0", "", "v1.2.3\ntool-2.1\n"),
+    Run("next pre --word rc --tags v1.2.3 1.2.3-beta.2", "", "v1.2.4-rc.1\n1.2.3-rc.1\n"),
     Run("sort --header", "name of it\n1.10\n1.9\n", "name of it\n1.9\n1.10\n"),
     Run("test 1.10 gt 1.9"),
     Run("test 1.10 ^1.2"),

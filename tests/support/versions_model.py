@@ -14,7 +14,8 @@ from tasks import stability_of_words, text_after_prefix, text_in_tag
 STABILITIES = ["dev", "alpha", "beta", "rc", "stable"]
 SIGNS = {"<": "lt", "<=": "le", "=": "eq", ">=": "ge", ">": "gt"}
 HOLDS = {"lt": (-1,), "le": (-1, 0), "eq": (0,), "ge": (0, 1), "gt": (1,)}
-PLACES = ["major", "minor", "patch"]
+NUMBERS = ["major", "minor", "patch"]
+PLACES = [*NUMBERS, "release", "pre"]
 # A member of a set, as it stands there.
 MEMBER = re.compile(r"\*|[=!<>~^]+[ \t]*[^ \t,|]+")
 SHOWN = 60
@@ -26,7 +27,7 @@ ENDS = {"zero-terminated", "crlf"}
 NAMING = {"tags", "prefix"}
 PLACE = {"key", "field-separator", "scheme"} | NAMING | ENDS
 LINES = {"min-stability", "match", "header", "header-lines", "invalid", "invalid-to", "progress"} | PLACE
-VALUED = (LINES | {"count", "group", "scheme-column"}) - {"tags", "progress", "header"} - ENDS
+VALUED = (LINES | {"count", "group", "scheme-column", "word"}) - {"tags", "progress", "header"} - ENDS
 NUMBERED = ("key", "count", "group", "scheme-column", "header-lines")
 # The options of each command, and how many words it takes.
 COMMANDS = {
@@ -41,7 +42,7 @@ COMMANDS = {
     "implies": ({"scheme"}, 2, 2),
     "meets": ({"scheme"}, 2, 2),
     "diff": ({"lists", "group", "invalid"} | PLACE, 2, 2),
-    "next": (NAMING | ENDS, 1, None),
+    "next": ({"word"} | NAMING | ENDS, 1, None),
 }
 
 
@@ -298,11 +299,21 @@ class Run:
     def next(self, place, *words):
         if place not in PLACES and not (re.fullmatch("[0-9]+", place) and int(place) < 2**64):
             raise WRONG
-        place = PLACES.index(place) if place in PLACES else int(place)
+        if "word" in self.options and place != "pre":
+            raise WRONG
+
+        def following(one):
+            if place == "pre" and self.options.get("word") == "":
+                raise ValueError
+            if place == "pre":
+                return one.next_pre(self.options.get("word"))
+            if place == "release":
+                return one.next_release()
+            return one.next(NUMBERS.index(place) if place in NUMBERS else int(place))
 
         def answer(given, one):
             try:
-                return [given.removesuffix(str(one).encode()) + str(one.next(place)).encode()]
+                return [given.removesuffix(str(one).encode()) + str(following(one)).encode()]
             except (ValueError, OverflowError):
                 raise Ended(1, b"no version comes next at that place: " + shown(given)) from None
 

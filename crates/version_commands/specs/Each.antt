@@ -5,7 +5,7 @@ use Rattle.std.specs.List.{filter, list_all, list_any}
 use Rattle.std.specs.Io.KnownBytes.{Consumes, IsAtEnd}
 use Rattle.version_commands.specs.Json.{json_line}
 use Rattle.version_commands.specs.Key.{key_line}
-use Rattle.version_commands.specs.Next.{WritesNext}
+use Rattle.version_commands.specs.Next.{NoNextBy, WritesNext}
 use Rattle.version_commands.specs.Pieces.{Adds}
 use Rattle.version_commands.specs.Place.{before_named, line_text, named_text}
 use Rattle.version_commands.specs.Sets.{keys_of}
@@ -22,7 +22,6 @@ use Rattle.version_schemes.specs.any.Order.{PlainAny, any_of}
 use Rattle.version_schemes.specs.declared.scheme.Scheme.{Scheme}
 use Rattle.version_schemes.specs.declared.scheme.Scheme.TheVariants.{Mixed}
 use Rattle.version_sets.specs.Ends.{has}
-use Rattle.version_tasks.specs.Next.{NoNext}
 use Rattle.version_rules.specs.grammar.Versioning.{PlainVersioning, versioning_of}
 
 -- by which scheme a question reads versions: only `key` and `why` may ask for another than mixed
@@ -31,7 +30,7 @@ scheme_of Show = Mixed
 scheme_of Json = Mixed
 scheme_of (Key scheme) = scheme
 scheme_of (Why scheme set) = scheme
-scheme_of (Next place) = Mixed
+scheme_of (Next step) = Mixed
 
 -- the version that a text is to it
 abbrev pub version_asked : Question → Naming → List ℕ → Option PlainAny
@@ -54,8 +53,8 @@ IsAnswer Json naming end text v found answer = OfMixed v (λ w. (found ≡ true)
 IsAnswer (Key scheme) naming end text v found answer = (found ≡ true) × (answer ≡ key_line end v)
 IsAnswer (Why scheme set) naming end text v found answer =
     (found ≡ true) × IsWhyLine end set.now text v answer
-IsAnswer (Next place) naming end text v found answer =
-    OfMixed v (λ w. WritesNext end (before_named naming text) w place found answer)
+IsAnswer (Next step) naming end text v found answer =
+    OfMixed v (λ w. WritesNext end (before_named naming text) w step found answer)
 
 -- the set of `why` is one, and this is it, by its ends
 abbrev pub HasSet : Question → Option (List (List ℕ)) → Type 0
@@ -63,7 +62,7 @@ HasSet (Why scheme word) set = IsSomeAnd set (λ set. keys_of scheme word.now �
 HasSet Show set = ⊤
 HasSet Json set = ⊤
 HasSet (Key scheme) set = ⊤
-HasSet (Next place) set = ⊤
+HasSet (Next step) set = ⊤
 
 -- each text is a version, and the answers to them follow one another
 abbrev pub AreAnswered : Question → Naming → ℕ → List (List ℕ) → List ℕ → Type 0
@@ -75,7 +74,7 @@ AreAnswered question naming end (text ∷ texts) output =
 
 -- the question asks for the version next to one that has none
 abbrev pub HasNoNext : Question → Option PlainAny → Type 0
-HasNoNext (Next place) (Some v) = OfMixed v (λ w. NoNext w place)
+HasNoNext (Next step) (Some v) = OfMixed v (NoNextBy step)
 HasNoNext other v = ⊥
 
 -- the first of some texts whose version has no next, so that there are answers to those before it
@@ -106,7 +105,7 @@ IsHead (Why scheme set) end head = IsWhyHead scheme end set.now head
 IsHead Show end head = head ≡ []
 IsHead Json end head = head ≡ []
 IsHead (Key scheme) end head = head ≡ []
-IsHead (Next place) end head = head ≡ []
+IsHead (Next step) end head = head ≡ []
 
 -- the texts that are asked: those of the lines of standard input
 abbrev pub AreLineTexts : EachOptions → Option (List ℕ) → Option (List ℕ) → List (List ℕ) → Type 0

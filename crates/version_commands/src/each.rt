@@ -289,11 +289,11 @@ fn add_answer(
             let set = set.as_ref().unwrap();
             add_why(word, set, text, version, end, room, output)?;
         }
-        Question::Next(place) => return add_next(
+        Question::Next(step) => return add_next(
             alloc,
             naming.before(text),
             version.mixed().unwrap(),
-            place,
+            step,
             end,
             output,
         ),

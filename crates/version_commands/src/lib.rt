@@ -38,7 +38,7 @@ pub use faults::Fault;
 pub use files::{Files, Hint, NoFiles, Stage};
 pub use options::{
     Arrangement, Choice, EachOptions, Invalid, Labels, LineOptions, Lists, Naming, Operator,
-    Question, Spelling, Task, VersionPlace,
+    Question, Spelling, Step, Task, VersionPlace,
 };
 pub use program::serve;
 pub use quote::{Shown, quoted};

@@ -98,6 +98,17 @@ pub struct LineOptions<'w> {
     pub files: Vec<&'w str>,
 }
 
+/// Which version is asked for after another.
+#[derive(Clone, Copy, Debug)]
+pub enum Step<'w> {
+    /// The next at a place, counted from 0.
+    Place(usize),
+    /// The next release: the one at the last place.
+    Release,
+    /// The next pre-release of this word, or without one of the version's own.
+    Pre(Option<&'w str>),
+}
+
 /// What is asked of each of several versions: by a scheme, where one is named, else by mixed.
 #[derive(Clone, Copy, Debug)]
 pub enum Question<'w> {
@@ -109,8 +120,8 @@ pub enum Question<'w> {
     Key(Scheme),
     /// Whether it is in a set, or which members leave it out.
     Why(Scheme, &'w str),
-    /// Which version comes next at a place, counted from 0.
-    Next(usize),
+    /// Which version comes next.
+    Next(Step<'w>),
 }
 
 /// Which versions are asked: the words that are versions, or without any word the lines of standard input.

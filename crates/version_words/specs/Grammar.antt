@@ -162,7 +162,7 @@ rules_of verb.Meets = sets_rules
 rules_of verb.Diff = word_rule (codes "A") ∷ word_rule (codes "B") ∷ flag_rule None (codes "lists")
     ∷ number_rule (Some 103) (codes "group") ∷ number_rule (Some 107) (codes "key") ∷ separator_rule
     ∷ tags_rule ∷ prefix_rule ∷ scheme_rule ∷ invalid_rule ∷ ending_rules
-rules_of verb.Next = word_rule (codes "PLACE") ∷ words_rule ∷ tags_rule ∷ prefix_rule ∷ ending_rules
+rules_of verb.Next = word_rule (codes "PLACE") ∷ words_rule ∷ text_rule None (codes "word") ∷ tags_rule ∷ prefix_rule ∷ ending_rules
 
 -- a command, as `clap` has it
 abbrev pub shape_of_command : Verb → Shape

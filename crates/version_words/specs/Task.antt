@@ -13,6 +13,8 @@ use Rattle.version_commands.specs.declared.options.Naming.TheVariants.{Bare, Pre
 use Rattle.version_commands.specs.declared.options.Question.{Question}
 use Rattle.version_commands.specs.declared.options.Question.TheVariants as question
 use Rattle.version_commands.specs.declared.options.Spelling.{Spelling}
+use Rattle.version_commands.specs.declared.options.Step.{Step}
+use Rattle.version_commands.specs.declared.options.Step.TheVariants as step
 use Rattle.version_commands.specs.declared.options.Task.{Task}
 use Rattle.version_commands.specs.declared.options.Task.TheVariants as task
 use Rattle.version_commands.specs.declared.options.VersionPlace.{VersionPlace}
@@ -72,6 +74,20 @@ IsArrangement Filter separator rows (arrangement.Filter set inverted) =
     × (inverted ≡ is_set (codes "invert-match") rows) × (lacks_set rows ≡ false)
 IsArrangement command separator rows other = ⊥
 
+-- which version `next` is asked for: a word goes with `pre` alone
+abbrev pub IsStep : List Row → Step → Type 0
+IsStep rows (step.Place place) =
+    (place_named (word_of (codes "PLACE") rows) ≡ Some place) × (is_given (codes "word") rows ≡ false)
+IsStep rows step.Release =
+    (bytes_eq (word_of (codes "PLACE") rows) (codes "release") ≡ true) × (is_given (codes "word") rows ≡ false)
+IsStep rows (step.Pre word) =
+    (bytes_eq (word_of (codes "PLACE") rows) (codes "pre") ≡ true)
+    × (option_map (λ word. word.now) word ≡ first_of (codes "word") rows)
+
+-- the words of `next` are none of these
+abbrev pub HasNoStep : List Row → Type 0
+HasNoStep rows = (step : Step) → ¬ IsStep rows step
+
 -- what is asked of each version
 abbrev pub IsQuestion : Verb → List Row → Question → Type 0
 IsQuestion Show rows question.Show = is_set (codes "json") rows ≡ false
@@ -79,8 +95,7 @@ IsQuestion Show rows question.Json = is_set (codes "json") rows ≡ true
 IsQuestion Key rows (question.Key scheme) = scheme_of rows ≡ Some scheme
 IsQuestion Why rows (question.Why scheme set) =
     (scheme_of rows ≡ Some scheme) × (set.now ≡ word_of (codes "SET") rows)
-IsQuestion Next rows (question.Next place) =
-    place_named (word_of (codes "PLACE") rows) ≡ Some place
+IsQuestion Next rows (question.Next step) = IsStep rows step
 IsQuestion command rows other = ⊥
 
 -- the versions of the words: none where `-` stands alone, for standard input
@@ -197,4 +212,4 @@ IsWrong Implies rows = HasWrongScheme rows
 IsWrong Meets rows = HasWrongScheme rows
 IsWrong Compare rows = HasWrongCompare rows
 IsWrong Diff rows = HasWrongDiff rows
-IsWrong Next rows = (place_named (word_of (codes "PLACE") rows) ≡ None) ⊎ HasWrongNaming rows
+IsWrong Next rows = HasNoStep rows ⊎ HasWrongNaming rows

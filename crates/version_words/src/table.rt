@@ -201,12 +201,15 @@ pub fn entry_of(command: Verb) -> Entry
         },
         Verb::Next => Entry {
             name: "next",
-            about: "Write the version that comes next at a place, and what stands before it in a tag",
+            about: "Write the version that comes next, and what stands before it in a tag",
             usage: None,
             example: "Example:
   $ versions next minor --tags tool-1.2.5 v2.0
   tool-1.3.0
-  v2.1",
+  v2.1
+  $ versions next pre --word rc 1.2.3 1.2.4-rc.1
+  1.2.4-rc.1
+  1.2.4-rc.2",
             own: &NEXT,
             shared: &ENDS,
         },
@@ -457,14 +460,20 @@ static DIFF: [Argument; 10] = [
     },
 ];
 
-static NEXT: [Argument; 4] = [
+static NEXT: [Argument; 5] = [
     Argument {
         form: Form::Word,
         letter: None,
         name: "PLACE",
-        help: "major, minor, patch, or the place of a number, counted from 0",
+        help: "major, minor, patch, release, pre, or the place of a number, counted from 0",
     },
     VERSIONS,
+    Argument {
+        form: Form::Text("W"),
+        letter: None,
+        name: "word",
+        help: "What the pre-release of pre begins with, such as rc, where the version has none of its own",
+    },
     TAGS,
     PREFIX,
 ];

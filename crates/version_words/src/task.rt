@@ -4,7 +4,7 @@ ghost use Rattle.std.specs.Prelude.{◌≡◌, ◌⊎◌, None, Some, IfErr, IfO
 ghost use Rattle.clap.specs.Words.{all_of, subcommand_rows_of};
 ghost use Rattle.version_words.specs.Named.{place_named};
 ghost use Rattle.version_words.specs.Rows.{column_of, is_given, is_set, rows_in, word_of};
-ghost use Rattle.version_words.specs.Task.{AreEachOptions, AreLineOptions, HasWrongCompare, HasWrongDiff, HasWrongFilter, HasWrongLines, HasWrongNaming, HasWrongPlace, HasWrongSpelling, IsNaming, IsPlace, IsQuestion, IsSpelling, IsTaskOf, IsWrong};
+ghost use Rattle.version_words.specs.Task.{AreEachOptions, AreLineOptions, HasWrongCompare, HasWrongDiff, HasNoStep, HasWrongFilter, HasWrongLines, HasWrongNaming, HasWrongPlace, HasWrongSpelling, IsNaming, IsPlace, IsQuestion, IsSpelling, IsStep, IsTaskOf, IsWrong};
 ghost use Rattle.version_words.specs.Words.{command_in, ComesOfWrong, IsTaskIn, IsWrongIn};
 
 use crate::faults::WordsFault;
@@ -18,7 +18,7 @@ use crate::wrong::{wrong, wrong_operator, wrong_place};
 use clap::ArgMatches;
 use std::alloc::Global;
 use version_commands::{
-    Arrangement, Choice, EachOptions, LineOptions, Lists, Naming, Question, Spelling, Task,
+    Arrangement, Choice, EachOptions, LineOptions, Lists, Naming, Question, Spelling, Step, Task,
     VersionPlace,
 };
 use version_lines::Column;
@@ -247,12 +247,28 @@ fn next_task<'w>(alloc: Global, options: &ArgMatches<'w>) -> Result<Task<'w>, Wo
     ensures faults { IfErr result
         (ComesOfWrong (IsWrong Verb.Next (rows_in options.now))) }
 {
+    let question = Question::Next(step_of(alloc, options)?);
+    Ok(Task::Each(question, each_options(alloc, options)?))
+}
+
+// Returns which version `next` is asked for.
+fn step_of<'w>(alloc: Global, options: &ArgMatches<'w>) -> Result<Step<'w>, WordsFault>
+    ensures step { IfOk result (IsStep (rows_in options.now)) }
+    ensures faults { IfErr result (ComesOfWrong (HasNoStep (rows_in options.now))) }
+{
     let word = word_of(options, "PLACE");
+    if word == "pre" {
+        return Ok(Step::Pre(text_of(options, "word")));
+    }
+    if is_given(options, "word") {
+        let what = "the argument '--word <W>' takes the place 'pre' alone";
+        return Err(wrong(alloc, what));
+    }
+    if word == "release" {
+        return Ok(Step::Release);
+    }
     match place_named(word) {
-        Some(place) => {
-            let each_options = each_options(alloc, options)?;
-            Ok(Task::Each(Question::Next(place), each_options))
-        }
+        Some(place) => Ok(Step::Place(place)),
         None => Err(wrong_place(alloc, word)),
     }
 }

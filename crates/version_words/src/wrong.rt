@@ -43,8 +43,14 @@ fn operator_meant(word: &str) -> Option<&'static str> {
 pub fn wrong_place(alloc: Global, word: &str) -> WordsFault
     ensures { ComesOfWrong ⊤ result }
 {
-    let argument = "'<PLACE>'\n  [possible values: major, minor, patch, a number from 0]";
-    wrong_name(alloc, word, argument, &["major", "minor", "patch"])
+    let argument =
+        "'<PLACE>'\n  [possible values: major, minor, patch, release, pre, a number from 0]";
+    wrong_name(
+        alloc,
+        word,
+        argument,
+        &["major", "minor", "patch", "release", "pre"],
+    )
 }
 
 /// Returns the fault of a word that is no level of stability.

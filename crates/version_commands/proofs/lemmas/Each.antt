@@ -53,7 +53,7 @@ no-next Show naming end text v answer some (w, is, has) = let found = has.0 in c
 no-next Json naming end text v answer some (w, is, has) = let found = has.0 in cc found
 no-next (Key scheme) naming end text v answer some (found, answer_is) = cc found
 no-next (Why scheme set) naming end text v answer some (found, answer_is) = cc found
-no-next (Next place) naming end text v answer some (w, is, has) = rw some (w, is, has.0)
+no-next (Next step) naming end text v answer some (w, is, has) = rw some (w, is, has.0)
 
 pub have-none : (first now after : Answers) (texts : List (List ℕ)) (text : Bor (List ℕ))
     (v : PlainAny) → HaveAnswered first now texts → now.unanswered ≡ None
