@@ -1235,6 +1235,81 @@ static void worked_next(void) {
   CHECK(versions_next("1.2.3-", 6, 0, NULL, 0, &needed) == VERSIONS_NO_VERSION && needed == 77);
 }
 
+// What comes next as a release, where the word is `release`, and as a pre-release of a word. No text stands for none.
+static void worked_next_pre(void) {
+  static const char release[] = "release";
+  static const struct {
+    const char *text, *word, *next;
+  } worked[] = {
+      {"1.2.3-rc.1", release, "1.2.3"},
+      {"1.2.3", release, "1.2.4"},
+      {"1.2", release, "1.3"},
+      {"1:1.9-3", release, "1:1.10"},
+      {"1.2.4294967295-rc.1", release, "1.2.4294967295"},
+      {"1.2.4294967295", release, NULL},
+      {"1.0rc1", release, NULL},
+      {"1_2", release, NULL},
+      {"1.2.3", "rc", "1.2.4-rc.1"},
+      {"1.2.3-rc.1", "rc", "1.2.3-rc.2"},
+      {"1.2.3-rc", "rc", "1.2.3-rc.1"},
+      {"1.2.3-alpha.4", "rc", "1.2.3-rc.1"},
+      {"1.2.3-rc.1.5", "rc", "1.2.3-rc.2"},
+      {"1.2.3-rc.1+b", "rc", "1.2.3-rc.2"},
+      {"1.2.3-rc.1", "beta", "1.2.4-beta.1"},
+      {"1.2.3-rc.x", "rc", "1.2.4-rc.1"},
+      {"1.2.3-rc1", "rc", "1.2.4-rc.1"},
+      {"1.2.3-a", "a.x", "1.2.3-a.x.1"},
+      {"1.2.3-a.x.4", "a", "1.2.4-a.1"},
+      {"1.2.3-rc.4294967295", "rc", "1.2.4-rc.1"},
+      {"1.2.4294967295-a", "rc", "1.2.4294967295-rc.1"},
+      {"1.2.4294967295", "rc", NULL},
+      {"1.2.3-rc.1", "", "1.2.3-rc.2"},
+      {"1.2.3-1", "", "1.2.3-2"},
+      {"1.2.3-0", "", "1.2.3-1"},
+      {"1.2.3-a.b.9", "", "1.2.3-a.b.10"},
+      {"1.2.3", "", NULL},
+      {"1.2.3-rc", "", NULL},
+      {"1.2.3-rc1", "", NULL},
+      {"1.2.3", "rc.", NULL},
+      {"1.2.3", ".rc", NULL},
+      {"1.2.3", "01", NULL},
+      {"1.2.3", "4294967296", NULL},
+      {"1.2.3", "rc_1", NULL},
+      {"1.2.3", "rc+1", NULL},
+      {"1.2", "rc", NULL},
+      {"1.2-rc.1", "", NULL},
+      {"1_2", "rc", NULL},
+  };
+  for (size_t i = 0; i < sizeof worked / sizeof *worked; i++) {
+    const char *text = worked[i].text, *word = worked[i].word, *wanted = worked[i].next;
+    const size_t length = strlen(text), word_length = strlen(word), most = wanted ? strlen(wanted) : 0;
+    // With no room, too little, just enough and more, where the text ends at the end of memory that is its own.
+    const size_t rooms[] = {0, most ? most - 1 : 0, most, most + 9};
+    for (size_t j = 0; j < sizeof rooms / sizeof *rooms; j++) {
+      size_t needed = 77;
+      char next[40];
+      memset(next, 77, sizeof next);
+      int status = word == release ? versions_next_release(text, length, next, rooms[j], &needed)
+                                   : versions_next_pre(text, length, word, word_length, next, rooms[j], &needed);
+      size_t written = wanted && rooms[j] >= most ? most : 0;
+      CHECK(status == (!wanted ? VERSIONS_NO_NEXT : written ? VERSIONS_OK : VERSIONS_NO_ROOM));
+      CHECK(needed == (wanted ? most : 77) && (!wanted || memcmp(next, wanted, written) == 0));
+      CHECK(next[written] == 77);
+    }
+  }
+  size_t needed = 77;
+  char next[20];
+  CHECK(versions_next_release(NULL, 0, NULL, 0, &needed) == VERSIONS_NO_VERSION && needed == 77);
+  CHECK(versions_next_pre(NULL, 0, NULL, 0, NULL, 0, &needed) == VERSIONS_NO_VERSION && needed == 77);
+  CHECK(versions_next_pre("1.2.3-", 6, "rc", 2, NULL, 0, &needed) == VERSIONS_NO_VERSION && needed == 77);
+  CHECK(versions_next_pre("1.2.3", 5, NULL, 1, next, sizeof next, &needed) == VERSIONS_NULL && needed == 77);
+  CHECK(versions_next_pre("1.2.3-7", 7, NULL, 0, next, sizeof next, &needed) == VERSIONS_OK && needed == 7);
+  CHECK(memcmp(next, "1.2.3-8", 7) == 0);
+  // A word within other bytes, and the buffer that the word was in.
+  CHECK(versions_next_pre("1.2.3", 5, "rc.1", 2, next, sizeof next, &needed) == VERSIONS_OK && needed == 10);
+  CHECK(memcmp(next, "1.2.4-rc.1", 10) == 0);
+}
+
 // The first member that is not a requirement, by the tables of docs/REQUIREMENTS.md. A place of 77 stands for none.
 static void worked_members(void) {
   static const struct {
@@ -2141,6 +2216,7 @@ int main(int count, char **words) {
     worked_stabilities();
     worked_newest();
     worked_next();
+    worked_next_pre();
     worked_members();
     worked_exclusions();
     worked_sentences();

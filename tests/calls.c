@@ -71,6 +71,14 @@ static void of_one(const char *text, size_t length) {
     numbers[0] = written;
     answer_with(status, written);
   }
+  status = versions_next_release(text, length, (char *)buffer, ROOM, &written);
+  numbers[0] = written;
+  answer_with(status, written);
+  for (size_t word_len = 0; word_len <= 2; word_len++) {
+    status = versions_next_pre(text, length, "rc", word_len, (char *)buffer, ROOM, &written);
+    numbers[0] = written;
+    answer_with(status, written);
+  }
   answer(versions_wrong_member(text, length, NUMBER(size_t, 0), NUMBER(size_t, 1)));
   numbers[0] = versions_sort_key_bound(length);
   answer(0);

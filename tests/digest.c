@@ -176,6 +176,13 @@ static void digest_one(size_t place, struct text a, struct text b, struct text l
     if (digest_slots("next", versions_next(a.at, a.length, n, (char *)out, room, SIZE(0)), 1, 8))
       digest("next", out, slots[0]);
   }
+  CLEAR;
+  if (digest_slots("next_release", versions_next_release(a.at, a.length, (char *)out, room, SIZE(0)), 1, 8))
+    digest("next_release", out, slots[0]);
+  for (int own = 1; own >= 0; own--) {
+    CLEAR, status = versions_next_pre(a.at, a.length, b.at, own ? 0 : b.length, (char *)out, room, SIZE(0));
+    if (digest_slots("next_pre", status, 1, 8)) digest("next_pre", out, slots[0]);
+  }
   CLEAR, digest_slots("epoch", versions_epoch(a.at, a.length, &slots[0]), 1, 8);
   CLEAR, digest_slots("is_prerelease", versions_is_prerelease(a.at, a.length, (bool *)&slots[0]), 1, 1);
   CLEAR, digest_slots("in_tag", versions_in_tag(a.at, a.length, SIZE(0)), 1, 8);

@@ -132,6 +132,9 @@ export function digest(library, lines, lists) {
       ask("field", [...a, n + 1, SLOTS[0], SLOTS[1]], 2);
       written("next", ask("next", [...a, BigInt(n), ...key, SLOTS[0]], 1), slot(0));
     }
+    written("next_release", ask("next_release", [...a, ...key, SLOTS[0]], 1), slot(0));
+    written("next_pre", ask("next_pre", [...a, a[0], 0n, ...key, SLOTS[0]], 1), slot(0));
+    written("next_pre", ask("next_pre", [...a, ...b, ...key, SLOTS[0]], 1), slot(0));
     ask("epoch", [...a, SLOTS[0]], 1);
     ask("is_prerelease", [...a, SLOTS[0]], 1, 1);
     ask("in_tag", [...a, SLOTS[0]], 1);

@@ -136,6 +136,8 @@ test("a version is taken for its text", () => {
   }
   assert.equal(String(new Version(new MyVersion("1.2"))), "1.2");
   assert.equal(new MyVersion("1.2").next(1).constructor, MyVersion);
+  assert.equal(new MyVersion("1.2").nextRelease().constructor, MyVersion);
+  assert.equal(new MyVersion("1.2.3").nextPre("rc").constructor, MyVersion);
   assert.equal(MyVersion.fromTag("v1.2").constructor, MyVersion);
 });
 

@@ -185,6 +185,7 @@ test("what versions of mixed alone have", () => {
   for (const version of [deb("1:1.0~rc1-1"), deb("1.2.3"), new MyVersion("1.2.3", DEB)]) {
     const calls = names.map((name) => () => version[name]);
     calls.push(() => version.nth(0), () => version.next(0), () => version.difference("1.0"));
+    calls.push(() => version.nextRelease(), () => version.nextPre(), () => version.nextPre("rc"));
     // Asked twice, since a field is kept.
     for (const call of [...calls, ...calls]) assert.throws(call, { name: "TypeError", message });
   }

@@ -161,6 +161,58 @@ test("next", () => {
   }
 });
 
+test("next release", () => {
+  const wanted = {
+    "1.2.3-rc.1": "1.2.3", "1.2.3": "1.2.4", "1.2": "1.3", "1:1.9-3": "1:1.10", 5: "6", "1.2.3.4": "1.2.3.5", "1.2.3+x": "1.2.4",
+    "1.2.3-0": "1.2.3", "1.2.4294967295-rc.1": "1.2.4294967295",
+  };
+  for (const text of ["1.2.4294967295", "1.0rc1", "1.a", "1_2", "01.2", "a"]) wanted[text] = null;
+  for (const [text, next] of Object.entries(wanted)) {
+    if (next !== null) assert.equal(String(new Version(text).nextRelease()), next);
+    else assert.throws(() => new Version(text).nextRelease(), { name: "RangeError", message: `${text} has no next release` });
+  }
+  assert.equal(String(new Version("9.".repeat(100_000) + "9").nextRelease()), "9.".repeat(100_000) + "10");
+});
+
+test("next pre-release", () => {
+  const wanted = rows("version", "word", "next pre-release").map(([[version], [word], [next]]) => [version, word, next]);
+  assert.equal(wanted.length, 6);
+  // By docs/ORDER.md: numbers before texts, a prefix before the longer one, and each before no pre-release.
+  for (const row of [
+    "1.2.3-rc rc 1.2.3-rc.1", "1.2.3-rc.1.5 rc 1.2.3-rc.2", "1.2.3-rc.1+b rc 1.2.3-rc.2", "1.2.3-rc.0 rc 1.2.3-rc.1",
+    "1.2.3-9 rc 1.2.3-rc.1", "1.2.3-rc.x rc 1.2.4-rc.1", "1.2.3-rc1 rc 1.2.4-rc.1", "1.2.3-rc rc1 1.2.3-rc1.1",
+    "1.2.3-a.x.4 a 1.2.4-a.1", "1.2.3-a a.x 1.2.3-a.x.1", "1.2.3-a.1.9 a.1 1.2.3-a.1.10", "1.2.3-7.1 7 1.2.3-7.2",
+    "1.2.3-RC.1 rc 1.2.3-rc.1", "1.2.3-rc.1 RC 1.2.4-RC.1", "1.2.3+x - 1.2.4--.1", "1.2.4294967295-a rc 1.2.4294967295-rc.1",
+    "1.2.3-rc.4294967294 rc 1.2.3-rc.4294967295", "1.2.3-rc.4294967295 rc 1.2.4-rc.1",
+  ]) {
+    wanted.push(row.split(" "));
+  }
+  wanted.push(["1.2.3-1", undefined, "1.2.3-2"], ["1.2.3-a.b.9", null, "1.2.3-a.b.10"], ["1.2.3-rc.7", "", "1.2.3-rc.8"]);
+  for (const text of ["1.2.3", "1.2.3-rc", "1.2.3-rc1", "1.2.3-1.a", "1.2.4294967295-rc.4294967295"]) wanted.push([text]);
+  for (const word of ["rc.", ".rc", "rc..x", "01", "4294967296", "rc_1", "rc+1", "é", "a b", ".", "\ud800", "rc\0", "😀"]) {
+    wanted.push(["1.2.3", word], ["1.2.3-rc.1", word]);
+  }
+  for (const text of ["1.2", "1.2-rc.1", "1.2.3.4", "1_2", "1:1.2.3"]) wanted.push([text, "rc"], [text]);
+  for (const [text, word, next] of wanted) {
+    const call = () => new Version(text).nextPre(word);
+    if (next !== undefined) {
+      assert.equal(String(call()), next);
+      assert.ok(call() > new Version(text) && call().isPrerelease);
+    } else {
+      const of = word ? ` of ${word}` : "";
+      assert.throws(call, { name: "RangeError", message: `${text} has no next pre-release${of}` });
+    }
+  }
+  for (const word of [1, Symbol("rc"), ["rc"], new Version("1"), Object("rc")]) {
+    assert.throws(() => new Version("1.2.3").nextPre(word), TypeError);
+  }
+  for (const count of [1, 130, 1_000_000]) {
+    const long = "a.".repeat(count);
+    assert.equal(String(new Version(`1.2.3-${long}9`).nextPre()), `1.2.3-${long}10`);
+    assert.equal(String(new Version("4294967295.4294967295.9").nextPre("a".repeat(count))), `4294967295.4294967295.10-${"a".repeat(count)}.1`);
+  }
+});
+
 test("why not", () => {
   // By docs/REQUIREMENTS.md: a list, a version, the first member that doesn't match, and why.
   const sentences = {

@@ -661,6 +661,7 @@ class Threads(unittest.TestCase):
         long, many = "1." * 3_000_000 + "1", ["1.2.3-rc.1"] * 400_000
         wanted, strict = versions.Requirement("=1.2"), versions.Requirement("=1.2.3")
         version, longer = versions.Version(long), versions.Requirement(f">={long},<={long}")
+        pre_release = versions.Version(f"1.2.3-{long}")
         dashes = "-" * 30_000_000
         tag = dashes + "1"
 
@@ -696,6 +697,8 @@ class Threads(unittest.TestCase):
             "conflict": lambda: longer.conflict,
             "difference": lambda: version.difference(long),
             "next": lambda: version.next(3_000_000),
+            "next_release": version.next_release,
+            "next_pre": pre_release.next_pre,
             "metadata": lambda: version.metadata,
             "matches": lambda: wanted.matches(long),
             "matches by an exact range": lambda: strict.matches(long),

@@ -83,6 +83,8 @@ class FakeLibrary(WithFolder):
             "why_text": lambda: module.why_text("*", "1"),
             "difference": lambda: module.difference(version, "1"),
             "next": lambda: module.next("1", 0),
+            "next_release": lambda: module.next_release("1"),
+            "next_pre": lambda: module.next_pre("1", "rc"),
             "Ranged": lambda: module.Ranged("*"),
             "matches": lambda: wanted.matches(version),
             "matches a text": lambda: wanted.matches("1.2"),
@@ -139,6 +141,7 @@ class FakeLibrary(WithFolder):
             self.assertRaisesRegex(RuntimeError, "returned status 7$", lambda: module.sort_key("1", **named))
             self.assertRaisesRegex(RuntimeError, "returned status 7$", lambda: module.sort_keys(["1"], **named))
         self.assertRaisesRegex(RuntimeError, "returned status 7$", module.next, "1", 0)
+        self.assertRaisesRegex(RuntimeError, "returned status 7$", module.next_pre, "1", None)
         self.set(type=ctypes.c_size_t, bound_len=600)
         self.assertRaisesRegex(RuntimeError, "returned status 7$", module.Ranged, "*")
         self.set(status=0, number=9)
@@ -295,6 +298,14 @@ CALLS = {
     "next of none": partial(library.next, "1.2rc1", 0),
     "next of no version": partial(library.next, "1..2", 0),
     "next below 0": partial(library.next, "1.2", -1),
+    "next release": partial(library.next_release, "1.2.3"),
+    "next release, long": partial(library.next_release, "1." * 2000 + "1"),
+    "next release of none": partial(library.next_release, "1.2rc1"),
+    "next pre-release": partial(library.next_pre, "1.2.3", "rc"),
+    "next pre-release of its own word": partial(library.next_pre, "1.2.3-rc.1", None),
+    "next pre-release, long": partial(library.next_pre, "1.2.3", "a" * 2000),
+    "next pre-release of none": partial(library.next_pre, "1.2.3", None),
+    "next pre-release of no word": partial(library.next_pre, "1.2.3", 1),
     "kind of a Version": partial(operator.attrgetter("kind"), PLAIN),
     "call of kind with a Version": partial(versions.kind, PLAIN),
     "sort_key of a Version": partial(versions.sort_key, PLAIN),

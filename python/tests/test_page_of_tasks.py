@@ -67,3 +67,5 @@ class Page(unittest.TestCase):
     def test_next(self):
         for (version,), (place,), wanted in rows("version", "place", "next"):
             self.assertEqual(answer(Version(version).next, int(place)), wanted, (version, place))
+        for (version,), word, wanted in rows("version", "word", "next pre-release"):
+            self.assertEqual(answer(Version(version).next_pre, *word), wanted, (version, word))

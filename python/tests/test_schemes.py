@@ -406,6 +406,8 @@ class Versions(unittest.TestCase):
                     self.assertTrue(hasattr(Version("1.2.3"), name))
             for call in (lambda: version.nth(0), lambda: version.next(0), lambda: version.difference("1.0")):
                 self.assertRaisesRegex(AttributeError, f"^{NO_PARTS}$", call)
+            for call in (version.next_release, version.next_pre, lambda: version.next_pre("rc")):
+                self.assertRaisesRegex(AttributeError, f"^{NO_PARTS}$", call)
 
     def test_how_they_are_shown(self):
         for make, shown in ((Version, "Version('0:1.0-1', scheme='deb')"),

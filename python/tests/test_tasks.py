@@ -604,6 +604,125 @@ class Next(unittest.TestCase):
         self.assertRaises(ValueError, Version("1_" * 5_000_000 + "1").next, 0)
 
 
+class NextRelease(unittest.TestCase):
+    RELEASES = {
+        **{"1.2.3-rc.1": "1.2.3", "1.2.3": "1.2.4", "1.2": "1.3", "1:1.9-3": "1:1.10", "5": "6", "1.2.3.4": "1.2.3.5"},
+        **{"1.2.3+x": "1.2.4", "1.2.3-0": "1.2.3", "0.0.0-a": "0.0.0", "1.2.4294967295-rc.1": "1.2.4294967295"},
+        **dict.fromkeys(("1.2.4294967295", "1.0rc1", "1.a", "1_2", "01.2", "a")),
+    }
+
+    def test_next_release(self):
+        for text, wanted in self.RELEASES.items():
+            with self.subTest(text=text):
+                if wanted is not None:
+                    found = Version(text).next_release()
+                    self.assertEqual((str(found), type(found)), (wanted, Version))
+                    self.assertGreater(found, Version(text))
+                    continue
+                with self.assertRaises(ValueError) as raised:
+                    Version(text).next_release()
+                self.assertIs(type(raised.exception), ValueError)
+                self.assertEqual(str(raised.exception), f"{text} has no next release")
+
+    @of_library
+    def test_it_comes_next_at_the_last_place(self):
+        chosen = random.Random(5)
+        for _ in range(2000):
+            parts = [chosen.choice(("0", "1", "9", "4294967295", "a", "01")) for _ in range(chosen.randrange(1, 6))]
+            version = Version(".".join(parts) + chosen.choice(("", "-1", "-rc.1", "+x", "_1")))
+            numbers = version.is_complex or all(part.isdigit() and part != "01" for part in parts)
+            try:
+                found = str(version.next_release())
+            except ValueError:
+                self.assertRaises(ValueError, version.next, len(parts) - 1)
+            else:
+                self.assertTrue(numbers)
+                self.assertEqual(found, str(version.next(len(parts) - 1)))
+
+    def test_long(self):
+        for count in (*range(120, 135), 1_000_000):
+            self.assertEqual(str(Version("9." * count + "9").next_release()), "9." * count + "10")
+
+
+class NextPre(unittest.TestCase):
+    # By docs/ORDER.md: numbers before texts, a prefix before the longer one, and each before no pre-release.
+    PRE = {
+        **{("1.2.3", "rc"): "1.2.4-rc.1", ("1.2.3-rc.1", "rc"): "1.2.3-rc.2", ("1.2.3-rc", "rc"): "1.2.3-rc.1"},
+        **{("1.2.3-alpha.4", "rc"): "1.2.3-rc.1", ("1.2.3-rc.1.5", "rc"): "1.2.3-rc.2", ("1.2.3-rc.1+b", "rc"): "1.2.3-rc.2"},
+        **{("1.2.3-rc.1", "beta"): "1.2.4-beta.1", ("1.2.3-rc.1", None): "1.2.3-rc.2", ("1.2.3-1", None): "1.2.3-2"},
+        **{("1.2.3-rc.0", "rc"): "1.2.3-rc.1", ("1.2.3-0", None): "1.2.3-1", ("1.2.3-9", "rc"): "1.2.3-rc.1"},
+        **{("1.2.3-rc.x", "rc"): "1.2.4-rc.1", ("1.2.3-rc1", "rc"): "1.2.4-rc.1", ("1.2.3-rc", "rc1"): "1.2.3-rc1.1"},
+        **{("1.2.3-a.x", "a.x"): "1.2.3-a.x.1", ("1.2.3-a.x.4", "a"): "1.2.4-a.1", ("1.2.3-a", "a.x"): "1.2.3-a.x.1"},
+        **{("1.2.3-a.b.9", None): "1.2.3-a.b.10", ("1.2.3-a.1.9", "a.1"): "1.2.3-a.1.10", ("1.2.3-7.1", "7"): "1.2.3-7.2"},
+        **{("1.2.3-RC.1", "rc"): "1.2.3-rc.1", ("1.2.3-rc.1", "RC"): "1.2.4-RC.1", ("1.2.3+x", "-"): "1.2.4--.1"},
+        **{("1.2.3-rc.4294967294", "rc"): "1.2.3-rc.4294967295", ("1.2.3-rc.4294967295", None): "1.2.4-rc.1"},
+        **{("1.2.4294967295-a", "rc"): "1.2.4294967295-rc.1", ("1.2.3-rc.7", ""): "1.2.3-rc.8"},
+        **dict.fromkeys((("1.2.3", None), ("1.2.3-rc", None), ("1.2.3-rc1", None), ("1.2.3-1.a", None), ("1.2.3", ""))),
+        **dict.fromkeys((("1.2.4294967295", "rc"), ("1.2.4294967295-rc.4294967295", None), ("1.2.4294967295-b", "a"))),
+        **dict.fromkeys(("1.2.3", word) for word in ("rc.", ".rc", "rc..x", "01", "4294967296", "rc_1", "rc+1", "é", "a b")),
+        **dict.fromkeys(("1.2.3-rc.1", word) for word in (".", "rc.01", "\ud800", "rc\0", "rc\n")),
+        **dict.fromkeys((text, word) for text in ("1.2", "1.2-rc.1", "1.2.3.4", "1_2", "1:1.2.3") for word in ("rc", None)),
+    }
+
+    def test_next_pre(self):
+        for (text, word), wanted in self.PRE.items():
+            with self.subTest(text=text, word=word):
+                if wanted is not None:
+                    found = Version(text).next_pre(word)
+                    self.assertEqual((str(found), type(found)), (wanted, Version))
+                    self.assertGreater(found, Version(text))
+                    self.assertTrue(found.is_prerelease)
+                    continue
+                with self.assertRaises(ValueError) as raised:
+                    Version(text).next_pre(word)
+                self.assertIs(type(raised.exception), ValueError)
+                of = f" of {word}" if word else ""
+                self.assertEqual(str(raised.exception), f"{text} has no next pre-release{of}")
+
+    def test_a_subclass_has_its_versions(self):
+        class Named(Version):
+            pass
+
+        self.assertIs(type(Named("1.2.3-rc.1").next_pre()), Named)
+        self.assertIs(type(Named("1.2.3").next_pre(word="rc")), Named)
+        self.assertIs(type(Named("1.2.3").next_release()), Named)
+
+    def test_words(self):
+        for word in (1, b"rc", ["rc"], Version("1")):
+            self.assertRaises(TypeError, Version("1.2.3").next_pre, word)
+
+    @of_library
+    def test_it_is_the_least(self):
+        # Beside each version of the form with small numbers.
+        chosen = random.Random(6)
+        texts = ("a", "b", "0", "1", "2", "a1")
+        for _ in range(3000):
+            chunks, word = ([chosen.choice(texts) for _ in range(chosen.randrange(4))] for _ in range(2))
+            version = Version("1.2.3" + (f"-{'.'.join(chunks)}" if chunks else ""))
+            front = f"{'.'.join(word)}." if word else None
+            if front is None and chunks and chunks[-1].isdigit():
+                front = "".join(f"{chunk}." for chunk in chunks[:-1])
+            made = [Version(f"1.2.{patch}-{front}{n}") for patch in range(6) for n in range(1, 6) if front is not None]
+            wanted = min((each for each in made if each > version), default=None)
+            if wanted is None:
+                self.assertRaisesRegex(ValueError, "has no next pre-release", version.next_pre, ".".join(word) or None)
+            else:
+                self.assertEqual(str(version.next_pre(".".join(word) or None)), str(wanted), (version, word))
+
+    @of_library
+    def test_long(self):
+        # Around the room on the stack, and long.
+        for count in (*range(240, 252), 5_000_000):
+            word = "a" * count
+            self.assertEqual(str(Version("1.2.3").next_pre(word)), f"1.2.4-{word}.1")
+            self.assertEqual(str(Version(f"1.2.3-{word}.9").next_pre()), f"1.2.3-{word}.10")
+        chunks = "a.1." * 1_000_000
+        self.assertEqual(str(Version(f"1.2.3-{chunks}7").next_pre()), f"1.2.3-{chunks}8")
+        self.assertEqual(str(Version(f"1.2.3-{chunks}7").next_pre(chunks[:-1])), f"1.2.3-{chunks}8")
+        self.assertEqual(str(Version(f"1.2.3-{chunks}7").next_pre(f"{chunks}7.b")), f"1.2.3-{chunks}7.b.1")
+        self.assertRaises(ValueError, Version("1.2.3").next_pre, "." * 5_000_000)
+
+
 class WhyNot(unittest.TestCase):
     # By docs/REQUIREMENTS.md: a requirement, a version, the first member that doesn't match, and why.
     ROWS = (

@@ -36,6 +36,8 @@ why_not: Optional[Mismatch] = wanted.why_not("1.2") or wanted.why_not(version)
 told: tuple[str, str, int, int, Reason] = why_not or ("1.4", ">=1.5", 0, 5, Reason.BELOW)
 conflict: Optional[tuple[str, str]] = wanted.conflict
 following: Version = version.next(1)
+release: Version = version.next_release()
+candidate: Version = release.next_pre("rc").next_pre().next_pre(word=None)
 newest_text: Optional[str] = versions.newest(["1.2", None], ">=1", Stability.RC, tags=True)
 newest_beta: Optional[str] = versions.newest(["1.2"], stability="beta")
 stability_of_name: Stability = Stability("rc")
@@ -100,6 +102,7 @@ class Mine(Version):
 
 mine: Mine = Mine("1.2")
 mine_following: Mine = mine.next(0)
+mine_candidate: Mine = mine.next_release().next_pre("rc")
 mine_of_tag: Mine = Mine.from_tag("v1.2")
 below: bool = mine < version
 

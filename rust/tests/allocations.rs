@@ -164,6 +164,8 @@ fn keys() {
     // The text alone, which the version that comes next takes over.
     let version = Versioning::new("1.9.9").unwrap();
     assert_eq!(of(|| version.next(2)), (1, 6));
+    assert_eq!(of(|| version.next_release()), (1, 6));
+    assert_eq!(of(|| version.next_pre(Some("rc"))), (1, 11));
 }
 
 #[test]

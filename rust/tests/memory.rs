@@ -84,6 +84,13 @@ fn one_text_and_two() {
             for place in [0, 1, 2, 199, usize::MAX] {
                 assert!(version.next(place).map_or(true, |next| next > version));
             }
+            for next in [
+                version.next_release(),
+                version.next_pre(None),
+                version.next_pre(Some(a)),
+            ] {
+                assert!(next.map_or(true, |next| next > version));
+            }
             for b in &texts() {
                 let other = Versioning::new(b).ok();
                 let difference = other.map(|other| version.difference(&other));

@@ -156,6 +156,48 @@ const NEXT: [(&str, usize, &str); 20] = [
     ("4294967294.0.0", 0, "4294967295.0.0"),
     ("1.9.9", 2, "1.9.10"),
 ];
+// The pre-releases that come next after versions: of a word, or without one.
+const PRE: [&str; 39] = [
+    "1.2.3 rc 1.2.4-rc.1",
+    "1.2.3-rc.1 rc 1.2.3-rc.2",
+    "1.2.3-rc rc 1.2.3-rc.1",
+    "1.2.3-alpha.4 rc 1.2.3-rc.1",
+    "1.2.3-rc.1.5 rc 1.2.3-rc.2",
+    "1.2.3-rc.1+b rc 1.2.3-rc.2",
+    "1.2.3-rc.1 beta 1.2.4-beta.1",
+    "1.2.3-rc.1 none 1.2.3-rc.2",
+    "1.2.3-1 none 1.2.3-2",
+    "1.2.3-0 none 1.2.3-1",
+    "1.2.3-a.b.9 none 1.2.3-a.b.10",
+    "1.2.3-rc.0 rc 1.2.3-rc.1",
+    "1.2.3-9 rc 1.2.3-rc.1",
+    "1.2.3-rc.x rc 1.2.4-rc.1",
+    "1.2.3-rc1 rc 1.2.4-rc.1",
+    "1.2.3-rc rc1 1.2.3-rc1.1",
+    "1.2.3-a.x.4 a 1.2.4-a.1",
+    "1.2.3-a a.x 1.2.3-a.x.1",
+    "1.2.3-7.1 7 1.2.3-7.2",
+    "1.2.3-RC.1 rc 1.2.3-rc.1",
+    "1.2.3+x - 1.2.4--.1",
+    "1.2.3-rc.4294967294 rc 1.2.3-rc.4294967295",
+    "1.2.3-rc.4294967295 rc 1.2.4-rc.1",
+    "1.2.4294967295-a rc 1.2.4294967295-rc.1",
+    "1.2.4294967295 rc none",
+    "1.2.4294967295-rc.4294967295 none none",
+    "1.2.3 none none",
+    "1.2.3-rc none none",
+    "1.2.3-rc1 none none",
+    "1.2.3-1.a none none",
+    "1.2.3 rc. none",
+    "1.2.3 .rc none",
+    "1.2.3 01 none",
+    "1.2.3 4294967296 none",
+    "1.2.3 rc_1 none",
+    "1.2.3 rc+1 none",
+    "1.2 rc none",
+    "1.2-rc.1 none none",
+    "1_2 rc none",
+];
 const NO_NEXT: [(&str, usize); 16] = [
     ("4294967295.0.0", 0),
     ("1.4294967295", 1),
@@ -399,6 +441,70 @@ fn what_comes_next() {
         assert!(version.next(count + 1).is_none());
         let other = Versioning::new("9.".repeat(count) + "8").unwrap();
         assert_eq!(version.difference(&other), Difference::Part(count));
+    }
+}
+
+#[test]
+fn the_next_release() {
+    for row in [
+        "1.2.3-rc.1 1.2.3",
+        "1.2.3 1.2.4",
+        "1.2 1.3",
+        "1:1.9-3 1:1.10",
+        "5 6",
+        "1.2.3.4 1.2.3.5",
+        "1.2.3+x 1.2.4",
+        "1.2.4294967295-rc.1 1.2.4294967295",
+    ] {
+        let [text, wanted] = words(row);
+        let version = Versioning::new(text).unwrap();
+        let next: Versioning<'static> = version.next_release().unwrap();
+        assert_eq!(next.as_str(), wanted, "{text}");
+        assert!(next > version);
+    }
+    for text in ["1.2.4294967295", "1.0rc1", "1.a", "1_2", "01.2", "a"] {
+        let version = Versioning::new(text).unwrap();
+        assert!(version.next_release().is_none(), "{text}");
+    }
+    for count in [1, 126, 127, 128, 1_000_000] {
+        let version = Versioning::new("9.".repeat(count) + "9").unwrap();
+        let next = version.next_release().unwrap();
+        assert_eq!(next.as_str(), "9.".repeat(count) + "10");
+    }
+}
+
+#[test]
+fn the_next_pre_release() {
+    // By docs/ORDER.md: numbers before texts, a prefix before the longer one, and each before no
+    // pre-release.
+    for row in PRE {
+        let [text, word, wanted] = words(row);
+        let version = Versioning::new(text).unwrap();
+        let word = Some(word).filter(|word| *word != "none");
+        let next = version.next_pre(word);
+        if wanted == "none" {
+            assert!(next.is_none(), "{row}");
+            continue;
+        }
+        let next: Versioning<'static> = next.unwrap();
+        assert_eq!(next.as_str(), wanted, "{row}");
+        assert!(next > version && next.is_prerelease());
+    }
+    let version = Versioning::new("1.2.3-rc.1").unwrap();
+    for word in ["a b", " ", "rc\0", "é"] {
+        assert!(version.next_pre(Some(word)).is_none(), "{word}");
+    }
+    assert_eq!(version.next_pre(Some("")), version.next_pre(None));
+    for count in [1, 126, 127, 128, 1_000_000] {
+        let long = "a.".repeat(count);
+        let version = Versioning::new(format!("1.2.3-{long}9")).unwrap();
+        let next = version.next_pre(None).unwrap();
+        assert_eq!(next.as_str(), format!("1.2.3-{long}10"));
+        let word = &long[..long.len() - 1];
+        assert_eq!(version.next_pre(Some(word)).unwrap(), next);
+        let largest = Versioning::new("4294967295.4294967295.9").unwrap();
+        let next = largest.next_pre(Some(word)).unwrap();
+        assert_eq!(next.as_str(), format!("4294967295.4294967295.10-{word}.1"));
     }
 }
 

@@ -83,6 +83,14 @@ fn statuses() {
         ),
         ("versions_next", panic(|| general.next(0).is_some())),
         (
+            "versions_next_release",
+            panic(|| general.next_release().is_some()),
+        ),
+        (
+            "versions_next_pre",
+            panic(|| general.next_pre(Some("rc")).is_some()),
+        ),
+        (
             "versions_why_not",
             panic(|| wanted.why_not(&general).is_some()),
         ),
@@ -161,6 +169,10 @@ fn statuses_of_other_calls() {
     for (text, status) in [("v1", "status 1"), ("v7", "status 7"), ("v15", "status 15")] {
         let said = panic(|| version(text).next(0).is_some());
         assert_eq!(said, unexpected("versions_next", status));
+        let said = panic(|| version(text).next_release().is_some());
+        assert_eq!(said, unexpected("versions_next_release", status));
+        let said = panic(|| version(text).next_pre(None).is_some());
+        assert_eq!(said, unexpected("versions_next_pre", status));
     }
     let said = panic(|| version("v1").difference(&version("v0")));
     assert_eq!(said, unexpected("versions_difference", "status 1"));
@@ -294,6 +306,8 @@ fn answers() {
     assert!(said.starts_with("versions_next gave the text invalid utf-8"));
     let said = panic(|| version("v0a").next(0).is_some());
     assert_eq!(said, unexpected("versions_next", "length 5"));
+    let said = panic(|| version("v0a").next_pre(Some("rc")).is_some());
+    assert_eq!(said, unexpected("versions_next_pre", "length 10"));
     assert_eq!(
         panic(|| wanted.why_not(&general).is_some()),
         unexpected("versions_why_not", "reason 9")

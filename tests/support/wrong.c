@@ -140,6 +140,16 @@ int versions_next(const char *text, size_t text_len, size_t place, char *next, s
   return number(text, text_len);
 }
 
+int versions_next_release(const char *text, size_t text_len, char *next, size_t room, size_t *next_len) {
+  return versions_next(text, text_len, 0, next, room, next_len);
+}
+
+int versions_next_pre(const char *text, size_t text_len, const char *word, size_t word_len, char *next, size_t room,
+                      size_t *next_len) {
+  (void)word, (void)word_len;
+  return versions_next(text, text_len, 0, next, room, next_len);
+}
+
 /* The version begins where a field would end. */
 int versions_in_tag(const char *tag, size_t tag_len, size_t *start) {
   size_t before;
