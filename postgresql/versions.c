@@ -428,9 +428,9 @@ typedef struct {
   enum { NEXT, NEXT_RELEASE, NEXT_PRE } what;
   Span text, word;
   size_t place;
-} Asked;
+} NextAsked;
 
-static int ask_next(const Asked *asked, char *next, size_t room, size_t *len) {
+static int ask_next(const NextAsked *asked, char *next, size_t room, size_t *len) {
   Span text = asked->text, word = asked->word;
   switch (asked->what) {
     case NEXT_RELEASE: return versions_next_release(text.bytes, text.len, next, room, len);
@@ -440,7 +440,7 @@ static int ask_next(const Asked *asked, char *next, size_t room, size_t *len) {
 }
 
 /* What comes next, which has to fit its type. */
-static Datum next_of(FunctionCallInfo fcinfo, bool typed, const Asked *asked) {
+static Datum next_of(FunctionCallInfo fcinfo, bool typed, const NextAsked *asked) {
   Span found = {NULL, 0};
   text *next;
   int status = ask_next(asked, NULL, 0, &found.len);
@@ -454,17 +454,17 @@ static Datum next_of(FunctionCallInfo fcinfo, bool typed, const Asked *asked) {
 
 /* A place below 0 is, as a size_t, above each place of a version. */
 FUNCTIONS(version_next) {
-  Asked asked = {NEXT, span_of(PG_GETARG_TEXT_PP(0)), {NULL, 0}, (size_t)PG_GETARG_INT64(1)};
+  NextAsked asked = {NEXT, span_of(PG_GETARG_TEXT_PP(0)), {NULL, 0}, (size_t)PG_GETARG_INT64(1)};
   return next_of(fcinfo, typed, &asked);
 }
 
 FUNCTIONS(version_next_release) {
-  Asked asked = {NEXT_RELEASE, span_of(PG_GETARG_TEXT_PP(0)), {NULL, 0}, 0};
+  NextAsked asked = {NEXT_RELEASE, span_of(PG_GETARG_TEXT_PP(0)), {NULL, 0}, 0};
   return next_of(fcinfo, typed, &asked);
 }
 
 FUNCTIONS(version_next_pre) {
-  Asked asked = {NEXT_PRE, span_of(PG_GETARG_TEXT_PP(0)), {NULL, 0}, 0};
+  NextAsked asked = {NEXT_PRE, span_of(PG_GETARG_TEXT_PP(0)), {NULL, 0}, 0};
   if (PG_NARGS() == 2) asked.word = span_of(PG_GETARG_TEXT_PP(1));
   return next_of(fcinfo, typed, &asked);
 }
