@@ -188,6 +188,7 @@ VERSIONS = (
     Run("filter >=1.0,", "1.0\n", status=1, fault=f"versions: not a set: >=1.0,; at byte 7: {NO_MEMBER}\n"),
     Run("test 1 lt 'x y'", status=2, fault="versions: not a version: x y\n"),
     Run("meets * 1.2", status=2, fault=f"versions: not a set: 1.2; at byte 1: {NO_OPERATOR}\n"),
+    Run("next minor --word rc 1.2.3", status=2, fault=f"error: the argument '--word <W>' takes the place 'pre' alone{MORE}"),
     Run("next 3 1.2.3", status=1, fault="versions: no version comes next at that place: 1.2.3\n"),
     Run(
         "sort -t ab",
