@@ -4,6 +4,8 @@ pub mod Gem
 pub mod General
 pub mod Left
 pub mod Mixed
+pub mod Pypi
 pub mod Rpm
+pub mod Schemes
 pub mod SemVer
 pub mod Within

@@ -11,7 +11,7 @@ use version_rules::{Class, begins_with, split_run};
 
 /// Returns the length in bytes of the longest beginning of a text that some continuation makes a version of Debian
 /// (Debian Policy, 5.6.12). Takes time linear in the text. Does not allocate.
-pub fn deb_length(text: &[u8]) -> usize
+pub(crate) fn deb_length(text: &[u8]) -> usize
     ensures { IsLongestViable (λ begun. is_some (deb_of begun)) text.now result }
 {
     text.len() - after_deb(text).len()

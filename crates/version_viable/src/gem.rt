@@ -12,7 +12,7 @@ use version_rules::{Class, split_run};
 
 /// Returns the length in bytes of the longest beginning of a text that some continuation makes a version of RubyGems.
 /// Takes time linear in the text. Does not allocate.
-pub fn gem_length(text: &[u8]) -> usize
+pub(crate) fn gem_length(text: &[u8]) -> usize
     ensures { IsLongestViable (λ begun. is_some (gem_of begun)) text.now result }
 {
     text.len() - after_gem(text).len()

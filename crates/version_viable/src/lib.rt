@@ -6,12 +6,10 @@ mod bytes;
 mod deb;
 mod gem;
 mod mixed;
+mod pypi;
 mod rpm;
 mod semver;
 mod texts;
+mod viable;
 
-pub use deb::deb_length;
-pub use gem::gem_length;
-pub use mixed::mixed_length;
-pub use rpm::rpm_length;
-pub use semver::semver_length;
+pub use viable::viable_length;

@@ -17,7 +17,7 @@ use version_texts::{is_digits, spells_numeral};
 
 /// Returns the length in bytes of the longest beginning of a text that some continuation makes a version of any kind
 /// (docs/GRAMMAR.md). Takes time linear in the text. Does not allocate.
-pub fn mixed_length(text: &[u8]) -> usize
+pub(crate) fn mixed_length(text: &[u8]) -> usize
     ensures { IsLongestViable (λ begun. is_some (versioning_of begun)) text.now result }
 {
     let general = after_general(text);

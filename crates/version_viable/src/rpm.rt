@@ -10,7 +10,7 @@ use crate::texts::{after_byte, is_epoch};
 
 /// Returns the length in bytes of the longest beginning of a text that some continuation makes a version of RPM. Takes
 /// time linear in the text. Does not allocate.
-pub fn rpm_length(text: &[u8]) -> usize
+pub(crate) fn rpm_length(text: &[u8]) -> usize
     ensures { IsLongestViable (λ begun. is_some (rpm_of begun)) text.now result }
 {
     text.len() - after_rpm(text).len()

@@ -14,7 +14,7 @@ use version_texts::is_digits;
 
 /// Returns the length in bytes of the longest beginning of a text that some continuation makes a version of SemVer
 /// 2.0.0. Takes time linear in the text. Does not allocate.
-pub fn semver_length(text: &[u8]) -> usize
+pub(crate) fn semver_length(text: &[u8]) -> usize
     ensures { IsLongestViable (λ begun. is_some (semver_of begun)) text.now result }
 {
     text.len() - after_core(text).len()

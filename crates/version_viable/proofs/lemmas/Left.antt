@@ -1,5 +1,5 @@
 -- What is left of a text after its longest viable beginning, piece by piece.
-use Rattle.std.proofs.Common.{◌≡◌, ◌==◌, ◌&&◌, ◌||◌, ◌-◌, ◌<◌, ◌≤◌, ◌∙◌, ℕ, Bool, true, false, List, [], ◌∷◌, ◌++◌, ap, append_assoc, arith, drop, length, length-append, not, refl, subst, suc, sym, take, if◌then◌else◌, inl, inr}
+use Rattle.std.proofs.Common.{◌≡◌, ◌⊎◌, ◌==◌, ◌&&◌, ◌||◌, ◌-◌, ◌<◌, ◌≤◌, ◌∙◌, ℕ, Bool, true, false, List, [], ◌∷◌, ◌++◌, ap, append_assoc, arith, drop, length, length-append, not, refl, subst, suc, sym, take, if◌then◌else◌, inl, inr}
 use Rattle.std.specs.List.{list_all, prefix_len, take_while}
 use Rattle.version_rules.specs.grammar.Front.{begins}
 use Rattle.version_rules.proofs.lemmas.Front.Runs.{begins-drop, list_all-take_while, prefix_len-append, take_while-all}
@@ -69,6 +69,45 @@ unless mark test other alike closed text left none is = record {
       ∙ ap (begins mark) (sym (is.whole ∙ ap (λ (l : List ℕ). is.begun ++ l) e)) ∙ none)
       ∙ is.stuck byte after e more;
 }
+
+-- tests that agree on the texts that begin with a byte of a class
+pub where_begins : (class : ℕ → Bool) (test other : List ℕ → Bool)
+    → ((text : List ℕ) → begins class text ≡ true → test text ≡ other text)
+    → ((text : List ℕ) → other text ≡ true → begins class text ≡ true) → (text left : List ℕ)
+    → begins class text ≡ true → IsLeft other text left → IsLeft test text left
+where_begins class test other alike closed text left some is = record {
+  begun = is.begun;
+  whole = is.whole;
+  viable = record {
+    rest = is.viable.rest;
+    passes = alike _ (closed _ is.viable.passes) ∙ is.viable.passes;
+  };
+  stuck = λ byte after e more.
+      alike _ (first_byte class is.begun byte after more
+      ∙ ap (begins class) (sym (is.whole ∙ ap (λ (l : List ℕ). is.begun ++ l) e)) ∙ some)
+      ∙ is.stuck byte after e more;
+}
+
+-- tests that agree on the texts that begin with no byte of a class, and of which nothing passes one
+pub unless_nothing : (mark : ℕ → Bool) (test other : List ℕ → Bool)
+    → ((text : List ℕ) → begins mark text ≡ false → test text ≡ other text) → test [] ≡ true → (text left : List ℕ)
+    → begins mark text ≡ false → IsLeft other text left → IsLeft test text left
+unless_nothing mark test other alike nothing text left none is = record {
+  begun = is.begun;
+  whole = is.whole;
+  viable = by is.begun is.whole is.viable;
+  stuck = λ byte after e more.
+      alike _ (first_byte mark is.begun byte after more
+      ∙ ap (begins mark) (sym (is.whole ∙ ap (λ (l : List ℕ). is.begun ++ l) e)) ∙ none)
+      ∙ is.stuck byte after e more;
+}
+  where
+    by : (begun : List ℕ) → text ≡ begun ++ left → IsViable other begun → IsViable test begun
+    by [] e viable = record { rest = []; passes = nothing }
+    by (b ∷ begun) e viable = record {
+      rest = viable.rest;
+      passes = alike _ (ap (begins mark) (sym e) ∙ none) ∙ viable.passes;
+    }
 
 -- a run stays where another byte follows
 run_of : (class : ℕ → Bool) (run rest : List ℕ) → list_all class run ≡ true → begins class rest ≡ false
@@ -371,7 +410,26 @@ longest test text left is =
     subst (λ (l : List ℕ). IsLongestViable test l (length text - length left)) (sym is.whole)
     (subst (IsLongestViable test (is.begun ++ left)) count (as_length test is.begun left is.viable is.stuck))
 
+-- the same of tests that agree
+pub longest_alike : (test other : List ℕ → Bool) → ((text : List ℕ) → test text ≡ other text) → (text : List ℕ) (n : ℕ)
+    → IsLongestViable other text n → IsLongestViable test text n
+longest_alike test other alike text n is = record {
+  within = is.within;
+  viable = record { rest = is.viable.rest; passes = alike _ ∙ is.viable.passes };
+  longest = λ m longer within viable.
+      is.longest m longer within (record { rest = viable.rest; passes = sym (alike _) ∙ viable.passes });
+}
+
 -- ---- slices
 
 pub behind_first : (text : List ℕ) → take (length text - 1) (drop 1 text) ≡ drop 1 text
 behind_first text = take_all (length text - 1) (drop 1 text) (omega (arith, length-drop 1 text))
+
+-- the shorter of what two tests leave
+pub shorter_left : (test one other : List ℕ → Bool) → ((text : List ℕ) → test text ≡ (one text || other text))
+    → (text x y left : List ℕ) → IsLeft one text x → IsLeft other text y
+    → ((length x ≤ length y) × (left ≡ x)) ⊎ ((length y ≤ length x) × (left ≡ y)) → IsLeft test text left
+shorter_left test one other either text x y left is more (inl cut) =
+    subst (IsLeft test text) (sym cut.1) (further test one other either text x y is more cut.0)
+shorter_left test one other either text x y left is more (inr cut) =
+    subst (IsLeft test text) (sym cut.1) (further_other test one other either text x y is more cut.0)
