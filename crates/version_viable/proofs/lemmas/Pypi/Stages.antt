@@ -49,6 +49,14 @@ letter_of letter word (byte ∷ text) rest e = elim (cases_Bool (to_ascii_lowerc
   | inr other ↦ cc (rw other at e)
 ]
 
+two_of : (letter second : ℕ) (word text rest : List ℕ) → after_word (letter ∷ second ∷ word) text ≡ Some rest
+    → (byte : ℕ) × (next : ℕ) × (more : List ℕ) × (text ≡ byte ∷ next ∷ more) × (to_ascii_lowercase byte ≡ letter)
+    × (to_ascii_lowercase next ≡ second) × (after_word word more ≡ Some rest)
+two_of letter second word text rest e =
+    let one = letter_of letter (second ∷ word) text rest e in
+    let two = letter_of second word one.1 rest one.4 in
+    (one.0, two.0, two.1, one.2 ∙ ap (λ (l : List ℕ). one.0 ∷ l) two.2, one.3, two.3, two.4)
+
 -- ---- what does not follow
 
 -- a text that begins, perhaps behind a separator, with a byte that is neither a blank nor a plus
@@ -243,14 +251,18 @@ r_word text = stage_step after_post after_post (codes "r") [] text (λ rest e.
     let r = letter_of 114 [] (without_separator text) rest e in
     post_no text r.1 r.0 114 r.2 r.3 (omega arith) (omega arith) refl)
 
+-- what follows r is no post-release
+rev_no : (text more : List ℕ) (byte next : ℕ) → without_separator text ≡ byte ∷ next ∷ more → to_ascii_lowercase byte ≡ 114
+    → to_ascii_lowercase next ≡ 101 → stage after_post after_post (codes "r" ∷ []) text ≡ false
+rev_no text more byte next cut lower lower_next =
+    letter_stage after_post after_post [] text more 114 byte next 101 cut lower lower_next (omega arith) (omega arith)
+    ∙ post_at next 101 more lower_next (omega arith) (omega arith) refl
+
 pub rev_word : (text : List ℕ) → stage after_post after_post (codes "rev" ∷ codes "r" ∷ []) text
     ≡ (worded after_post (codes "rev") text || stage after_post after_post (codes "r" ∷ []) text)
 rev_word text = stage_step after_post after_post (codes "rev") (codes "r" ∷ []) text (λ rest e.
-    let r = letter_of 114 (codes "ev") (without_separator text) rest e in
-    let next = letter_of 101 (codes "v") r.1 rest r.4 in
-    letter_stage after_post after_post [] text next.1 114 r.0 next.0 101
-    (r.2 ∙ ap (λ (l : List ℕ). r.0 ∷ l) next.2) r.3 next.3 (omega arith) (omega arith)
-    ∙ post_at next.0 101 next.1 next.3 (omega arith) (omega arith) refl)
+    let two = two_of 114 101 (codes "v") (without_separator text) rest e in
+    rev_no text two.2 two.0 two.1 two.3 two.4 two.5)
 
 pub post_word : (text : List ℕ) → stage after_post after_post post_words text
     ≡ (worded after_post (codes "post") text || stage after_post after_post (codes "rev" ∷ codes "r" ∷ []) text)
@@ -387,9 +399,8 @@ pre_stage words text = stage after_pre after_pre words text
 
 pub pre_word : (text : List ℕ) → pre_stage (codes "pre" ∷ []) text ≡ (worded after_pre (codes "pre") text || after_pre text)
 pre_word text = stage_step after_pre after_pre (codes "pre") [] text (λ rest e.
-    let p = letter_of 112 (codes "re") (without_separator text) rest e in
-    let r = letter_of 114 (codes "e") p.1 rest p.4 in
-    pre_no_pr text r.1 p.0 r.0 (p.2 ∙ ap (λ (l : List ℕ). p.0 ∷ l) r.2) p.3 r.3)
+    let two = two_of 112 114 (codes "e") (without_separator text) rest e in
+    pre_no_pr text two.2 two.0 two.1 two.3 two.4 two.5)
 
 -- what follows pre
 pre_read : (text : List ℕ) (p r e : ℕ) (more : List ℕ) → without_separator text ≡ p ∷ r ∷ e ∷ more
@@ -400,18 +411,21 @@ pre_read text p r e more whole one two three =
     ap (λ (l : List ℕ). option_map_or (number_then after_pre) (after_any (codes "pre" ∷ []) l) (after_pre text)) whole
     ∙ ap (λ (o : Option (List ℕ)). option_map_or (number_then after_pre) (option_or o None) (after_pre text)) read
 
+preview_no : (text more : List ℕ) (p r e v : ℕ) → without_separator text ≡ p ∷ r ∷ e ∷ v ∷ more
+    → to_ascii_lowercase p ≡ 112 → to_ascii_lowercase r ≡ 114 → to_ascii_lowercase e ≡ 101 → to_ascii_lowercase v ≡ 118
+    → pre_stage (codes "pre" ∷ []) text ≡ false
+preview_no text more p r e v whole one two three four =
+    pre_read text p r e (v ∷ more) whole one two three
+    ∙ number_letter after_pre v 118 more four (omega arith) (omega arith)
+    ∙ pre_at v 118 more four (omega arith) (omega arith) refl refl
+
 pub preview_word : (text : List ℕ) → pre_stage (codes "preview" ∷ codes "pre" ∷ []) text
     ≡ (worded after_pre (codes "preview") text || pre_stage (codes "pre" ∷ []) text)
 preview_word text = stage_step after_pre after_pre (codes "preview") (codes "pre" ∷ []) text (λ rest e.
-    let p = letter_of 112 (codes "review") (without_separator text) rest e in
-    let r = letter_of 114 (codes "eview") p.1 rest p.4 in
-    let third = letter_of 101 (codes "view") r.1 rest r.4 in
-    let v = letter_of 118 (codes "iew") third.1 rest third.4 in
-    let whole : without_separator text ≡ p.0 ∷ r.0 ∷ third.0 ∷ v.0 ∷ v.1 =
-    p.2 ∙ ap (λ (l : List ℕ). p.0 ∷ l) (r.2 ∙ ap (λ (l : List ℕ). r.0 ∷ l) (third.2 ∙ ap (λ (l : List ℕ). third.0 ∷ l) v.2)) in
-    pre_read text p.0 r.0 third.0 (v.0 ∷ v.1) whole p.3 r.3 third.3
-    ∙ number_letter after_pre v.0 118 v.1 v.3 (omega arith) (omega arith)
-    ∙ pre_at v.0 118 v.1 v.3 (omega arith) (omega arith) refl refl)
+    let front = two_of 112 114 (codes "eview") (without_separator text) rest e in
+    let back = two_of 101 118 (codes "iew") front.2 rest front.6 in
+    preview_no text back.2 front.0 front.1 back.0 back.1
+    (front.3 ∙ ap (λ (l : List ℕ). front.0 ∷ front.1 ∷ l) back.3) front.4 front.5 back.4 back.5)
 
 pub c_word : (text : List ℕ) → pre_stage (codes "c" ∷ codes "preview" ∷ codes "pre" ∷ []) text
     ≡ (worded after_pre (codes "c") text || pre_stage (codes "preview" ∷ codes "pre" ∷ []) text)
@@ -420,13 +434,17 @@ c_word text = stage_step after_pre after_pre (codes "c") (codes "preview" ∷ co
     no_stage after_pre after_pre (codes "preview" ∷ codes "pre" ∷ []) text c.1 99 c.0 c.2 c.3 refl
     ∙ pre_no text c.1 c.0 99 c.2 c.3 (omega arith) (omega arith) refl refl)
 
+rc_no : (text more : List ℕ) (byte next : ℕ) → without_separator text ≡ byte ∷ next ∷ more → to_ascii_lowercase byte ≡ 114
+    → to_ascii_lowercase next ≡ 99 → pre_stage (codes "c" ∷ codes "preview" ∷ codes "pre" ∷ []) text ≡ false
+rc_no text more byte next cut lower lower_next =
+    no_stage after_pre after_pre (codes "c" ∷ codes "preview" ∷ codes "pre" ∷ []) text (next ∷ more) 114 byte cut lower refl
+    ∙ pre_no_rc text more byte next cut lower lower_next
+
 pub rc_word : (text : List ℕ) → pre_stage candidates text
     ≡ (worded after_pre (codes "rc") text || pre_stage (codes "c" ∷ codes "preview" ∷ codes "pre" ∷ []) text)
 rc_word text = stage_step after_pre after_pre (codes "rc") (codes "c" ∷ codes "preview" ∷ codes "pre" ∷ []) text (λ rest e.
-    let r = letter_of 114 (codes "c") (without_separator text) rest e in
-    let c = letter_of 99 [] r.1 rest r.4 in
-    no_stage after_pre after_pre (codes "c" ∷ codes "preview" ∷ codes "pre" ∷ []) text r.1 114 r.0 r.2 r.3 refl
-    ∙ pre_no_rc text c.1 r.0 c.0 (r.2 ∙ ap (λ (l : List ℕ). r.0 ∷ l) c.2) r.3 c.3)
+    let two = two_of 114 99 [] (without_separator text) rest e in
+    rc_no text two.2 two.0 two.1 two.3 two.4 two.5)
 
 pub b_word : (text : List ℕ) → pre_stage (codes "b" ∷ candidates) text
     ≡ (worded after_pre (codes "b") text || pre_stage candidates text)
@@ -435,14 +453,17 @@ b_word text = stage_step after_pre after_pre (codes "b") candidates text (λ res
     no_stage after_pre after_pre candidates text b.1 98 b.0 b.2 b.3 refl
     ∙ pre_no text b.1 b.0 98 b.2 b.3 (omega arith) (omega arith) refl refl)
 
+beta_no : (text more : List ℕ) (byte next : ℕ) → without_separator text ≡ byte ∷ next ∷ more → to_ascii_lowercase byte ≡ 98
+    → to_ascii_lowercase next ≡ 101 → pre_stage (codes "b" ∷ candidates) text ≡ false
+beta_no text more byte next cut lower lower_next =
+    letter_stage after_pre after_pre candidates text more 98 byte next 101 cut lower lower_next (omega arith) (omega arith)
+    ∙ pre_at next 101 more lower_next (omega arith) (omega arith) refl refl
+
 pub beta_word : (text : List ℕ) → pre_stage (codes "beta" ∷ codes "b" ∷ candidates) text
     ≡ (worded after_pre (codes "beta") text || pre_stage (codes "b" ∷ candidates) text)
 beta_word text = stage_step after_pre after_pre (codes "beta") (codes "b" ∷ candidates) text (λ rest e.
-    let b = letter_of 98 (codes "eta") (without_separator text) rest e in
-    let next = letter_of 101 (codes "ta") b.1 rest b.4 in
-    letter_stage after_pre after_pre candidates text next.1 98 b.0 next.0 101
-    (b.2 ∙ ap (λ (l : List ℕ). b.0 ∷ l) next.2) b.3 next.3 (omega arith) (omega arith)
-    ∙ pre_at next.0 101 next.1 next.3 (omega arith) (omega arith) refl refl)
+    let two = two_of 98 101 (codes "ta") (without_separator text) rest e in
+    beta_no text two.2 two.0 two.1 two.3 two.4 two.5)
 
 pub a_word : (text : List ℕ) → pre_stage (codes "a" ∷ codes "beta" ∷ codes "b" ∷ candidates) text
     ≡ (worded after_pre (codes "a") text || pre_stage (codes "beta" ∷ codes "b" ∷ candidates) text)
@@ -451,14 +472,18 @@ a_word text = stage_step after_pre after_pre (codes "a") (codes "beta" ∷ codes
     no_stage after_pre after_pre (codes "beta" ∷ codes "b" ∷ candidates) text a.1 97 a.0 a.2 a.3 refl
     ∙ pre_no text a.1 a.0 97 a.2 a.3 (omega arith) (omega arith) refl refl)
 
+alpha_no : (text more : List ℕ) (byte next : ℕ) → without_separator text ≡ byte ∷ next ∷ more → to_ascii_lowercase byte ≡ 97
+    → to_ascii_lowercase next ≡ 108 → pre_stage (codes "a" ∷ codes "beta" ∷ codes "b" ∷ candidates) text ≡ false
+alpha_no text more byte next cut lower lower_next =
+    letter_stage after_pre after_pre (codes "beta" ∷ codes "b" ∷ candidates) text more 97 byte next 108 cut lower lower_next
+    (omega arith) (omega arith)
+    ∙ pre_at next 108 more lower_next (omega arith) (omega arith) refl refl
+
 pub alpha_word : (text : List ℕ) → pre_stage pre_words text
     ≡ (worded after_pre (codes "alpha") text || pre_stage (codes "a" ∷ codes "beta" ∷ codes "b" ∷ candidates) text)
 alpha_word text = stage_step after_pre after_pre (codes "alpha") (codes "a" ∷ codes "beta" ∷ codes "b" ∷ candidates) text (λ rest e.
-    let a = letter_of 97 (codes "lpha") (without_separator text) rest e in
-    let next = letter_of 108 (codes "pha") a.1 rest a.4 in
-    letter_stage after_pre after_pre (codes "beta" ∷ codes "b" ∷ candidates) text next.1 97 a.0 next.0 108
-    (a.2 ∙ ap (λ (l : List ℕ). a.0 ∷ l) next.2) a.3 next.3 (omega arith) (omega arith)
-    ∙ pre_at next.0 108 next.1 next.3 (omega arith) (omega arith) refl refl)
+    let two = two_of 97 108 (codes "pha") (without_separator text) rest e in
+    alpha_no text two.2 two.0 two.1 two.3 two.4 two.5)
 
 -- ---- nothing follows
 
