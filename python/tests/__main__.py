@@ -1,4 +1,4 @@
-"""Runs the tests of the installed package, and the examples of its docstrings, of docs/PYTHON.md, docs/COOKBOOK.md, docs/SCHEMES.md and both README.md.
+"""Runs the tests of the installed package, and the examples of its docstrings, of docs/PYTHON.md, docs/SCHEMES.md and both README.md.
 
     python/tests [interpreter]
 
@@ -16,7 +16,7 @@ import versions
 
 HERE = os.path.dirname(os.path.abspath(__file__))
 TOP = os.path.join(HERE, "..", "..")
-NAMES = ("README.md", "docs/PYTHON.md", "docs/COOKBOOK.md", "docs/SCHEMES.md", "python/README.md")
+NAMES = ("README.md", "docs/PYTHON.md", "docs/SCHEMES.md", "python/README.md")
 PAGES = [os.path.join(TOP, name) for name in NAMES]
 
 
