@@ -39,7 +39,8 @@ module _ (test : ℕ → Bool) (at : ℕ) (fails : test at ≡ false) where
   first_behind [] rest all = with_none (cut_first at rest)
   first_behind (byte ∷ front) rest all =
       rw (apart byte (first_so _ _ all))
-      (ap (with_byte byte) (first_behind front rest (second_so (test byte) _ all)) ∙ with_more byte front (cut_first at rest))
+      (ap (with_byte byte) (first_behind front rest (second_so (test byte) _ all))
+      ∙ with_more byte front (cut_first at rest))
 
   pub last_behind : (front rest : List ℕ) → list_all test front ≡ true
       → cut_last at (front ++ rest) ≡ with_front front (cut_last at rest)
@@ -47,7 +48,8 @@ module _ (test : ℕ → Bool) (at : ℕ) (fails : test at ≡ false) where
   last_behind (byte ∷ front) rest all =
       rw (apart byte (first_so _ _ all))
       (or_none (with_byte byte (cut_last at (front ++ rest)))
-      ∙ ap (with_byte byte) (last_behind front rest (second_so (test byte) _ all)) ∙ with_more byte front (cut_last at rest))
+      ∙ ap (with_byte byte) (last_behind front rest (second_so (test byte) _ all))
+      ∙ with_more byte front (cut_last at rest))
 
 -- a text with a byte that fails
 pub not_all : (test : ℕ → Bool) (front rest : List ℕ) (byte : ℕ) → test byte ≡ false
@@ -83,7 +85,8 @@ cutting at (byte ∷ text) rest e = elim (cases_Bool (byte == at)) [
       let passes : not (byte == at) ≡ true = rw other refl in
       let some = run_cons (λ b. not (b == at)) byte text passes in
       let more = cutting at text rest (sym some.1 ∙ e) in
-      let here : cut_first at (byte ∷ text) ≡ option_map (λ (cut : List ℕ × List ℕ). (byte ∷ cut.0, cut.1)) (cut_first at text) =
+      let here : cut_first at (byte ∷ text) ≡ option_map (λ (cut : List ℕ × List ℕ). (byte ∷ cut.0, cut.1))
+      (cut_first at text) =
       rw other refl in
       here ∙ ap (option_map (λ (cut : List ℕ × List ℕ). (byte ∷ cut.0, cut.1))) more
       ∙ grown_cut byte (take_while (λ b. not (b == at)) text) rest

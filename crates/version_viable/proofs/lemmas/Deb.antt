@@ -1,6 +1,5 @@
 -- What is left of a text as a version of Debian. A hyphen and a revision may follow any upstream version.
 use Rattle.std.proofs.Common.{◌≡◌, ◌==◌, ◌&&◌, ◌||◌, ◌∙◌, ℕ, Bool, true, false, List, [], ◌∷◌, ◌++◌, Option, None, Some, ap, append-nil, append_assoc, arith, drop, if◌then◌else◌, inl, inr, length, nat_le, refl, subst, sym}
-use Rattle.std.proofs.Math.Dec.{eqb-suc-zero}
 use Rattle.std.proofs.lemmas.Bool.{and_from, cases_Bool, eqb-true, or_left}
 use Rattle.std.proofs.lemmas.Bool.Decides.{nat_tests}
 use Rattle.std.proofs.lemmas.List.{take-append-drop}
@@ -23,7 +22,7 @@ use Rattle.version_schemes.specs.deb.Texts.{behind_epoch, deb_of, is_of_revision
 use Rattle.version_viable.specs.Viable.{IsLeft}
 use Rattle.version_viable.specs.deb.Parts.{is_behind_epoch}
 use Rattle.version_viable.proofs.lemmas.Cuts.{first_behind, not_all}
-use Rattle.version_viable.proofs.lemmas.Left.{behind, stays}
+use Rattle.version_viable.proofs.lemmas.Left.{behind, empty_run, stays}
 
 -- ---- behind an epoch
 
@@ -35,7 +34,8 @@ behind_test : (epoch : ℕ) (text : List ℕ) → is_some (behind_epoch epoch te
 behind_test epoch text = by (cut_last 45 text)
   where
     of : Option (List ℕ × List ℕ) → Option PlainDeb
-    of None = option_map (λ upstream. record { epoch = epoch; upstream = upstream; revision = part_of (48 ∷ []) }) (upstream_of text)
+    of None = option_map (λ upstream. record { epoch = epoch; upstream = upstream; revision = part_of (48 ∷ []) })
+        (upstream_of text)
     of (Some cut) = option_and_then (λ upstream.
         option_map (λ revision. record { epoch = epoch; upstream = upstream; revision = revision }) (revision_of cut.1))
         (upstream_of cut.0)
@@ -46,7 +46,9 @@ behind_test epoch text = by (cut_last 45 text)
     one false part make = refl
 
     two : (is also : Bool) (part other : Part) (make : Part → Part → PlainDeb)
-        → is_some (option_and_then (λ upstream. option_map (make upstream) (if also then Some other else None)) (if is then Some part else None))
+        → is_some
+        (option_and_then (λ upstream. option_map (make upstream) (if also then Some other else None))
+        (if is then Some part else None))
         ≡ (is && also)
     two true true part other make = refl
     two true false part other make = refl
@@ -77,7 +79,8 @@ last_whole at (byte ∷ text) cut e = by (cut_last at text) refl (byte == at) re
         (ap (λ (b : ℕ). b ∷ text) (eqb-true byte at at_byte))
     by None is false at_byte more = cc (rw (is, at_byte) at e)
 
-first_whole : (at : ℕ) (text : List ℕ) (cut : List ℕ × List ℕ) → cut_first at text ≡ Some cut → text ≡ cut.0 ++ at ∷ cut.1
+first_whole : (at : ℕ) (text : List ℕ) (cut : List ℕ × List ℕ) → cut_first at text ≡ Some cut → text
+    ≡ cut.0 ++ at ∷ cut.1
 first_whole at [] cut e = cc e
 first_whole at (byte ∷ text) cut e = by (byte == at) refl (cut_first at text) refl (first_whole at text)
   where
@@ -132,7 +135,8 @@ behind_revised : (text : List ℕ) → starts_with_digit text ≡ true → list_
     → is_behind_epoch (text ++ revision) ≡ true
 behind_revised text digit all =
     let upstream : is_upstream text ≡ true = and_from _ _ digit all in
-    behind_test 0 (text ++ revision) ∙ ap (cut_test (text ++ revision)) (cut_between 45 text (48 ∷ []) refl) ∙ rw upstream refl
+    behind_test 0 (text ++ revision) ∙ ap (cut_test (text ++ revision)) (cut_between 45 text (48 ∷ []) refl)
+    ∙ rw upstream refl
 
 pub upstream_left : (text run rest : List ℕ) → starts_with_digit text ≡ true → run ≡ take_while is_of_upstream text
     → rest ≡ drop (prefix_len is_of_upstream text) text → IsLeft is_behind_epoch text rest
@@ -143,7 +147,8 @@ upstream_left text run rest digit run_is rest_is = record {
     rest = revision;
     passes = behind_revised run (begins_run text digit ∙ refl) all;
   };
-  stuck = λ byte after e more. fails byte (ap (begins is_of_upstream) (sym e ∙ rest_is) ∙ begins-drop is_of_upstream text) more;
+  stuck = λ byte after e more. fails byte
+      (ap (begins is_of_upstream) (sym e ∙ rest_is) ∙ begins-drop is_of_upstream text) more;
 }
   where
     whole : text ≡ run ++ rest
@@ -197,7 +202,8 @@ deb_test text = by (cut_first 58 text)
     of (Some cut) = if is_epoch most cut.0 then Some (run_value cut.0, cut.1) else None
 
     epoch : (is : Bool) (number : ℕ) (rest : List ℕ)
-        → is_some (option_and_then (λ (c : ℕ × List ℕ). behind_epoch c.0 c.1) (if is then Some (number, rest) else None))
+        → is_some
+        (option_and_then (λ (c : ℕ × List ℕ). behind_epoch c.0 c.1) (if is then Some (number, rest) else None))
         ≡ (is && is_behind_epoch rest)
     epoch true number rest = any_epoch number rest
     epoch false number rest = refl
@@ -213,7 +219,8 @@ digits_upstream text is = all_weaker is_ascii_digit is_of_upstream of text (seco
     of : (byte : ℕ) → is_ascii_digit byte ≡ true → is_of_upstream byte ≡ true
     of byte e = grind (arith, nat_tests)
 
-deb_bytes : (text : List ℕ) → is_deb text ≡ true → (starts_with_digit text ≡ true) × (list_all is_of_upstream text ≡ true)
+deb_bytes : (text : List ℕ) → is_deb text ≡ true → (starts_with_digit text ≡ true) ×
+    (list_all is_of_upstream text ≡ true)
 deb_bytes text is = by (cut_first 58 text) refl (sym (deb_test text) ∙ is)
   where
     by : (cut : Option (List ℕ × List ℕ)) → cut_first 58 text ≡ cut → epoch_test text cut ≡ true
@@ -224,7 +231,8 @@ deb_bytes text is = by (cut_first 58 text) refl (sym (deb_test text) ∙ is)
         let digits = first_so (is_digits cut.0) _ (first_so (is_epoch most cut.0) _ passes) in
         let rest = behind_bytes cut.1 (second_so (is_epoch most cut.0) _ passes) in (
           ap starts_with_digit whole ∙ starts_joined cut.0 (58 ∷ cut.1) (first_so (starts_with_digit cut.0) _ digits),
-          ap (list_all is_of_upstream) whole ∙ all_joined is_of_upstream cut.0 (58 ∷ cut.1) (digits_upstream cut.0 digits) rest.1,
+          ap (list_all is_of_upstream) whole ∙ all_joined is_of_upstream cut.0 (58 ∷ cut.1)
+              (digits_upstream cut.0 digits) rest.1,
         )
 
 -- a byte of an upstream version without an epoch
@@ -237,7 +245,8 @@ before_upstream byte e = grind (arith, nat_tests)
 digit_before : (byte : ℕ) → is_ascii_digit byte ≡ true → before_colon byte ≡ true
 digit_before byte e = grind (arith, nat_tests)
 
-revised : (text : List ℕ) → starts_with_digit text ≡ true → list_all before_colon text ≡ true → is_deb (text ++ revision) ≡ true
+revised : (text : List ℕ) → starts_with_digit text ≡ true → list_all before_colon text ≡ true
+    → is_deb (text ++ revision) ≡ true
 revised text digit all =
     let none = (not_cut before_colon 58 (text ++ revision) refl (all_joined before_colon text revision all refl)).0 in
     deb_test (text ++ revision) ∙ ap (epoch_test (text ++ revision)) none
@@ -275,13 +284,10 @@ module _ (text digits rest : List ℕ) (digits_is : digits ≡ take_while is_asc
   all_before = all_weaker is_ascii_digit before_colon digit_before digits all
 
   pub no_digits : (length digits == 0) ≡ true → IsLeft is_deb text rest
-  no_digits none = subst (λ (l : List ℕ). IsLeft is_deb l rest) (sym (whole ∙ ap (λ (l : List ℕ). l ++ rest) (empty digits none)))
+  no_digits none = subst (λ (l : List ℕ). IsLeft is_deb l rest)
+      (sym (whole ∙ ap (λ (l : List ℕ). l ++ rest) (empty_run digits none)))
       (stays is_deb rest (48 ∷ []) refl (λ byte after e more. fails byte (ap starts_with_digit (sym e) ∙ ends) more))
     where
-      empty : (l : List ℕ) → (length l == 0) ≡ true → l ≡ []
-      empty [] e = refl
-      empty (byte ∷ l) e = cc (sym (eqb-suc-zero (length l)) ∙ e)
-
       fails : (byte : ℕ) → is_ascii_digit byte ≡ false → (more : List ℕ) → is_deb (byte ∷ more) ≡ false
       fails byte e more = elim (cases_Bool (is_deb (byte ∷ more))) [
         | inr none ↦ none
@@ -311,7 +317,8 @@ module _ (text digits rest : List ℕ) (digits_is : digits ≡ take_while is_asc
       whole = whole;
       viable = record { rest = revision; passes = revised digits first all_before };
       stuck = λ byte after e next.
-          ap (λ (b : ℕ). is_deb (digits ++ b ∷ next)) (eqb-true byte colon (ap (begins (λ b. b == colon)) (sym e ∙ cut)))
+          ap (λ (b : ℕ). is_deb (digits ++ b ∷ next))
+          (eqb-true byte colon (ap (begins (λ b. b == colon)) (sym e ∙ cut)))
           ∙ at_colon digits next all_before ∙ ap (λ (b : Bool). b && is_behind_epoch next) fails;
     }
 

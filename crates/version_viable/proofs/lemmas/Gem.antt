@@ -23,8 +23,9 @@ use Rattle.version_schemes.specs.gem.Texts.{are_pieces, gem_of, is_blank, is_pie
 use Rattle.version_viable.specs.Viable.{IsLeft}
 use Rattle.version_viable.specs.gem.Parts.{is_after_hyphen, is_ended, is_hyphenated, is_not_hyphen, is_pieces, is_plain, is_tail, then_blanks}
 use Rattle.version_viable.proofs.lemmas.Cuts.{cut_by, cutting, not_all}
-use Rattle.version_viable.proofs.lemmas.Left.{after_run, at_end, behind, is_nothing, last_piece, next, next_closed, next_piece, next_tail, unless, whole_run, wrong_piece}
+use Rattle.version_viable.proofs.lemmas.Left.{after_run, at_end, behind, empty_run, is_nothing, last_piece, next, next_closed, next_piece, next_tail, unless, whole_run, wrong_piece}
 use Rattle.version_viable.proofs.lemmas.Within.{and-assoc, and-true, split_within}
+use Rattle.version_viable.proofs.lemmas.Mixed.{dot_no_identifier, dot_no_letter}
 
 -- ---- bytes
 
@@ -70,7 +71,8 @@ piece_all test piece e = and-false (begins test piece) _ e
 
 -- ---- blanks
 
-pub blanks_left : (text rest : List ℕ) → rest ≡ drop (prefix_len is_blank text) text → IsLeft (list_all is_blank) text rest
+pub blanks_left : (text rest : List ℕ) → rest ≡ drop (prefix_len is_blank text) text
+    → IsLeft (list_all is_blank) text rest
 blanks_left text rest rest_is =
     let run = take_while is_blank text in
     at_end is_blank (list_all is_blank) (λ run rest. is_nothing rest) (whole_run is_blank) text run rest refl rest_is []
@@ -81,7 +83,8 @@ blanks_left text rest rest_is =
 after_hyphen_split : (text : List ℕ) → is_after_hyphen text
     ≡ (is_piece is_identifier_byte (take_while is_identifier_byte text)
     && next is_dot is_after_hyphen (list_all is_blank) (drop (prefix_len is_identifier_byte text) text))
-after_hyphen_split = split_within is_identifier_byte is_metadata_byte is_dot (is_piece is_identifier_byte) (list_all is_blank)
+after_hyphen_split = split_within is_identifier_byte is_metadata_byte is_dot (is_piece is_identifier_byte)
+    (list_all is_blank)
     identifier_metadata (λ byte e. ap is_metadata_byte (eqb-true byte dot e)) identifier_no_dot
     (piece_all is_identifier_byte)
     (λ byte text e. ap (λ (b : Bool). b && list_all is_blank text) (blank_no_metadata byte e))
@@ -102,41 +105,39 @@ blank_no_dot byte e = grind (arith, nat_tests)
 blank_no_letter : (byte : ℕ) → is_blank byte ≡ true → is_ascii_alphanumeric byte ≡ false
 blank_no_letter byte e = grind (arith, nat_tests)
 
-dot_no_identifier : (byte : ℕ) → is_dot byte ≡ true → is_identifier_byte byte ≡ false
-dot_no_identifier byte e = ap is_identifier_byte (eqb-true byte dot e)
-
-empty : (l : List ℕ) → (length l == 0) ≡ true → l ≡ []
-empty [] e = refl
-empty (byte ∷ l) e = cc (sym (eqb-suc-zero (length l)) ∙ e)
-
 module _ (text run rest : List ℕ) (run_is : run ≡ take_while is_identifier_byte text)
     (rest_is : rest ≡ drop (prefix_len is_identifier_byte text) text) where
   all_identifier : list_all is_identifier_byte run ≡ true
   all_identifier = ap (list_all is_identifier_byte) run_is ∙ list_all-take_while is_identifier_byte text
 
   pub no_identifier : (length run == 0) ≡ true → IsLeft is_after_hyphen text rest
-  no_identifier none = wrong_piece is_identifier_byte is_dot (is_piece is_identifier_byte) is_after_hyphen (list_all is_blank)
+  no_identifier none = wrong_piece is_identifier_byte is_dot (is_piece is_identifier_byte) is_after_hyphen
+      (list_all is_blank)
       after_hyphen_split dot_no_identifier (blank_apart is_identifier_byte is_dot blank_no_identifier blank_no_dot)
       text run rest run_is rest_is (no_piece_of is_identifier_byte run none) (97 ∷ [])
-      (ap (λ (l : List ℕ). is_after_hyphen (l ++ 97 ∷ [])) (empty run none))
+      (ap (λ (l : List ℕ). is_after_hyphen (l ++ 97 ∷ [])) (empty_run run none))
 
   pub last_identifier : (length run == 0) ≡ false → begins is_dot rest ≡ false → (left : List ℕ)
       → IsLeft (list_all is_blank) rest left → IsLeft is_after_hyphen text left
-  last_identifier some = last_piece is_identifier_byte is_dot (is_piece is_identifier_byte) is_after_hyphen (list_all is_blank)
+  last_identifier some = last_piece is_identifier_byte is_dot (is_piece is_identifier_byte) is_after_hyphen
+      (list_all is_blank)
       after_hyphen_split dot_no_identifier (blank_apart is_identifier_byte is_dot blank_no_identifier blank_no_dot)
       text run rest run_is rest_is (some_piece is_identifier_byte run all_identifier some)
 
   pub next_identifier : (length run == 0) ≡ false → (more : List ℕ) → rest ≡ dot ∷ more → (left : List ℕ)
       → IsLeft is_after_hyphen more left → IsLeft is_after_hyphen text left
-  next_identifier some more cut = next_piece is_identifier_byte is_dot (is_piece is_identifier_byte) is_after_hyphen (list_all is_blank)
+  next_identifier some more cut = next_piece is_identifier_byte is_dot (is_piece is_identifier_byte) is_after_hyphen
+      (list_all is_blank)
       after_hyphen_split dot_no_identifier (blank_apart is_identifier_byte is_dot blank_no_identifier blank_no_dot)
       text run rest run_is rest_is (some_piece is_identifier_byte run all_identifier some) dot more cut refl
 
 -- ---- what may follow a piece before it
 
-pub hyphen_tail : (text more left : List ℕ) → text ≡ hyphen ∷ more → IsLeft is_after_hyphen more left → IsLeft is_tail text left
+pub hyphen_tail : (text more left : List ℕ) → text ≡ hyphen ∷ more → IsLeft is_after_hyphen more left
+    → IsLeft is_tail text left
 hyphen_tail text more left cut is =
-    subst (λ (l : List ℕ). IsLeft is_tail l left) (sym cut) (behind is_tail is_after_hyphen (hyphen ∷ []) (λ t. refl) more left is)
+    subst (λ (l : List ℕ). IsLeft is_tail l left) (sym cut)
+    (behind is_tail is_after_hyphen (hyphen ∷ []) (λ t. refl) more left is)
 
 blanks_tail : (text : List ℕ) → begins (λ b. b == hyphen) text ≡ false → is_tail text ≡ list_all is_blank text
 blanks_tail [] e = refl
@@ -245,9 +246,6 @@ pieces_split text =
     ∙ and-assoc piece _ _
     ∙ ap (λ (b : Bool). piece && b) (then_next rest (begins-drop is_ascii_alphanumeric text))
 
-dot_no_letter : (byte : ℕ) → is_dot byte ≡ true → is_ascii_alphanumeric byte ≡ false
-dot_no_letter byte e = ap is_ascii_alphanumeric (eqb-true byte dot e)
-
 module _ (text run rest : List ℕ) (run_is : run ≡ take_while is_ascii_alphanumeric text)
     (rest_is : rest ≡ drop (prefix_len is_ascii_alphanumeric text) text) where
   all_letters : list_all is_ascii_alphanumeric run ≡ true
@@ -255,18 +253,22 @@ module _ (text run rest : List ℕ) (run_is : run ≡ take_while is_ascii_alphan
 
   pub no_letters : (length run == 0) ≡ true → IsLeft is_pieces text rest
   no_letters none = wrong_piece is_ascii_alphanumeric is_dot (is_piece is_ascii_alphanumeric) is_pieces is_tail
-      pieces_split dot_no_letter tail_apart text run rest run_is rest_is (no_piece_of is_ascii_alphanumeric run none) (97 ∷ [])
-      (ap (λ (l : List ℕ). is_pieces (l ++ 97 ∷ [])) (empty run none))
+      pieces_split dot_no_letter tail_apart text run rest run_is rest_is
+      (no_piece_of is_ascii_alphanumeric run none) (97 ∷ [])
+      (ap (λ (l : List ℕ). is_pieces (l ++ 97 ∷ [])) (empty_run run none))
 
   pub last_letters : (length run == 0) ≡ false → begins is_dot rest ≡ false → (left : List ℕ)
       → IsLeft is_tail rest left → IsLeft is_pieces text left
   last_letters some = last_piece is_ascii_alphanumeric is_dot (is_piece is_ascii_alphanumeric) is_pieces is_tail
-      pieces_split dot_no_letter tail_apart text run rest run_is rest_is (some_piece is_ascii_alphanumeric run all_letters some)
+      pieces_split dot_no_letter tail_apart text run rest run_is rest_is
+      (some_piece is_ascii_alphanumeric run all_letters some)
 
   pub next_letters : (length run == 0) ≡ false → (more : List ℕ) → rest ≡ dot ∷ more → (left : List ℕ)
       → IsLeft is_pieces more left → IsLeft is_pieces text left
-  next_letters some more cut = next_piece is_ascii_alphanumeric is_dot (is_piece is_ascii_alphanumeric) is_pieces is_tail
-      pieces_split dot_no_letter tail_apart text run rest run_is rest_is (some_piece is_ascii_alphanumeric run all_letters some)
+  next_letters some more cut = next_piece is_ascii_alphanumeric is_dot
+      (is_piece is_ascii_alphanumeric) is_pieces is_tail
+      pieces_split dot_no_letter tail_apart text run rest run_is rest_is
+      (some_piece is_ascii_alphanumeric run all_letters some)
       dot more cut refl
 
 -- ---- the first piece, which is digits
@@ -278,7 +280,8 @@ before_dot (byte ∷ text) = elim (cases_Bool (is_dot byte)) [
   | inr other ↦ rw other (ap (λ (n : ℕ). 1 + n) (before_dot text))
 ]
 
-digits_run : (text : List ℕ) → is_digits text ≡ (begins is_ascii_digit text && is_nothing (drop (prefix_len is_ascii_digit text) text))
+digits_run : (text : List ℕ) → is_digits text
+    ≡ (begins is_ascii_digit text && is_nothing (drop (prefix_len is_ascii_digit text) text))
 digits_run text = ap (λ (b : Bool). begins is_ascii_digit text && b) (whole_run is_ascii_digit text)
 
 -- whether the first piece ends with its digits
@@ -293,13 +296,15 @@ first_digits text =
     let inner = run_within is_ascii_digit is_not_dot digit_no_dot front in
     ap (λ (n : ℕ). is_digits (take n front)) (before_dot front)
     ∙ digits_run (take_while is_not_dot front)
-    ∙ (λ i. (begins_inner is_ascii_digit is_not_dot digit_no_dot front ∙ begins_inner is_ascii_digit is_not_hyphen digit_no_hyphen text) i
+    ∙ (λ i. (begins_inner is_ascii_digit is_not_dot digit_no_dot front
+    ∙ begins_inner is_ascii_digit is_not_hyphen digit_no_hyphen text) i
     && is_nothing ((inner.1 ∙ ap (take_while is_not_dot) outer.1) i))
 
 release_cut : (text : List ℕ) → is_version text
     ≡ (is_release (take_while is_not_hyphen text) && is_hyphenated (drop (prefix_len is_not_hyphen text) text))
 release_cut text = ap of (cutting hyphen text _ refl)
-    ∙ by (take_while is_not_hyphen text) _ (sym (take-append-drop (prefix_len is_not_hyphen text) text)) (begins-drop is_not_hyphen text)
+    ∙ by (take_while is_not_hyphen text) _ (sym (take-append-drop (prefix_len is_not_hyphen text) text))
+    (begins-drop is_not_hyphen text)
   where
     of : Option (List ℕ × List ℕ) → Bool
     of None = is_release text
@@ -309,7 +314,8 @@ release_cut text = ap of (cutting hyphen text _ refl)
         → of (cut_by front rest) ≡ (is_release front && is_hyphenated rest)
     by front [] whole ends = ap is_release (whole ∙ append-nil front) ∙ sym (and-true (is_release front))
     by front (byte ∷ rest) whole ends =
-        sym (ap (λ (b : Bool). is_release front && (b && are_pieces is_identifier_byte rest)) (not_false (byte == hyphen) ends))
+        sym (ap (λ (b : Bool). is_release front && (b && are_pieces is_identifier_byte rest))
+        (not_false (byte == hyphen) ends))
 
 -- what follows the digits of the first piece
 abbrev first_next : List ℕ → Bool
@@ -339,17 +345,20 @@ version_split text =
     some : (l : List ℕ) → begins is_ascii_digit l ≡ true → (length (take_while is_ascii_digit l) == 0) ≡ false
     some [] e = cc e
     some (byte ∷ l) e =
-        ap (λ (t : List ℕ). length t == 0) (run_cons is_ascii_digit byte l e).0 ∙ eqb-suc-zero (length (take_while is_ascii_digit l))
+        ap (λ (t : List ℕ). length t == 0) (run_cons is_ascii_digit byte l e).0
+        ∙ eqb-suc-zero (length (take_while is_ascii_digit l))
 
     plain : begins is_ascii_digit text ≡ true → stops (drop (prefix_len is_ascii_digit text) text) ≡ true
         → is_plain text ≡ next is_dot is_plain is_hyphenated (drop (prefix_len is_ascii_digit text) text)
     plain digit stop =
-        let none = no_run is_ascii_alphanumeric (drop (prefix_len is_ascii_digit text) text) (stops_apart (drop (prefix_len is_ascii_digit text) text) stop) in
+        let none = no_run is_ascii_alphanumeric (drop (prefix_len is_ascii_digit text) text)
+        (stops_apart (drop (prefix_len is_ascii_digit text) text) stop) in
         let whole = larger_run is_ascii_digit is_ascii_alphanumeric digit_alphanumeric text in
         let rest_same = sym (rest_within is_ascii_digit is_ascii_alphanumeric digit_alphanumeric text) ∙ none.1 in
         let run_same : take_while is_ascii_alphanumeric text ≡ take_while is_ascii_digit text =
         run_and_more is_ascii_digit is_ascii_alphanumeric digit_alphanumeric text
-        ∙ ap (λ (l : List ℕ). take_while is_ascii_digit text ++ l) none.0 ∙ append-nil (take_while is_ascii_digit text) in
+        ∙ ap (λ (l : List ℕ). take_while is_ascii_digit text ++ l) none.0
+        ∙ append-nil (take_while is_ascii_digit text) in
         let all : list_all is_ascii_alphanumeric (take_while is_ascii_digit text) ≡ true =
         ap (list_all is_ascii_alphanumeric) (sym run_same) ∙ list_all-take_while is_ascii_alphanumeric text in
         let good = some_piece is_ascii_alphanumeric (take_while is_ascii_digit text) all (some text digit) in
@@ -357,11 +366,13 @@ version_split text =
         ∙ (λ i. is_piece is_ascii_alphanumeric (run_same i) && next is_dot is_plain is_hyphenated (rest_same i))
         ∙ ap (λ (b : Bool). b && next is_dot is_plain is_hyphenated (drop (prefix_len is_ascii_digit text) text)) good
 
-    by : (digit stop : Bool) → begins is_ascii_digit text ≡ digit → stops (drop (prefix_len is_ascii_digit text) text) ≡ stop
+    by : (digit stop : Bool) → begins is_ascii_digit text ≡ digit
+        → stops (drop (prefix_len is_ascii_digit text) text) ≡ stop
         → (begins is_ascii_digit text && (stops (drop (prefix_len is_ascii_digit text) text) && is_plain text))
         ≡ (begins is_ascii_digit text && first_next (drop (prefix_len is_ascii_digit text) text))
     by true true e f =
-        ap (λ (b : Bool). begins is_ascii_digit text && (stops (drop (prefix_len is_ascii_digit text) text) && b)) (plain e f)
+        ap (λ (b : Bool). begins is_ascii_digit text && (stops (drop (prefix_len is_ascii_digit text) text) && b))
+        (plain e f)
     by true false e f =
         ap (λ (b : Bool). begins is_ascii_digit text && (b && is_plain text)) f
         ∙ sym (ap (λ (b : Bool). begins is_ascii_digit text
@@ -377,10 +388,12 @@ all_within : (pieces : List (List ℕ)) (test : ℕ → Bool) → ((byte : ℕ) 
 all_within [] test within passes = refl
 all_within (piece ∷ pieces) test within passes =
     and_from _ _
-    (all_weaker test is_metadata_byte within piece (second_so (begins test piece) _ (first_so (is_piece test piece) _ passes)))
+    (all_weaker test is_metadata_byte within piece
+    (second_so (begins test piece) _ (first_so (is_piece test piece) _ passes)))
     (all_within pieces test within (second_so (is_piece test piece) _ passes))
 
-split_all : (text : List ℕ) → list_all (list_all is_metadata_byte) (slice_split is_dot text) ≡ list_all is_metadata_byte text
+split_all : (text : List ℕ) → list_all (list_all is_metadata_byte) (slice_split is_dot text)
+    ≡ list_all is_metadata_byte text
 split_all [] = refl
 split_all (byte ∷ text) = elim (cases_Bool (is_dot byte)) [
   | inl dots ↦
@@ -406,9 +419,11 @@ version_bytes : (text : List ℕ) → is_version text ≡ true → list_all is_m
 version_bytes text passes =
     ap (list_all is_metadata_byte) (sym (take-append-drop (prefix_len is_not_hyphen text) text))
     ∙ list_all-append is_metadata_byte (take_while is_not_hyphen text) (drop (prefix_len is_not_hyphen text) text)
-    ∙ and_from _ _ front (rest (drop (prefix_len is_not_hyphen text) text) (second_so (is_release (take_while is_not_hyphen text)) _ both))
+    ∙ and_from _ _ front
+    (rest (drop (prefix_len is_not_hyphen text) text) (second_so (is_release (take_while is_not_hyphen text)) _ both))
   where
-    both : (is_release (take_while is_not_hyphen text) && is_hyphenated (drop (prefix_len is_not_hyphen text) text)) ≡ true
+    both : (is_release (take_while is_not_hyphen text) && is_hyphenated (drop (prefix_len is_not_hyphen text) text))
+        ≡ true
     both = sym (release_cut text) ∙ passes
 
     front : list_all is_metadata_byte (take_while is_not_hyphen text) ≡ true
@@ -460,7 +475,8 @@ ended_blanks text =
     ∙ ended_parts (take_while is_metadata_byte text) (drop (prefix_len is_metadata_byte text) text)
     (list_all-take_while is_metadata_byte text) (begins-drop is_metadata_byte text)
 
-stops_true : (text : List ℕ) → list_all is_metadata_byte text ≡ true → begins is_ascii_alphanumeric text ≡ false → stops text ≡ true
+stops_true : (text : List ℕ) → list_all is_metadata_byte text ≡ true → begins is_ascii_alphanumeric text ≡ false
+    → stops text ≡ true
 stops_true [] all none = refl
 stops_true (byte ∷ text) all none = elim (cases_Bool (byte == hyphen)) [
   | inl here ↦
@@ -481,7 +497,8 @@ first_then : (rest : List ℕ) → then_blanks first_next rest ≡ next is_dot i
 first_then rest = elim (cases_Bool (begins is_ascii_alphanumeric rest)) [
   | inr none ↦
       let inner = begins_inner is_ascii_alphanumeric is_metadata_byte alphanumeric_metadata rest in
-      let stop = stops_true (take_while is_metadata_byte rest) (list_all-take_while is_metadata_byte rest) (inner ∙ none) in
+      let stop = stops_true (take_while is_metadata_byte rest) (list_all-take_while is_metadata_byte rest)
+      (inner ∙ none) in
       ap (λ (b : Bool). (b && next is_dot is_plain is_hyphenated (take_while is_metadata_byte rest))
       && list_all is_blank (drop (prefix_len is_metadata_byte rest) rest)) stop
       ∙ then_next rest none
@@ -547,7 +564,7 @@ module _ (text run rest : List ℕ) (run_is : run ≡ take_while is_ascii_digit 
   pub no_digits : (length run == 0) ≡ true → IsLeft is_ended text rest
   no_digits none =
       at_end is_ascii_digit is_ended ended_by ended_split text run rest run_is rest_is (48 ∷ [])
-      (ap (λ (l : List ℕ). is_ended (l ++ 48 ∷ [])) (empty run none))
+      (ap (λ (l : List ℕ). is_ended (l ++ 48 ∷ [])) (empty_run run none))
       (λ byte after e t. ap (λ (b : Bool). not b && next is_dot is_pieces is_tail (byte ∷ t)) none)
 
   module _ (some : (length run == 0) ≡ false) where
@@ -564,7 +581,8 @@ module _ (text run rest : List ℕ) (run_is : run ≡ take_while is_ascii_digit 
     pub no_dot : (left : List ℕ) → begins is_dot rest ≡ false → IsLeft is_tail rest left → IsLeft is_ended text left
     no_dot left none is =
         by_digits left (unless is_dot (ended_by run) is_tail
-        (λ t e. ap (λ (b : Bool). not b && next is_dot is_pieces is_tail t) some ∙ next_tail is_dot is_pieces is_tail t e)
+        (λ t e. ap (λ (b : Bool). not b && next is_dot is_pieces is_tail t) some
+        ∙ next_tail is_dot is_pieces is_tail t e)
         (λ t e. (tail_apart t e).1) rest left none is)
 
 -- ---- blanks before it

@@ -69,11 +69,13 @@ module _ (text : List ℕ) (epoch : has_epoch text ≡ true) where
   numeral_epoch : epoch_is_numeral text ≡ is_numeral (take_while is_ascii_digit text)
   numeral_epoch = rw starts (by (digits_len text))
     where
-      by : (n : ℕ) → ((n + 1 == 0) || is_numeral (take_while is_ascii_digit text)) ≡ is_numeral (take_while is_ascii_digit text)
+      by : (n : ℕ) → ((n + 1 == 0) || is_numeral (take_while is_ascii_digit text))
+          ≡ is_numeral (take_while is_ascii_digit text)
       by n = grind arith
 
   digits_run : is_digits (take_while is_ascii_digit text) ≡ true
-  digits_run = and_from _ _ (begins_inner is_ascii_digit is_ascii_digit (λ b h. h) text ∙ first_so (starts_with_digit text) _ epoch)
+  digits_run = and_from _ _
+      (begins_inner is_ascii_digit is_ascii_digit (λ b h. h) text ∙ first_so (starts_with_digit text) _ epoch)
       (list_all-take_while is_ascii_digit text)
 
   same_run : take_while is_ascii_alphanumeric text ≡ take_while is_ascii_digit text
@@ -99,7 +101,8 @@ module _ (text : List ℕ) (epoch : has_epoch text ≡ true) where
       ∙ (λ i. numeral_epoch i && is_parts (drop (starts i) text))
       ∙ sym ((λ i. part_numeral i && next (ends_epoch (same_run i)) is_parts more (same_rest i))
       ∙ ap (λ (b : Bool). is_numeral (take_while is_ascii_digit text)
-      && (if b && true then is_parts (drop (digits_len text + 1) text) else more (colon ∷ drop (digits_len text + 1) text))) digits_run)
+      && (if b && true then is_parts (drop (digits_len text + 1) text) else more
+      (colon ∷ drop (digits_len text + 1) text))) digits_run)
 
 module _ (text : List ℕ) (none : has_epoch text ≡ false) where
   at_start : body_start text ≡ 0
@@ -107,7 +110,8 @@ module _ (text : List ℕ) (none : has_epoch text ≡ false) where
   at_start = rw none refl
 
   all_parts : is_general text ≡ is_parts text
-  all_parts = general_parts text ∙ (λ i. ((at_start i == 0) || is_numeral (take_while is_ascii_digit text)) && is_parts (drop (at_start i) text))
+  all_parts = general_parts text
+      ∙ (λ i. ((at_start i == 0) || is_numeral (take_while is_ascii_digit text)) && is_parts (drop (at_start i) text))
 
   no_colon : (run rest : List ℕ) → text ≡ run ++ rest → list_all is_ascii_alphanumeric run ≡ true
       → more rest ≡ next (ends_epoch run) is_parts more rest
@@ -130,7 +134,8 @@ module _ (text : List ℕ) (none : has_epoch text ≡ false) where
       all_parts ∙ parts_split text
       ∙ ap (λ (b : Bool). is_part run && b)
       (no_colon run (drop (prefix_len is_ascii_alphanumeric text) text)
-      (sym (take-append-drop (prefix_len is_ascii_alphanumeric text) text)) (list_all-take_while is_ascii_alphanumeric text))
+      (sym (take-append-drop (prefix_len is_ascii_alphanumeric text) text))
+      (list_all-take_while is_ascii_alphanumeric text))
 
 general_split : (text : List ℕ) → is_general text
     ≡ first_by (take_while is_ascii_alphanumeric text) (drop (prefix_len is_ascii_alphanumeric text) text)
@@ -160,7 +165,8 @@ first_closed run text passes = by text (second_so (is_part run) _ passes)
     by [] e = refl
     by (c ∷ text) e = elim (cases_Bool (ends_epoch run c)) [
       | inl ends ↦ ap is_ascii_alphanumeric (eqb-true c colon (second_so (is_digits run) _ ends))
-      | inr other ↦ more_closed (c ∷ text) (sym (ap (λ (b : Bool). if b then is_parts text else more (c ∷ text)) other) ∙ e)
+      | inr other ↦ more_closed (c ∷ text)
+          (sym (ap (λ (b : Bool). if b then is_parts text else more (c ∷ text)) other) ∙ e)
     ]
 
 begins_epoch : (run rest : List ℕ) → begins (ends_epoch run) rest ≡ (is_digits run && begins (λ b. b == colon) rest)
@@ -212,13 +218,15 @@ module _ (text run rest : List ℕ) (run_is : run ≡ take_while is_ascii_alphan
       pub after_dot : (behind_dot left : List ℕ) → rest ≡ dot ∷ behind_dot → IsLeft is_parts behind_dot left
           → IsLeft is_general text left
       after_dot behind_dot left cut is =
-          by_more left (next_rest is_ascii_alphanumeric is_dot is_part is_parts is_tail parts_split dot_no_letter tail_apart
+          by_more left
+          (next_rest is_ascii_alphanumeric is_dot is_part is_parts is_tail parts_split dot_no_letter tail_apart
           run rest left dot behind_dot good cut refl is)
 
       pub after_first : (left : List ℕ) → begins is_dot rest ≡ false → IsLeft is_tail rest left
           → IsLeft is_general text left
       after_first left no_dot is =
-          by_more left (last_rest is_ascii_alphanumeric is_dot is_part is_parts is_tail parts_split dot_no_letter tail_apart
+          by_more left
+          (last_rest is_ascii_alphanumeric is_dot is_part is_parts is_tail parts_split dot_no_letter tail_apart
           run rest left good no_dot is)
 
 -- ---- of any kind

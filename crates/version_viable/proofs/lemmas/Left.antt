@@ -113,8 +113,11 @@ unless_nothing mark test other alike nothing text left none is = record {
 run_of : (class : ℕ → Bool) (run rest : List ℕ) → list_all class run ≡ true → begins class rest ≡ false
     → (take_while class (run ++ rest) ≡ run) × (drop (prefix_len class (run ++ rest)) (run ++ rest) ≡ rest)
 run_of class run rest all ends =
-    let count = prefix_len-append class run rest all ends in
-    (ap (λ (n : ℕ). take n (run ++ rest)) count ∙ take_at run rest _ refl, ap (λ (n : ℕ). drop n (run ++ rest)) count ∙ drop_at run rest _ refl)
+    let count = prefix_len-append class run rest all ends in (
+      ap (λ (n : ℕ). take n (run ++ rest)) count ∙ take_at run rest _ refl,
+      ap
+          (λ (n : ℕ). drop n (run ++ rest)) count ∙ drop_at run rest _ refl,
+    )
 
 -- by the run that a text begins with, and what follows it
 module _ (class : ℕ → Bool) (test : List ℕ → Bool) (by : List ℕ → List ℕ → Bool)
@@ -149,7 +152,8 @@ module _ (class : ℕ → Bool) (test : List ℕ → Bool) (by : List ℕ → Li
     stuck = λ byte after e more.
         ap test (append_assoc run is.begun (byte ∷ more))
         ∙ at_run (is.begun ++ byte ∷ more)
-        (first_byte class is.begun byte after more ∙ ap (begins class) (sym (is.whole ∙ ap (λ (l : List ℕ). is.begun ++ l) e)) ∙ ends)
+        (first_byte class is.begun byte after more ∙ ap (begins class)
+        (sym (is.whole ∙ ap (λ (l : List ℕ). is.begun ++ l) e)) ∙ ends)
         ∙ is.stuck byte after e more;
   }
 
@@ -235,7 +239,12 @@ run_left test letter text run rest run_is rest_is =
 
     by : (l : List ℕ) → list_all test l ≡ true → is_run test (l ++ 97 ∷ []) ≡ true
     by [] e = run_is_run test (97 ∷ []) (grown test letter [] e) refl
-    by (b ∷ l) e = run_is_run test (b ∷ (l ++ 97 ∷ [])) (grown test letter (b ∷ l) e) (eqb-suc-zero (length (l ++ 97 ∷ [])))
+    by (b ∷ l) e = run_is_run test (b ∷ (l ++ 97 ∷ [])) (grown test letter (b ∷ l) e)
+        (eqb-suc-zero (length (l ++ 97 ∷ [])))
+
+pub empty_run : (run : List ℕ) → (length run == 0) ≡ true → run ≡ []
+empty_run [] none = refl
+empty_run (byte ∷ run) none = cc (sym (eqb-suc-zero (length run)) ∙ none)
 
 pub nothing_nil : (text : List ℕ) → is_nothing text ≡ true → text ≡ []
 nothing_nil [] e = refl
@@ -284,7 +293,8 @@ module _ (class mark : ℕ → Bool) (good test tail : List ℕ → Bool)
   pub last_rest : (run rest left : List ℕ) → good run ≡ true → begins mark rest ≡ false
       → IsLeft tail rest left → IsLeft (by run) rest left
   last_rest run rest left is none tail_left =
-      unless mark (by run) tail (λ t e. rw is (next_tail mark test tail t e)) (λ t e. (tail_apart t e).1) rest left none tail_left
+      unless mark (by run) tail (λ t e. rw is (next_tail mark test tail t e))
+      (λ t e. (tail_apart t e).1) rest left none tail_left
 
   pub next_rest : (run rest left : List ℕ) (byte : ℕ) (more : List ℕ) → good run ≡ true → rest ≡ byte ∷ more
       → mark byte ≡ true → IsLeft test more left → IsLeft (by run) rest left
@@ -419,6 +429,10 @@ longest_alike test other alike text n is = record {
   longest = λ m longer within viable.
       is.longest m longer within (record { rest = viable.rest; passes = sym (alike _) ∙ viable.passes });
 }
+
+pub or-false : (p : Bool) → p ≡ (p || false)
+or-false true = refl
+or-false false = refl
 
 -- ---- slices
 

@@ -111,7 +111,8 @@ released_split : (text : List ℕ) → is_released text
     && next is_dot is_released is_metadata_tail (drop (prefix_len is_identifier_byte text) text))
 released_split = split_within is_identifier_byte is_not_plus is_dot is_release_chunk is_metadata_tail no_plus
     (λ byte e. ap is_not_plus (eqb-true byte dot e)) identifier_no_dot
-    (λ piece e. ap (λ (b : Bool). b && (is_numeral piece || not (list_all is_ascii_digit piece))) (and-false (not (length piece == 0)) _ e))
+    (λ piece e. ap (λ (b : Bool). b && (is_numeral piece || not (list_all is_ascii_digit piece)))
+    (and-false (not (length piece == 0)) _ e))
     no_plus_tail
   where
     no_plus : (byte : ℕ) → is_identifier_byte byte ≡ true → is_not_plus byte ≡ true
@@ -120,7 +121,7 @@ released_split = split_within is_identifier_byte is_not_plus is_dot is_release_c
     no_plus_tail : (byte : ℕ) (text : List ℕ) → is_not_plus byte ≡ true → is_metadata_tail (byte ∷ text) ≡ false
     no_plus_tail byte text e = rw (not_true (byte == plus) e) refl
 
-dot_no_identifier : (byte : ℕ) → is_dot byte ≡ true → is_identifier_byte byte ≡ false
+pub dot_no_identifier : (byte : ℕ) → is_dot byte ≡ true → is_identifier_byte byte ≡ false
 dot_no_identifier byte e = ap is_identifier_byte (eqb-true byte dot e)
 
 metadata_apart : (text : List ℕ) → is_metadata_tail text ≡ true
@@ -146,14 +147,17 @@ module _ (text run rest : List ℕ) (run_is : run ≡ take_while is_identifier_b
 
   pub next_chunk : is_release_chunk run ≡ true → (more : List ℕ) → rest ≡ dot ∷ more → (left : List ℕ)
       → IsLeft is_released more left → IsLeft is_released text left
-  next_chunk good more cut = next_piece is_identifier_byte is_dot is_release_chunk is_released is_metadata_tail released_split
+  next_chunk good more cut = next_piece is_identifier_byte is_dot is_release_chunk is_released is_metadata_tail
+      released_split
       dot_no_identifier metadata_apart text run rest run_is rest_is good dot more cut refl
 
 -- ---- tails
 
-pub released_tail : (text more left : List ℕ) → text ≡ hyphen ∷ more → IsLeft is_released more left → IsLeft is_tail text left
+pub released_tail : (text more left : List ℕ) → text ≡ hyphen ∷ more → IsLeft is_released more left
+    → IsLeft is_tail text left
 released_tail text more left cut is =
-    subst (λ (l : List ℕ). IsLeft is_tail l left) (sym cut) (behind is_tail is_released (hyphen ∷ []) (λ t. refl) more left is)
+    subst (λ (l : List ℕ). IsLeft is_tail l left) (sym cut)
+    (behind is_tail is_released (hyphen ∷ []) (λ t. refl) more left is)
 
 metadata_tail : (text : List ℕ) → begins (λ b. b == hyphen) text ≡ false → is_tail text ≡ is_metadata_tail text
 metadata_tail [] e = refl
@@ -162,7 +166,8 @@ metadata_tail (byte ∷ text) e = rw e refl
 pub unreleased_tail : (text left : List ℕ) → begins (λ b. b == hyphen) text ≡ false → IsLeft is_metadata_tail text left
     → IsLeft is_tail text left
 unreleased_tail text left none =
-    unless (λ b. b == hyphen) is_tail is_metadata_tail metadata_tail (λ t e. tail_begins t e (λ b. b == hyphen) refl) text left none
+    unless (λ b. b == hyphen) is_tail is_metadata_tail metadata_tail
+    (λ t e. tail_begins t e (λ b. b == hyphen) refl) text left none
 
 tail_apart_from : (test : ℕ → Bool) → test hyphen ≡ false → test plus ≡ false → (text : List ℕ) → is_tail text ≡ true
     → begins test text ≡ false
@@ -182,7 +187,8 @@ pub parts_split : (text : List ℕ) → is_parts text
     && next is_dot is_parts is_tail (drop (prefix_len is_ascii_alphanumeric text) text))
 parts_split = split_within is_ascii_alphanumeric is_section_byte is_dot is_part is_tail run_in_section
     (λ byte e. or_right (is_ascii_alphanumeric byte) _ e) no_dot_in_run
-    (λ piece e. ap (λ (b : Bool). b && (is_numeral piece || not (list_all is_ascii_digit piece))) (and-false (not (length piece == 0)) _ e))
+    (λ piece e. ap (λ (b : Bool). b && (is_numeral piece || not (list_all is_ascii_digit piece)))
+    (and-false (not (length piece == 0)) _ e))
     inside
   where
     inside : (byte : ℕ) (text : List ℕ) → is_section_byte byte ≡ true → is_tail (byte ∷ text) ≡ false

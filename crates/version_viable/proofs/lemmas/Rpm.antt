@@ -22,13 +22,14 @@ use Rattle.version_schemes.specs.rpm.Texts.{behind_epoch, is_of_rpm, is_version,
 use Rattle.version_viable.specs.Viable.{IsLeft}
 use Rattle.version_viable.specs.rpm.Parts.{is_behind_epoch, is_release_tail}
 use Rattle.version_viable.proofs.lemmas.Cuts.{first_behind, last_behind, not_all, with_front}
-use Rattle.version_viable.proofs.lemmas.Left.{after_run, at_end, behind, run_left, same, stays, unless}
+use Rattle.version_viable.proofs.lemmas.Left.{after_run, at_end, behind, empty_run, run_left, same, stays, unless}
 use Rattle.version_viable.proofs.lemmas.Within.{and-true}
 
 -- a version is a run of its bytes
 version_run : (text : List ℕ) → is_version text ≡ is_run is_of_rpm text
 version_run [] = refl
-version_run (byte ∷ text) = sym (ap (λ (b : Bool). not b && list_all is_of_rpm (byte ∷ text)) (eqb-suc-zero (length text)))
+version_run (byte ∷ text) = sym
+    (ap (λ (b : Bool). not b && list_all is_of_rpm (byte ∷ text)) (eqb-suc-zero (length text)))
 
 version_bytes : (text : List ℕ) → is_version text ≡ true → list_all is_of_rpm text ≡ true
 version_bytes [] is = refl
@@ -74,7 +75,9 @@ behind_test epoch text = by (cut_last 45 text)
     one false items make = refl
 
     two : (is also : Bool) (items others : List Item) (make : List Item → List Item → PlainRpm)
-        → is_some (option_and_then (λ version. option_map (make version) (if also then Some others else None)) (if is then Some items else None))
+        → is_some
+        (option_and_then (λ version. option_map (make version) (if also then Some others else None))
+        (if is then Some items else None))
         ≡ (is && also)
     two true true items others make = refl
     two true false items others make = refl
@@ -93,9 +96,11 @@ behind_by run rest = is_version run && is_release_tail rest
 behind_of : (run rest : List ℕ) → list_all is_of_rpm run ≡ true → begins is_of_rpm rest ≡ false
     → is_behind_epoch (run ++ rest) ≡ behind_by run rest
 behind_of run rest all ends =
-    behind_test 0 (run ++ rest) ∙ ap (cut_test (run ++ rest)) (last_behind is_of_rpm 45 refl run rest all) ∙ by rest ends
+    behind_test 0 (run ++ rest) ∙ ap (cut_test (run ++ rest)) (last_behind is_of_rpm 45 refl run rest all)
+    ∙ by rest ends
   where
-    by_byte : (byte : ℕ) (more : List ℕ) (cut : Option (List ℕ × List ℕ)) → cut_last 45 more ≡ cut → is_of_rpm byte ≡ false
+    by_byte : (byte : ℕ) (more : List ℕ) (cut : Option (List ℕ × List ℕ)) → cut_last 45 more ≡ cut → is_of_rpm byte
+        ≡ false
         → cut_test (run ++ byte ∷ more) (with_front run (cut_last 45 (byte ∷ more))) ≡ behind_by run (byte ∷ more)
     by_byte byte more (Some cut) e fails =
         let here : cut_last 45 (byte ∷ more) ≡ Some (byte ∷ cut.0, cut.1) = rw e refl in
@@ -165,12 +170,14 @@ rpm_of_parts run rest all ends =
         of (Some cut) = if is_epoch 4294967295 cut.0 then Some (run_value cut.0, cut.1) else None
 
     epoch : (is : Bool) (number : ℕ) (text : List ℕ)
-        → is_some (option_and_then (λ (c : ℕ × List ℕ). behind_epoch c.0 c.1) (if is then Some (number, text) else None))
+        → is_some
+        (option_and_then (λ (c : ℕ × List ℕ). behind_epoch c.0 c.1) (if is then Some (number, text) else None))
         ≡ (is && is_behind_epoch text)
     epoch true number text = any_epoch number text
     epoch false number text = refl
 
-    no_epoch : (front more : List ℕ) (byte : ℕ) → is_of_rpm byte ≡ false → is_epoch 4294967295 (front ++ byte ∷ more) ≡ false
+    no_epoch : (front more : List ℕ) (byte : ℕ) → is_of_rpm byte ≡ false
+        → is_epoch 4294967295 (front ++ byte ∷ more) ≡ false
     no_epoch front more byte fails =
         let no_digit : is_ascii_digit byte ≡ false = elim (cases_Bool (is_ascii_digit byte)) [
           | inr other ↦ other
@@ -182,7 +189,8 @@ rpm_of_parts run rest all ends =
         of_rpm : (byte : ℕ) → is_ascii_digit byte ≡ true → is_of_rpm byte ≡ true
         of_rpm byte digit = grind (arith, nat_tests)
 
-    by_byte : (byte : ℕ) (more : List ℕ) (cut : Option (List ℕ × List ℕ)) → cut_first 58 more ≡ cut → is_of_rpm byte ≡ false
+    by_byte : (byte : ℕ) (more : List ℕ) (cut : Option (List ℕ × List ℕ)) → cut_first 58 more ≡ cut → is_of_rpm byte
+        ≡ false
         → rest ≡ byte ∷ more → is_some (read (with_front run (cut_first 58 (byte ∷ more)))) ≡ rpm_by run (byte ∷ more)
     by_byte byte more cut e fails whole = elim (cases_Bool (byte == colon)) [
       | inl is ↦
@@ -199,7 +207,8 @@ rpm_of_parts run rest all ends =
     ]
       where
         other_byte : (cut : Option (List ℕ × List ℕ)) → cut_first 58 more ≡ cut → (byte == colon) ≡ false
-            → is_some (read (with_front run (cut_first 58 (byte ∷ more)))) ≡ (is_version run && is_release_tail (byte ∷ more))
+            → is_some (read (with_front run (cut_first 58 (byte ∷ more))))
+            ≡ (is_version run && is_release_tail (byte ∷ more))
         other_byte None e other =
             let here : cut_first 58 (byte ∷ more) ≡ None = rw (other, e) refl in
             ap (λ c. is_some (read (with_front run c))) here
@@ -217,13 +226,15 @@ rpm_of_parts run rest all ends =
     by_rest [] whole e = ap (λ (l : List ℕ). is_behind_epoch (run ++ l)) whole ∙ behind_of run [] all refl
     by_rest (byte ∷ more) whole e = by_byte byte more (cut_first 58 more) refl e whole
 
-    by : (left : List ℕ) → begins is_of_rpm left ≡ false → is_some (read (with_front run (cut_first 58 rest))) ≡ rpm_by run rest
+    by : (left : List ℕ) → begins is_of_rpm left ≡ false → is_some (read (with_front run (cut_first 58 rest)))
+        ≡ rpm_by run rest
     by left e = by_rest rest refl ends
 
 rpm_split : (text : List ℕ) → is_rpm text ≡ rpm_by (take_while is_of_rpm text) (drop (prefix_len is_of_rpm text) text)
 rpm_split text =
     ap is_rpm (run_and_rest text)
-    ∙ rpm_of_parts (take_while is_of_rpm text) (drop (prefix_len is_of_rpm text) text) (list_all-take_while is_of_rpm text)
+    ∙ rpm_of_parts (take_while is_of_rpm text) (drop (prefix_len is_of_rpm text) text)
+    (list_all-take_while is_of_rpm text)
     (begins-drop is_of_rpm text)
 
 rpm_closed : (run rest : List ℕ) → rpm_by run rest ≡ true → begins is_of_rpm rest ≡ false
@@ -236,10 +247,6 @@ rpm_closed run (byte ∷ text) passes = elim (cases_Bool (byte == colon)) [
 run_version : (run : List ℕ) → list_all is_of_rpm run ≡ true → (length run == 0) ≡ false → is_version run ≡ true
 run_version [] all some = cc some
 run_version (byte ∷ run) all some = all
-
-empty_run : (run : List ℕ) → (length run == 0) ≡ true → run ≡ []
-empty_run [] none = refl
-empty_run (byte ∷ run) none = cc (sym (eqb-suc-zero (length run)) ∙ none)
 
 module _ (text run rest : List ℕ) (run_is : run ≡ take_while is_of_rpm text)
     (rest_is : rest ≡ drop (prefix_len is_of_rpm text) text) where
@@ -279,7 +286,8 @@ module _ (text run rest : List ℕ) (run_is : run ≡ take_while is_of_rpm text)
     after_colon more left cut epoch is =
         after_run is_of_rpm is_rpm rpm_by rpm_split text run rest run_is rest_is (rpm_closed run) left
         (subst (λ (l : List ℕ). IsLeft (rpm_by run) l left) (sym cut)
-        (behind (rpm_by run) is_behind_epoch (colon ∷ []) (λ t. ap (λ (b : Bool). b && is_behind_epoch t) epoch) more left is))
+        (behind (rpm_by run) is_behind_epoch (colon ∷ [])
+        (λ t. ap (λ (b : Bool). b && is_behind_epoch t) epoch) more left is))
 
     pub no_epoch : (more : List ℕ) → rest ≡ colon ∷ more → is_epoch 4294967295 run ≡ false → IsLeft is_rpm text rest
     no_epoch more cut fails =

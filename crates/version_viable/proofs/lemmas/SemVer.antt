@@ -28,7 +28,7 @@ use Rattle.version_viable.specs.Viable.{IsLeft}
 use Rattle.version_viable.specs.semver.Core.{is_core, is_metadata, is_metadata_tail, is_pre_release, is_tail}
 use Rattle.version_viable.proofs.lemmas.Cuts.{cut_by, cutting}
 use Rattle.version_viable.proofs.lemmas.Left.{after_run, alone, grown, behind, is_nothing, last_piece, next, next_piece, nothing_apart, nothing_left, run_is_run, same, stays, wrong_piece}
-use Rattle.version_viable.proofs.lemmas.Mixed.{no_digits, some_bytes}
+use Rattle.version_viable.proofs.lemmas.Mixed.{dot_no_identifier, no_digits, some_bytes}
 use Rattle.version_viable.proofs.lemmas.Within.{and-assoc, and-true, split_pieces, split_within}
 
 -- ---- metadata
@@ -38,9 +38,6 @@ metadata_split : (text : List ℕ) → is_metadata text
     && next is_dot is_metadata is_nothing (drop (prefix_len is_identifier_byte text) text))
 metadata_split = split_pieces is_identifier_byte is_dot is_identifier identifier_no_dot
     (λ piece e. and-false (not (length piece == 0)) _ e)
-
-dot_no_identifier : (byte : ℕ) → is_dot byte ≡ true → is_identifier_byte byte ≡ false
-dot_no_identifier byte e = ap is_identifier_byte (eqb-true byte dot e)
 
 module _ (text run rest : List ℕ) (run_is : run ≡ take_while is_identifier_byte text)
     (rest_is : rest ≡ drop (prefix_len is_identifier_byte text) text) where
@@ -63,7 +60,8 @@ module _ (text run rest : List ℕ) (run_is : run ≡ take_while is_identifier_b
 
   pub next_identifier : (length run == 0) ≡ false → (more : List ℕ) → rest ≡ dot ∷ more
       → (left : List ℕ) → IsLeft is_metadata more left → IsLeft is_metadata text left
-  next_identifier some more cut = next_piece is_identifier_byte is_dot is_identifier is_metadata is_nothing metadata_split
+  next_identifier some more cut = next_piece is_identifier_byte is_dot is_identifier is_metadata is_nothing
+      metadata_split
       dot_no_identifier (nothing_apart is_identifier_byte is_dot) text run rest run_is rest_is
       (run_is_run is_identifier_byte run all some) dot more cut refl
 
@@ -80,8 +78,11 @@ no_plus text none = stays is_metadata_tail text [] refl
 -- ---- pre-releases
 
 pre_release_pieces : (text : List ℕ) → is_pre_release text
-    ≡ (list_all is_chunk (pieces (take_while is_not_plus text)) && is_metadata_tail (drop (prefix_len is_not_plus text) text))
-pre_release_pieces text = ap (λ o. is_some (before o)) (cutting plus text _ refl) ∙ by (take_while is_not_plus text) _ (sym (take-append-drop (prefix_len is_not_plus text) text)) (begins-drop is_not_plus text)
+    ≡ (list_all is_chunk (pieces (take_while is_not_plus text))
+    && is_metadata_tail (drop (prefix_len is_not_plus text) text))
+pre_release_pieces text = ap (λ o. is_some (before o)) (cutting plus text _ refl)
+    ∙ by (take_while is_not_plus text) _ (sym (take-append-drop (prefix_len is_not_plus text) text))
+    (begins-drop is_not_plus text)
   where
     before : Option (List ℕ × List ℕ) → Option (Option (List PlainChunk))
     before None = pre_release_of text
@@ -101,11 +102,13 @@ pre_release_pieces text = ap (λ o. is_some (before o)) (cutting plus text _ ref
     by : (front rest : List ℕ) → text ≡ front ++ rest → begins is_not_plus rest ≡ false
         → is_some (before (cut_by front rest)) ≡ (list_all is_chunk (pieces front) && is_metadata_tail rest)
     by front [] whole ends =
-        ap (λ (l : List ℕ). is_some (pre_release_of l)) (whole ∙ append-nil front) ∙ read (list_all is_chunk (pieces front)) _
+        ap (λ (l : List ℕ). is_some (pre_release_of l)) (whole ∙ append-nil front)
+        ∙ read (list_all is_chunk (pieces front)) _
         ∙ sym (and-true (list_all is_chunk (pieces front)))
     by front (byte ∷ rest) whole ends =
         read_both (is_metadata rest) (list_all is_chunk (pieces front)) _
-        ∙ sym (ap (λ (b : Bool). list_all is_chunk (pieces front) && (b && is_metadata rest)) (not_false (byte == plus) ends))
+        ∙ sym (ap (λ (b : Bool). list_all is_chunk (pieces front) && (b && is_metadata rest))
+        (not_false (byte == plus) ends))
 
 pre_release_split : (text : List ℕ) → is_pre_release text
     ≡ (is_chunk (take_while is_identifier_byte text)
@@ -114,9 +117,11 @@ pre_release_split text =
     pre_release_pieces text
     ∙ split_within is_identifier_byte is_not_plus is_dot is_chunk is_metadata_tail no_plus_byte
     (λ byte e. ap is_not_plus (eqb-true byte dot e)) identifier_no_dot
-    (λ piece e. ap (λ (b : Bool). b && (is_number piece || not (list_all is_ascii_digit piece))) (and-false (not (length piece == 0)) _ e))
+    (λ piece e. ap (λ (b : Bool). b && (is_number piece || not (list_all is_ascii_digit piece)))
+    (and-false (not (length piece == 0)) _ e))
     no_plus_tail text
-    ∙ ap (λ (b : Bool). is_chunk (take_while is_identifier_byte text) && b) (by (drop (prefix_len is_identifier_byte text) text))
+    ∙ ap (λ (b : Bool). is_chunk (take_while is_identifier_byte text) && b)
+    (by (drop (prefix_len is_identifier_byte text) text))
   where
     no_plus_byte : (byte : ℕ) → is_identifier_byte byte ≡ true → is_not_plus byte ≡ true
     no_plus_byte byte h = grind (arith, nat_tests)
@@ -125,10 +130,13 @@ pre_release_split text =
     no_plus_tail byte text e = ap (λ (b : Bool). b && is_metadata text) (not_true (byte == plus) e)
 
     by : (rest : List ℕ)
-        → next is_dot (λ t. list_all is_chunk (pieces (take_while is_not_plus t)) && is_metadata_tail (drop (prefix_len is_not_plus t) t))
+        → next is_dot
+        (λ t. list_all is_chunk (pieces (take_while is_not_plus t))
+        && is_metadata_tail (drop (prefix_len is_not_plus t) t))
         is_metadata_tail rest ≡ next is_dot is_pre_release is_metadata_tail rest
     by [] = refl
-    by (byte ∷ rest) = ap (λ (b : Bool). if is_dot byte then b else is_metadata_tail (byte ∷ rest)) (sym (pre_release_pieces rest))
+    by (byte ∷ rest) = ap (λ (b : Bool). if is_dot byte then b else is_metadata_tail (byte ∷ rest))
+        (sym (pre_release_pieces rest))
 
 tail_apart : (text : List ℕ) → is_metadata_tail text ≡ true
     → (begins is_identifier_byte text ≡ false) × (begins is_dot text ≡ false)
@@ -139,7 +147,8 @@ tail_apart (byte ∷ text) passes =
 
 letter_behind : (run : List ℕ) → list_all is_identifier_byte run ≡ true → is_chunk (run ++ 97 ∷ []) ≡ true
 letter_behind run all =
-    and_from _ _ (run_is_run is_identifier_byte (run ++ 97 ∷ []) (grown is_identifier_byte refl run all) (some_bytes run))
+    and_from _ _
+    (run_is_run is_identifier_byte (run ++ 97 ∷ []) (grown is_identifier_byte refl run all) (some_bytes run))
     (or_right (is_number (run ++ 97 ∷ [])) _ (rw (no_digits run) refl))
 
 module _ (text run rest : List ℕ) (run_is : run ≡ take_while is_identifier_byte text)
@@ -161,7 +170,8 @@ module _ (text run rest : List ℕ) (run_is : run ≡ take_while is_identifier_b
 
   pub next_chunk : is_chunk run ≡ true → (more : List ℕ) → rest ≡ dot ∷ more → (left : List ℕ)
       → IsLeft is_pre_release more left → IsLeft is_pre_release text left
-  next_chunk good more cut = next_piece is_identifier_byte is_dot is_chunk is_pre_release is_metadata_tail pre_release_split
+  next_chunk good more cut = next_piece is_identifier_byte is_dot is_chunk is_pre_release is_metadata_tail
+      pre_release_split
       dot_no_identifier tail_apart text run rest run_is rest_is good dot more cut refl
 
 -- ---- what may follow the numbers
@@ -178,12 +188,14 @@ plus_tail text more left cut is =
     read true = refl
     read false = refl
 
-pub hyphen_tail : (text more left : List ℕ) → text ≡ hyphen ∷ more → IsLeft is_pre_release more left → IsLeft is_tail text left
+pub hyphen_tail : (text more left : List ℕ) → text ≡ hyphen ∷ more → IsLeft is_pre_release more left
+    → IsLeft is_tail text left
 hyphen_tail text more left cut is =
     subst (λ (l : List ℕ). IsLeft is_tail l left) (sym cut)
     (behind is_tail is_pre_release (hyphen ∷ []) (λ t. refl) more left is)
 
-other_tail : (byte : ℕ) (text : List ℕ) → (byte == plus) ≡ false → (byte == hyphen) ≡ false → is_tail (byte ∷ text) ≡ false
+other_tail : (byte : ℕ) (text : List ℕ) → (byte == plus) ≡ false → (byte == hyphen) ≡ false → is_tail (byte ∷ text)
+    ≡ false
 other_tail byte text e f = rw (e, f) refl
 
 pub no_tail : (text : List ℕ) → begins (λ b. b == plus) text ≡ false → begins (λ b. b == hyphen) text ≡ false
@@ -219,7 +231,8 @@ last_of_many : (first : List ℕ) (others : List (List ℕ)) (text : List ℕ) �
 last_of_many first others text e =
     let some = split_some is_ascii_digit is_dot digit_no_dot text in
     let two : (length (first ∷ others) == 1) ≡ false =
-    ap (λ (l : List (List ℕ)). length (first ∷ l) == 1) (e ∙ some.2) ∙ ne_eqb (length (first ∷ some.0 ∷ some.1)) 1 (omega arith) in
+    ap (λ (l : List (List ℕ)). length (first ∷ l) == 1) (e ∙ some.2)
+    ∙ ne_eqb (length (first ∷ some.0 ∷ some.1)) 1 (omega arith) in
     and-false (list_all is_number (first ∷ others)) _ two
 
 one_piece : (dots : ℕ) (first : List ℕ) → core_of (suc dots) (first ∷ []) ≡ false
@@ -264,12 +277,14 @@ core_split dots text = by dots _ refl
     no_dot_by dots [] e = refl
     no_dot_by dots (byte ∷ rest) e = ap (λ (b : Bool). b && is_core dots rest) e
 
-    ends : (dots : ℕ) (rest : List ℕ) → drop (prefix_len is_ascii_digit text) text ≡ rest → begins is_of_core rest ≡ false
+    ends : (dots : ℕ) (rest : List ℕ) → drop (prefix_len is_ascii_digit text) text ≡ rest → begins is_of_core rest
+        ≡ false
         → begins is_dot rest ≡ false → is_core dots text ≡ core_by dots (take_while is_ascii_digit text) rest
     ends zero rest e none no_dot =
         let n = last_number text (take_while is_ascii_digit text) rest refl (sym e) none in
         (λ i. core_of 0 (n.0 i) && is_some (tail_of (n.1 i)))
-        ∙ ap (λ (b : Bool). (b && true) && is_some (tail_of rest)) (and-true (is_number (take_while is_ascii_digit text)))
+        ∙ ap (λ (b : Bool). (b && true) && is_some (tail_of rest))
+        (and-true (is_number (take_while is_ascii_digit text)))
         ∙ ap (λ (b : Bool). b && is_some (tail_of rest)) (and-true (is_number (take_while is_ascii_digit text)))
     ends (suc dots) rest e none no_dot =
         let n = last_number text (take_while is_ascii_digit text) rest refl (sym e) none in
@@ -290,7 +305,8 @@ core_split dots text = by dots _ refl
       where
         fails : (dots : ℕ) → core_by dots (take_while is_ascii_digit text) (byte ∷ rest) ≡ false
         fails zero = and-false (is_number (take_while is_ascii_digit text)) _ (core_tail_false byte rest core)
-        fails (suc dots) = and-false (is_number (take_while is_ascii_digit text)) _ (ap (λ (b : Bool). b && is_core dots rest) no_dot)
+        fails (suc dots) = and-false (is_number (take_while is_ascii_digit text)) _
+            (ap (λ (b : Bool). b && is_core dots rest) no_dot)
 
     by : (dots : ℕ) (rest : List ℕ) → drop (prefix_len is_ascii_digit text) text ≡ rest
         → is_core dots text ≡ core_by dots (take_while is_ascii_digit text) rest
@@ -338,19 +354,23 @@ module _ (text run rest : List ℕ) (run_is : run ≡ take_while is_ascii_digit 
     (rest_is : rest ≡ drop (prefix_len is_ascii_digit text) text) (good : is_number run ≡ true) where
   pub last_digits : (left : List ℕ) → IsLeft is_tail rest left → IsLeft (is_core 0) text left
   last_digits left is =
-      after_run is_ascii_digit (is_core 0) (core_by 0) (core_split 0) text run rest run_is rest_is (core_closed 0 run) left
+      after_run is_ascii_digit (is_core 0) (core_by 0) (core_split 0) text run rest run_is rest_is
+      (core_closed 0 run) left
       (same (core_by 0 run) is_tail (λ t. ap (λ (b : Bool). b && is_tail t) good) rest left is)
 
-  by_dots : (dots : ℕ) (left : List ℕ) → IsLeft (core_by (suc dots) run) rest left → IsLeft (is_core (suc dots)) text left
+  by_dots : (dots : ℕ) (left : List ℕ) → IsLeft (core_by (suc dots) run) rest left
+      → IsLeft (is_core (suc dots)) text left
   by_dots dots left is =
-      after_run is_ascii_digit (is_core (suc dots)) (core_by (suc dots)) (core_split (suc dots)) text run rest run_is rest_is
+      after_run is_ascii_digit (is_core (suc dots)) (core_by (suc dots))
+      (core_split (suc dots)) text run rest run_is rest_is
       (core_closed (suc dots) run) left is
 
   pub next_digits : (dots : ℕ) (more left : List ℕ) → rest ≡ dot ∷ more → IsLeft (is_core dots) more left
       → IsLeft (is_core (suc dots)) text left
   next_digits dots more left cut is =
       by_dots dots left (subst (λ (l : List ℕ). IsLeft (core_by (suc dots) run) l left) (sym cut)
-      (behind (core_by (suc dots) run) (is_core dots) (dot ∷ []) (λ t. ap (λ (b : Bool). b && is_core dots t) good) more left is))
+      (behind (core_by (suc dots) run) (is_core dots) (dot ∷ [])
+      (λ t. ap (λ (b : Bool). b && is_core dots t) good) more left is))
 
   pub no_more_digits : (dots : ℕ) → begins is_dot rest ≡ false → IsLeft (is_core (suc dots)) text rest
   no_more_digits dots none =
@@ -372,7 +392,8 @@ no_digit text none dots = stays (is_core dots) text (48 ∷ behind_zero dots) (z
         core_split dots (byte ∷ more) ∙ (λ i. core_by dots (step.0 i) (step.1 i)) ∙ at dots (byte ∷ more)
 
 pub leading_zero : (first : ℕ) (text : List ℕ) → is_ascii_digit first ≡ true
-    → is_number (take_while is_ascii_digit (first ∷ text)) ≡ false → (dots : ℕ) → IsLeft (is_core dots) (first ∷ text) text
+    → is_number (take_while is_ascii_digit (first ∷ text)) ≡ false → (dots : ℕ)
+    → IsLeft (is_core dots) (first ∷ text) text
 leading_zero first [] digit fails dots =
     let one : is_number (first ∷ []) ≡ true = rw digit refl in
     cc (sym fails ∙ ap is_number (run_cons is_ascii_digit first [] digit).0 ∙ one)
@@ -395,7 +416,8 @@ leading_zero first (second ∷ text) digit fails dots = elim (cases_Bool (is_asc
   where
     two : (b c : ℕ) (t : List ℕ) → is_ascii_digit b ≡ true → is_ascii_digit c ≡ true
         → take_while is_ascii_digit (b ∷ c ∷ t) ≡ b ∷ c ∷ take_while is_ascii_digit t
-    two b c t e f = (run_cons is_ascii_digit b (c ∷ t) e).0 ∙ ap (λ (l : List ℕ). b ∷ l) (run_cons is_ascii_digit c t f).0
+    two b c t e f = (run_cons is_ascii_digit b (c ∷ t) e).0
+        ∙ ap (λ (l : List ℕ). b ∷ l) (run_cons is_ascii_digit c t f).0
 
     digits : (b c : ℕ) (t : List ℕ) → is_ascii_digit b ≡ true → is_ascii_digit c ≡ true
         → is_number (b ∷ c ∷ take_while is_ascii_digit t) ≡ not (b == 48)
@@ -425,7 +447,8 @@ by_count dots some = omega (arith, some)
 -- ---- the whole
 
 pub semver_core : (text : List ℕ) → is_some (semver_of text) ≡ is_core 2 text
-semver_core text = ap (λ (o : Option PlainSemVer). is_some o) (semver_read text) ∙ by (core_pieces text) (tail_of (behind_core text))
+semver_core text = ap (λ (o : Option PlainSemVer). is_some o) (semver_read text)
+    ∙ by (core_pieces text) (tail_of (behind_core text))
   where
     count : (ps : List (List ℕ)) (pre : Option (List PlainChunk))
         → is_some (of_three pre (map (digits_value 10) ps)) ≡ (length ps == 3)

@@ -39,7 +39,8 @@ module _ (small mark : ℕ → Bool) (good : List ℕ → Bool) (apart : (byte :
           ∙ and-false (good piece) false refl)
     ]
 
-    pub split_pieces : all_pieces text ≡ (good piece && next mark all_pieces is_nothing (drop (prefix_len small text) text))
+    pub split_pieces : all_pieces text
+        ≡ (good piece && next mark all_pieces is_nothing (drop (prefix_len small text) text))
     split_pieces = by_end _ refl
 
 module _ (small large mark : ℕ → Bool) (good tail : List ℕ → Bool)

@@ -5,7 +5,8 @@ use Rattle.version_viable.proofs.gem.after_hyphen.Goals as goal
 pub returns-then-is_empty : goal.returns-then-is_empty
 returns-then-is_empty c =
     let cut = c.split_run.ensures in
-    c.pieces.invariant _ (no_identifier c.pieces.left.now _ _ cut.run cut.rest (sym c.is_empty.ensures ∙ c.if-is_empty.true))
+    c.pieces.invariant _
+    (no_identifier c.pieces.left.now _ _ cut.run cut.rest (sym c.is_empty.ensures ∙ c.if-is_empty.true))
 
 pub returns-in-None : goal.returns-in-None
 returns-in-None c =

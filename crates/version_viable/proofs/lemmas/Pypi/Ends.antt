@@ -20,7 +20,7 @@ use Rattle.version_schemes.specs.pypi.Texts.{is_blank, is_separator, joined, loc
 use Rattle.version_schemes.specs.pypi.Walk.{next_piece as next_piece_of}
 use Rattle.version_viable.specs.Viable.{IsLeft}
 use Rattle.version_viable.specs.pypi.Stages.{after_dev, after_plus, is_ended}
-use Rattle.version_viable.proofs.lemmas.Left.{at_end, behind, is_nothing, last_piece, next, next_piece, unless, wrong_piece}
+use Rattle.version_viable.proofs.lemmas.Left.{at_end, behind, empty_run, is_nothing, last_piece, next, next_piece, unless, wrong_piece}
 
 -- ---- blanks
 
@@ -72,13 +72,15 @@ mark_other : (byte : ℕ) (text : List ℕ) → (byte == plus) ≡ false → Non
 mark_other byte text e = rw e refl
 
 pub no_plus : (text : List ℕ) → begins (λ b. b == plus) text ≡ false → after_dev text ≡ is_ended text
-no_plus text e = ap (λ (o : Option (List Local) × List ℕ). is_ended o.1) (sym (optional-None local_front text (local-None text (none text e))))
+no_plus text e = ap (λ (o : Option (List Local) × List ℕ). is_ended o.1)
+    (sym (optional-None local_front text (local-None text (none text e))))
   where
     none : (text : List ℕ) → begins (λ b. b == plus) text ≡ false → None ≡ after_mark plus text
     none [] e = refl
     none (byte ∷ text) e = mark_other byte text e
 
-pub dev_false : (byte : ℕ) (text : List ℕ) → is_blank byte ≡ false → (byte == plus) ≡ false → after_dev (byte ∷ text) ≡ false
+pub dev_false : (byte : ℕ) (text : List ℕ) → is_blank byte ≡ false → (byte == plus) ≡ false
+    → after_dev (byte ∷ text) ≡ false
 dev_false byte text blank other = no_plus (byte ∷ text) other ∙ ended_false byte text blank
 
 blank_no_plus : (text : List ℕ) → is_ended text ≡ true → begins (λ b. b == plus) text ≡ false
@@ -90,20 +92,22 @@ blank_no_plus (byte ∷ text) e = by byte (ended_blank byte text e)
 
 pub at_plus : (text more left : List ℕ) → text ≡ plus ∷ more → IsLeft after_plus more left → IsLeft after_dev text left
 at_plus text more left cut is =
-    subst (λ (l : List ℕ). IsLeft after_dev l left) (sym cut) (behind after_dev after_plus (plus ∷ []) (λ t. refl) more left is)
+    subst (λ (l : List ℕ). IsLeft after_dev l left) (sym cut)
+    (behind after_dev after_plus (plus ∷ []) (λ t. refl) more left is)
 
-pub not_plus : (text left : List ℕ) → begins (λ b. b == plus) text ≡ false → IsLeft is_ended text left → IsLeft after_dev text left
+pub not_plus : (text left : List ℕ) → begins (λ b. b == plus) text ≡ false → IsLeft is_ended text left
+    → IsLeft after_dev text left
 not_plus text left none = unless (λ b. b == plus) after_dev is_ended no_plus blank_no_plus text left none
 
 -- ---- its pieces
 
-abbrev some : List ℕ → Bool
+abbrev pub some : List ℕ → Bool
 some run = not (length run == 0)
 
 separator_no_letter : (byte : ℕ) → is_separator byte ≡ true → is_ascii_alphanumeric byte ≡ false
 separator_no_letter byte e = grind (arith, nat_tests)
 
-separator_no_blank : (byte : ℕ) → is_separator byte ≡ true → is_blank byte ≡ false
+pub separator_no_blank : (byte : ℕ) → is_separator byte ≡ true → is_blank byte ≡ false
 separator_no_blank byte e = grind (arith, nat_tests)
 
 ended_apart : (text : List ℕ) → is_ended text ≡ true
@@ -128,7 +132,8 @@ read_pieces text rest e =
     ap (λ (o : Option (List Local) × List ℕ). is_ended o.1)
     (sym (optional-Some local_front (plus ∷ text) (pieces_of text, rest) (local-Some (plus ∷ text) text rest refl e)))
 
-read_any : (text rest : List ℕ) (read : List Local) → pieces_front text ≡ Some (read, rest) → after_plus text ≡ is_ended rest
+read_any : (text rest : List ℕ) (read : List Local) → pieces_front text ≡ Some (read, rest) → after_plus text
+    ≡ is_ended rest
 read_any text rest read e =
     ap (λ (o : Option (List Local) × List ℕ). is_ended o.1)
     (sym (optional-Some local_front (plus ∷ text) (read, rest) e))
@@ -144,7 +149,8 @@ module _ (text : List ℕ) (begun : begins is_ascii_alphanumeric text ≡ true) 
       (local_of (take_while is_ascii_alphanumeric text)) rest_of
       (piece_read text rest_of begun refl) none)
 
-  more : begins is_ascii_alphanumeric (next_piece_of rest_of) ≡ true → after_plus text ≡ after_plus (next_piece_of rest_of)
+  more : begins is_ascii_alphanumeric (next_piece_of rest_of) ≡ true → after_plus text
+      ≡ after_plus (next_piece_of rest_of)
   more goes = by (joined is_separator piece_front (next_piece_of rest_of)) refl
     where
       step : pieces_front text ≡ option_map (λ (read : List Local × List ℕ).
@@ -160,7 +166,8 @@ module _ (text : List ℕ) (begun : begins is_ascii_alphanumeric text ≡ true) 
           ap (λ (o : Option (List Local) × List ℕ). is_ended o.1) (sym (optional-None local_front (plus ∷ text) none))
           ∙ eqb-suc-zero (length text)
           ∙ sym (ap (λ (o : Option (List Local) × List ℕ). is_ended o.1)
-          (sym (optional-None local_front (plus ∷ next_piece_of rest_of) e)) ∙ eqb-suc-zero (length (next_piece_of rest_of)))
+          (sym (optional-None local_front (plus ∷ next_piece_of rest_of) e))
+          ∙ eqb-suc-zero (length (next_piece_of rest_of)))
       by (Some read) e =
           read_any text read.1 _ (step ∙ ap (option_map _) e) ∙ sym (read_any (next_piece_of rest_of) read.1 read.0 e)
 
@@ -198,16 +205,12 @@ plus_split text = elim (cases_Bool (begins is_ascii_alphanumeric text)) [
       (drop (prefix_len is_ascii_alphanumeric text) text)) (no_run_of is_ascii_alphanumeric text none).0)
 ]
 
-empty : (l : List ℕ) → (length l == 0) ≡ true → l ≡ []
-empty [] e = refl
-empty (byte ∷ l) e = cc (sym (eqb-suc-zero (length l)) ∙ e)
-
 module _ (text run rest : List ℕ) (run_is : run ≡ take_while is_ascii_alphanumeric text)
     (rest_is : rest ≡ drop (prefix_len is_ascii_alphanumeric text) text) where
   pub no_run : (length run == 0) ≡ true → IsLeft after_plus text rest
   no_run none = wrong_piece is_ascii_alphanumeric is_separator some after_plus is_ended plus_split separator_no_letter
       ended_apart text run rest run_is rest_is (ap (λ (b : Bool). not b) none) (97 ∷ [])
-      (ap (λ (l : List ℕ). after_plus (l ++ 97 ∷ [])) (empty run none) ∙ plus_split (97 ∷ []))
+      (ap (λ (l : List ℕ). after_plus (l ++ 97 ∷ [])) (empty_run run none) ∙ plus_split (97 ∷ []))
 
   pub last_run : (length run == 0) ≡ false → begins is_separator rest ≡ false → (left : List ℕ)
       → IsLeft is_ended rest left → IsLeft after_plus text left

@@ -1,6 +1,5 @@
 -- What is left of a text as a release, behind an epoch, a v and blanks or none of them.
 use Rattle.std.proofs.Common.{◌≡◌, ◌==◌, ◌&&◌, ◌||◌, ◌∙◌, ℕ, Bool, true, false, List, [], ◌∷◌, ◌++◌, Option, None, Some, ap, arith, codes, drop, if◌then◌else◌, inl, inr, length, not, refl, subst, sym}
-use Rattle.std.proofs.Math.Dec.{eqb-suc-zero}
 use Rattle.std.proofs.lemmas.Bool.{cases_Bool, eqb-true}
 use Rattle.std.proofs.lemmas.Bool.Decides.{nat_tests}
 use Rattle.std.specs.Char.{is_ascii_digit, to_ascii_lowercase}
@@ -20,16 +19,9 @@ use Rattle.version_schemes.specs.pypi.Texts.{epoch_front, epoch_or_zero, is_blan
 use Rattle.version_schemes.specs.pypi.Walk.{next_number}
 use Rattle.version_viable.specs.Viable.{IsLeft}
 use Rattle.version_viable.specs.pypi.Stages.{after_blanks, after_post, after_release, after_v, is_epoch, is_implicit, is_release}
-use Rattle.version_viable.proofs.lemmas.Left.{after_run, at_end, behind, same, stays, unless, where_begins}
-use Rattle.version_viable.proofs.lemmas.Pypi.Ends.{blanks_gone}
-use Rattle.version_viable.proofs.lemmas.Pypi.Stages.{digit_small, dotted_dev, post_apart, post_nothing, release_apart, release_digit, release_no_mark, release_nothing}
-
-abbrev some : List ℕ → Bool
-some run = not (length run == 0)
-
-empty : (l : List ℕ) → (length l == 0) ≡ true → l ≡ []
-empty [] e = refl
-empty (byte ∷ l) e = cc (sym (eqb-suc-zero (length l)) ∙ e)
+use Rattle.version_viable.proofs.lemmas.Left.{after_run, at_end, behind, empty_run, or-false, same, stays, unless, where_begins}
+use Rattle.version_viable.proofs.lemmas.Pypi.Ends.{blanks_gone, some}
+use Rattle.version_viable.proofs.lemmas.Pypi.Stages.{digit_no_blank, digit_small, dotted_dev, post_apart, post_nothing, release_apart, release_digit, release_no_mark, release_nothing}
 
 some_digits : (text : List ℕ) → some (take_while is_ascii_digit text) ≡ begins is_ascii_digit text
 some_digits text = elim (cases_Bool (begins is_ascii_digit text)) [
@@ -46,7 +38,8 @@ implicit_split : (text : List ℕ) → number_then_post text
     ≡ (some (take_while is_ascii_digit text) && after_post (drop (prefix_len is_ascii_digit text) text))
 implicit_split text = elim (cases_Bool (begins is_ascii_digit text)) [
   | inl begun ↦
-      let read : number_front text ≡ Some (run_value text, drop (prefix_len is_ascii_digit text) text) = rw begun refl in
+      let read : number_front text ≡ Some (run_value text, drop (prefix_len is_ascii_digit text) text) = rw begun
+      refl in
       ap (λ (o : Option (ℕ × List ℕ)). option_map_or (λ read. after_post read.1) o false) read
       ∙ sym (ap (λ (b : Bool). b && after_post (drop (prefix_len is_ascii_digit text) text)) (some_digits text ∙ begun))
   | inr none ↦
@@ -75,14 +68,18 @@ module _ (text more run rest : List ℕ) (cut : text ≡ hyphen ∷ more) (run_i
   pub implicit_none : (length run == 0) ≡ true → IsLeft is_implicit text rest
   implicit_none none =
       from_number rest (at_end is_ascii_digit number_then_post (λ run rest. some run && after_post rest) implicit_split
-      more run rest run_is rest_is (48 ∷ []) (ap (λ (l : List ℕ). number_then_post (l ++ 48 ∷ [])) (empty run none) ∙ zero_post)
+      more run rest run_is rest_is (48 ∷ [])
+      (ap (λ (l : List ℕ). number_then_post (l ++ 48 ∷ [])) (empty_run run none) ∙ zero_post)
       (λ byte after e t. ap (λ (b : Bool). not b && after_post (byte ∷ t)) none))
 
-  pub implicit_some : (length run == 0) ≡ false → (left : List ℕ) → IsLeft after_post rest left → IsLeft is_implicit text left
+  pub implicit_some : (length run == 0) ≡ false → (left : List ℕ) → IsLeft after_post rest left
+      → IsLeft is_implicit text left
   implicit_some is left left_is =
-      from_number left (after_run is_ascii_digit number_then_post (λ run rest. some run && after_post rest) implicit_split
+      from_number left
+      (after_run is_ascii_digit number_then_post (λ run rest. some run && after_post rest) implicit_split
       more run rest run_is rest_is (λ t e. post_apart t (second_so (some run) _ e)) left
-      (same (λ t. some run && after_post t) after_post (λ t. ap (λ (b : Bool). not b && after_post t) is) rest left left_is))
+      (same (λ t. some run && after_post t) after_post
+      (λ t. ap (λ (b : Bool). not b && after_post t) is) rest left left_is))
 
 -- ---- releases
 
@@ -145,11 +142,13 @@ release_split : (text : List ℕ) → is_release text
 release_split text = elim (cases_Bool (begins is_ascii_digit text)) [
   | inl begun ↦
       after_number text begun _ refl
-      ∙ sym (ap (λ (b : Bool). b && release_next (drop (prefix_len is_ascii_digit text) text)) (some_digits text ∙ begun))
+      ∙ sym (ap (λ (b : Bool). b && release_next (drop (prefix_len is_ascii_digit text) text))
+      (some_digits text ∙ begun))
   | inr none ↦
       ap (λ (o : Option (List ℕ × List ℕ)). option_map_or (λ read. after_release read.1) o false)
       (joined-None is_dot is_ascii_digit number_front numbers_read text none)
-      ∙ sym (ap (λ (b : Bool). b && release_next (drop (prefix_len is_ascii_digit text) text)) (some_digits text ∙ none))
+      ∙ sym (ap (λ (b : Bool). b && release_next (drop (prefix_len is_ascii_digit text) text))
+      (some_digits text ∙ none))
 ]
 
 pub release_begins : (text : List ℕ) → is_release text ≡ true → begins is_ascii_digit text ≡ true
@@ -185,7 +184,7 @@ module _ (text run rest : List ℕ) (run_is : run ≡ take_while is_ascii_digit 
   pub no_number : (length run == 0) ≡ true → IsLeft is_release text rest
   no_number none =
       at_end is_ascii_digit is_release release_by release_split text run rest run_is rest_is (48 ∷ [])
-      (ap (λ (l : List ℕ). is_release (l ++ 48 ∷ [])) (empty run none) ∙ zero_release)
+      (ap (λ (l : List ℕ). is_release (l ++ 48 ∷ [])) (empty_run run none) ∙ zero_release)
       (λ byte after e t. ap (λ (b : Bool). not b && release_next (byte ∷ t)) none)
 
   module _ (is : (length run == 0) ≡ false) where
@@ -201,9 +200,11 @@ module _ (text run rest : List ℕ) (run_is : run ≡ take_while is_ascii_digit 
         by_number left (subst (λ (l : List ℕ). IsLeft release_next l left) (sym cut)
         (behind release_next (λ t. release_next (dot ∷ t)) (dot ∷ []) (λ t. refl) more left
         (where_begins is_ascii_digit (λ t. release_next (dot ∷ t)) is_release
-        (λ t e. ap (λ (b : Bool). if b then is_release t else after_release (dot ∷ t)) e) release_begins more left digit more_left)))
+        (λ t e. ap (λ (b : Bool). if b then is_release t else after_release (dot ∷ t)) e) release_begins more left
+        digit more_left)))
 
-    pub last_number_left : is_dotted rest ≡ false → (left : List ℕ) → IsLeft after_release rest left → IsLeft is_release text left
+    pub last_number_left : is_dotted rest ≡ false → (left : List ℕ) → IsLeft after_release rest left
+        → IsLeft is_release text left
     last_number_left none left rest_left =
         by_number left record {
           begun = rest_left.begun;
@@ -224,7 +225,8 @@ module _ (text run rest : List ℕ) (run_is : run ≡ take_while is_ascii_digit 
           | inr other ↦
               plain_next (byte ∷ more) (ap (λ (b : Bool). b && begins is_ascii_digit more) other) ∙ stuck more
           | inl here ↦
-              cc (sym dotted_dev ∙ ap (λ (b : ℕ). after_release (b ∷ codes "dev")) (sym (eqb-true byte dot here)) ∙ stuck (codes "dev"))
+              cc (sym dotted_dev ∙ ap (λ (b : ℕ). after_release (b ∷ codes "dev")) (sym (eqb-true byte dot here))
+              ∙ stuck (codes "dev"))
         ]
         fails (b ∷ []) byte after e stuck more =
             plain_next (b ∷ byte ∷ more) (sym (ap is_dotted e) ∙ none) ∙ stuck more
@@ -235,7 +237,8 @@ pub no_dot_left : (rest : List ℕ) → begins is_dot rest ≡ false → is_dott
 no_dot_left [] e = refl
 no_dot_left (byte ∷ rest) e = ap (λ (b : Bool). b && begins is_ascii_digit rest) e
 
-pub no_digit_left : (rest more : List ℕ) → rest ≡ dot ∷ more → begins is_ascii_digit more ≡ false → is_dotted rest ≡ false
+pub no_digit_left : (rest more : List ℕ) → rest ≡ dot ∷ more → begins is_ascii_digit more ≡ false → is_dotted rest
+    ≡ false
 no_digit_left rest more cut e = ap is_dotted cut ∙ e
 
 -- ---- epochs
@@ -251,7 +254,8 @@ epoch_split : (text : List ℕ) → is_epoch text
     ≡ epoch_by (take_while is_ascii_digit text) (drop (prefix_len is_ascii_digit text) text)
 epoch_split text = elim (cases_Bool (begins is_ascii_digit text)) [
   | inl begun ↦
-      let read : number_front text ≡ Some (run_value text, drop (prefix_len is_ascii_digit text) text) = rw begun refl in
+      let read : number_front text ≡ Some (run_value text, drop (prefix_len is_ascii_digit text) text) = rw begun
+      refl in
       ap of read ∙ by (drop (prefix_len is_ascii_digit text) text)
       ∙ sym (ap (λ (b : Bool). b && marked (drop (prefix_len is_ascii_digit text) text)) (some_digits text ∙ begun))
   | inr none ↦
@@ -265,7 +269,8 @@ epoch_split text = elim (cases_Bool (begins is_ascii_digit text)) [
 
     of : Option (ℕ × List ℕ) → Bool
     of o = option_map_or (λ (read : ℕ × List ℕ). is_release read.1)
-        (option_and_then (λ (number : ℕ × List ℕ). option_and_then (λ rest. Some (number.0, rest)) (after_mark 33 number.1)) o) false
+        (option_and_then
+        (λ (number : ℕ × List ℕ). option_and_then (λ rest. Some (number.0, rest)) (after_mark 33 number.1)) o) false
 
     by : (rest : List ℕ) → of (Some (run_value text, rest)) ≡ marked rest
     by [] = refl
@@ -286,7 +291,8 @@ module _ (text run rest : List ℕ) (run_is : run ≡ take_while is_ascii_digit 
   pub no_epoch : (length run == 0) ≡ true → IsLeft is_epoch text rest
   no_epoch none =
       at_end is_ascii_digit is_epoch epoch_by epoch_split text run rest run_is rest_is (48 ∷ 33 ∷ 48 ∷ [])
-      (ap (λ (l : List ℕ). is_epoch (l ++ 48 ∷ 33 ∷ 48 ∷ [])) (empty run none) ∙ epoch_split (48 ∷ 33 ∷ 48 ∷ []) ∙ zero_marked)
+      (ap (λ (l : List ℕ). is_epoch (l ++ 48 ∷ 33 ∷ 48 ∷ [])) (empty_run run none) ∙ epoch_split (48 ∷ 33 ∷ 48 ∷ [])
+      ∙ zero_marked)
       (λ byte after e t. ap (λ (b : Bool). not b && marked (byte ∷ t)) none)
 
   module _ (is : (length run == 0) ≡ false) where
@@ -296,7 +302,8 @@ module _ (text run rest : List ℕ) (run_is : run ≡ take_while is_ascii_digit 
         (λ t e. marked_apart t (second_so (some run) _ e)) left
         (same (epoch_by run) marked (λ t. ap (λ (b : Bool). not b && marked t) is) rest left left_is)
 
-    pub after_mark_left : (more left : List ℕ) → rest ≡ 33 ∷ more → IsLeft is_release more left → IsLeft is_epoch text left
+    pub after_mark_left : (more left : List ℕ) → rest ≡ 33 ∷ more → IsLeft is_release more left
+        → IsLeft is_epoch text left
     after_mark_left more left cut more_left =
         by_epoch left (subst (λ (l : List ℕ). IsLeft marked l left) (sym cut)
         (behind marked is_release (33 ∷ []) (λ t. refl) more left more_left))
@@ -306,15 +313,12 @@ module _ (text run rest : List ℕ) (run_is : run ≡ take_while is_ascii_digit 
         by_epoch rest (stays marked rest (33 ∷ 48 ∷ []) zero_marked
         (λ byte after e more. ap (λ (b : Bool). b && is_release more) (ap (begins (λ b. b == 33)) (sym e) ∙ none)))
 
-or-false : (p : Bool) → p ≡ (p || false)
-or-false true = refl
-or-false false = refl
-
 pub v_or : (text : List ℕ) → after_v text ≡ (is_release text || is_epoch text)
 v_or text = by (epoch_front text) refl
   where
     after : Option (ℕ × List ℕ) → Option (ℕ × List ℕ)
-    after o = option_and_then (λ (number : ℕ × List ℕ). option_and_then (λ rest. Some (number.0, rest)) (after_mark 33 number.1)) o
+    after o = option_and_then
+        (λ (number : ℕ × List ℕ). option_and_then (λ rest. Some (number.0, rest)) (after_mark 33 number.1)) o
 
     at_mark : (number : ℕ) (rest : List ℕ) (read : ℕ × List ℕ) → after (Some (number, rest)) ≡ Some read
         → release_next rest ≡ false
@@ -327,7 +331,8 @@ v_or text = by (epoch_front text) refl
     never : (read : ℕ × List ℕ) → epoch_front text ≡ Some read → is_release text ≡ false
     never read e = elim (cases_Bool (begins is_ascii_digit text)) [
       | inl begun ↦
-          let number : number_front text ≡ Some (run_value text, drop (prefix_len is_ascii_digit text) text) = rw begun refl in
+          let number : number_front text ≡ Some (run_value text, drop (prefix_len is_ascii_digit text) text) = rw
+          begun refl in
           release_split text ∙ and-false (some (take_while is_ascii_digit text)) _
           (at_mark (run_value text) (drop (prefix_len is_ascii_digit text) text) read (sym (ap after number) ∙ e))
       | inr none ↦
@@ -336,7 +341,8 @@ v_or text = by (epoch_front text) refl
     ]
 
     by : (o : Option (ℕ × List ℕ)) → epoch_front text ≡ o
-        → is_release (unwrap_or o (0, text)).1 ≡ (is_release text || option_map_or (λ (read : ℕ × List ℕ). is_release read.1) o false)
+        → is_release (unwrap_or o (0, text)).1
+        ≡ (is_release text || option_map_or (λ (read : ℕ × List ℕ). is_release read.1) o false)
     by None e = or-false (is_release text)
     by (Some read) e = sym (ap (λ (b : Bool). b || is_release read.1) (never read e))
 
@@ -369,7 +375,8 @@ without : (text : List ℕ) → begins (λ b. to_ascii_lowercase b == 118) text 
 without [] e = refl
 without (byte ∷ text) e = rw e refl
 
-digit_no_v : (text : List ℕ) → begins is_ascii_digit text ≡ true → begins (λ b. to_ascii_lowercase b == 118) text ≡ false
+digit_no_v : (text : List ℕ) → begins is_ascii_digit text ≡ true → begins (λ b. to_ascii_lowercase b == 118) text
+    ≡ false
 digit_no_v [] e = refl
 digit_no_v (byte ∷ text) e = digit_small byte 118 e (omega arith)
 
@@ -397,9 +404,6 @@ pypi_split text =
     chained _ _ (release_front (epoch_or_zero (without_v (without_blanks text))).1)
     ∙ ap after_blanks (blanks_gone text)
 
-digit_no_blank : (byte : ℕ) → is_ascii_digit byte ≡ true → is_blank byte ≡ false
-digit_no_blank byte e = grind (arith, nat_tests)
-
 v_no_blank : (byte : ℕ) → (to_ascii_lowercase byte == 118) ≡ true → is_blank byte ≡ false
 v_no_blank byte e = grind (arith, nat_tests)
 
@@ -415,4 +419,5 @@ blanks_apart (byte ∷ text) passes = elim (cases_Bool (to_ascii_lowercase byte 
 pub after_first_blanks : (text run rest left : List ℕ) → run ≡ take_while is_blank text
     → rest ≡ drop (prefix_len is_blank text) text → IsLeft after_blanks rest left → IsLeft is_pypi text left
 after_first_blanks text run rest left run_is rest_is is =
-    after_run is_blank is_pypi (λ run rest. after_blanks rest) pypi_split text run rest run_is rest_is blanks_apart left is
+    after_run is_blank is_pypi (λ run rest. after_blanks rest) pypi_split text run rest run_is rest_is blanks_apart
+    left is

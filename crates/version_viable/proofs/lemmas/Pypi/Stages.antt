@@ -15,14 +15,17 @@ use Rattle.version_schemes.proofs.lemmas.PypiWords.{mapped-None, mapped-Some, nu
 use Rattle.version_schemes.specs.pypi.Order.{Alpha, Beta, Candidate, Phase}
 use Rattle.version_schemes.specs.pypi.Texts.{after_any, after_word, is_blank, is_separator, number_or_zero, numbered, post_front, pre_front, without_separator}
 use Rattle.version_viable.specs.pypi.Stages.{after_dev, after_post, after_pre, after_release, is_implicit, number_then, worded}
-use Rattle.version_viable.proofs.lemmas.Pypi.Ends.{dev_false, no_plus}
+use Rattle.version_viable.proofs.lemmas.Pypi.Ends.{dev_false, no_plus, separator_no_blank}
+use Rattle.version_viable.proofs.lemmas.Left.{or-false}
 
 -- ---- letters
 
-letter_no_separator : (byte small : ℕ) → to_ascii_lowercase byte ≡ small → 97 ≤ small → small ≤ 122 → is_separator byte ≡ false
+letter_no_separator : (byte small : ℕ) → to_ascii_lowercase byte ≡ small → 97 ≤ small → small ≤ 122
+    → is_separator byte ≡ false
 letter_no_separator byte small e f g = grind (arith, nat_tests)
 
-letter_no_digit : (byte small : ℕ) → to_ascii_lowercase byte ≡ small → 97 ≤ small → small ≤ 122 → is_ascii_digit byte ≡ false
+letter_no_digit : (byte small : ℕ) → to_ascii_lowercase byte ≡ small → 97 ≤ small → small ≤ 122
+    → is_ascii_digit byte ≡ false
 letter_no_digit byte small e f g = grind (arith, nat_tests)
 
 letter_no_blank : (byte small : ℕ) → to_ascii_lowercase byte ≡ small → 97 ≤ small → small ≤ 122 → is_blank byte ≡ false
@@ -31,18 +34,19 @@ letter_no_blank byte small e f g = grind (arith, nat_tests)
 letter_no_plus : (byte small : ℕ) → to_ascii_lowercase byte ≡ small → 97 ≤ small → small ≤ 122 → (byte == plus) ≡ false
 letter_no_plus byte small e f g = grind (arith, nat_tests)
 
-separator_no_blank : (byte : ℕ) → is_separator byte ≡ true → is_blank byte ≡ false
-separator_no_blank byte e = grind (arith, nat_tests)
-
 separator_no_plus : (byte : ℕ) → is_separator byte ≡ true → (byte == plus) ≡ false
 separator_no_plus byte e = grind (arith, nat_tests)
 
-digit_no_blank : (byte : ℕ) → is_ascii_digit byte ≡ true → is_blank byte ≡ false
+pub digit_no_blank : (byte : ℕ) → is_ascii_digit byte ≡ true → is_blank byte ≡ false
 digit_no_blank byte e = grind (arith, nat_tests)
+
+digit_no_plus : (byte : ℕ) → is_ascii_digit byte ≡ true → (byte == plus) ≡ false
+digit_no_plus byte e = grind (arith, nat_tests)
 
 -- the letters that a word and a text begin with
 letter_of : (letter : ℕ) (word text rest : List ℕ) → after_word (letter ∷ word) text ≡ Some rest
-    → (byte : ℕ) × (more : List ℕ) × (text ≡ byte ∷ more) × (to_ascii_lowercase byte ≡ letter) × (after_word word more ≡ Some rest)
+    → (byte : ℕ) × (more : List ℕ) × (text ≡ byte ∷ more) × (to_ascii_lowercase byte ≡ letter) ×
+    (after_word word more ≡ Some rest)
 letter_of letter word [] rest e = cc e
 letter_of letter word (byte ∷ text) rest e = elim (cases_Bool (to_ascii_lowercase byte == letter)) [
   | inl same ↦ (byte, text, refl, eqb-true _ _ same, rw same at e)
@@ -73,10 +77,6 @@ dev_no (first ∷ text) more byte e blank other = elim (cases_Bool (is_separator
 abbrev pub stage : (List ℕ → Bool) → (List ℕ → Bool) → List (List ℕ) → List ℕ → Bool
 stage base test words text = option_map_or (number_then test) (after_any words (without_separator text)) (base text)
 
-or-false : (p : Bool) → p ≡ (p || false)
-or-false true = refl
-or-false false = refl
-
 pub stage_step : (base test : List ℕ → Bool) (word : List ℕ) (words : List (List ℕ)) (text : List ℕ)
     → ((rest : List ℕ) → after_word word (without_separator text) ≡ Some rest → stage base test words text ≡ false)
     → stage base test (word ∷ words) text ≡ (worded test word text || stage base test words text)
@@ -86,7 +86,8 @@ stage_step base test word words text never = by (after_word word (without_separa
         → option_map_or (number_then test) (option_or o (after_any words (without_separator text))) (base text)
         ≡ (option_map_or (number_then test) o false || stage base test words text)
     by None never = refl
-    by (Some rest) never = or-false (number_then test rest) ∙ sym (ap (λ (b : Bool). number_then test rest || b) (never rest refl))
+    by (Some rest) never = or-false (number_then test rest)
+        ∙ sym (ap (λ (b : Bool). number_then test rest || b) (never rest refl))
 
 numbered_rest : (test : List ℕ → Bool) (words : List (List ℕ)) (text : List ℕ)
     → test (optional (numbered words) text).1 ≡ stage test test words text
@@ -97,7 +98,8 @@ numbered_rest test words text = by (after_any words (without_separator text)) re
     by None e = ap (λ (p : Option ℕ × List ℕ). test p.1)
         (sym (optional-None (numbered words) text (numbered-None words text (sym e))))
     by (Some rest) e = ap (λ (p : Option ℕ × List ℕ). test p.1)
-        (sym (optional-Some (numbered words) text (number_or_zero (without_separator rest)) (numbered-Some words text rest (sym e))))
+        (sym (optional-Some (numbered words) text (number_or_zero (without_separator rest))
+        (numbered-Some words text rest (sym e))))
 
 -- ---- dev releases
 
@@ -122,7 +124,8 @@ post_no : (text more : List ℕ) (byte small : ℕ) → without_separator text �
     → 97 ≤ small → small ≤ 122 → (small == 100) ≡ false → after_post text ≡ false
 post_no text more byte small e lower first last other =
     let none : after_any (codes "dev" ∷ []) (without_separator text) ≡ None =
-    ap (after_any (codes "dev" ∷ [])) e ∙ ap (λ (o : Option (List ℕ)). option_or o None) (no_letter 100 small byte (codes "ev") more lower other) in
+    ap (after_any (codes "dev" ∷ [])) e ∙ ap (λ (o : Option (List ℕ)). option_or o None)
+    (no_letter 100 small byte (codes "ev") more lower other) in
     post_stage text ∙ ap (λ (o : Option (List ℕ)). option_map_or (number_then after_dev) o (after_dev text)) none
     ∙ dev_no text more byte e (letter_no_blank byte small lower first last) (letter_no_plus byte small lower first last)
 
@@ -130,7 +133,8 @@ post_no text more byte small e lower first last other =
 number_letter : (test : List ℕ → Bool) (byte small : ℕ) (more : List ℕ) → to_ascii_lowercase byte ≡ small → 97 ≤ small
     → small ≤ 122 → number_then test (byte ∷ more) ≡ test (byte ∷ more)
 number_letter test byte small more lower first last =
-    let here : without_separator (byte ∷ more) ≡ byte ∷ more = rw (letter_no_separator byte small lower first last) refl in
+    let here : without_separator (byte ∷ more) ≡ byte ∷ more = rw
+    (letter_no_separator byte small lower first last) refl in
     ap (λ (l : List ℕ). test (drop (prefix_len is_ascii_digit l) l)) here
     ∙ ap test (no_run is_ascii_digit (byte ∷ more) (letter_no_digit byte small lower first last)).1
 
@@ -143,13 +147,15 @@ letter_plain byte small more lower first last = rw (letter_no_separator byte sma
 abbrev pub post_words : List (List ℕ)
 post_words = codes "post" ∷ codes "rev" ∷ codes "r" ∷ []
 
-pre_by : (text : List ℕ) → behind hyphen number_front text ≡ None → after_pre text ≡ stage after_post after_post post_words text
+pre_by : (text : List ℕ) → behind hyphen number_front text ≡ None → after_pre text
+    ≡ stage after_post after_post post_words text
 pre_by text none = by (after_any post_words (without_separator text)) refl
   where
     by : (o : Option (List ℕ)) → after_any post_words (without_separator text) ≡ o
         → after_pre text ≡ option_map_or (number_then after_post) o (after_post text)
     by None e = ap (λ (p : Option ℕ × List ℕ). after_post p.1)
-        (sym (optional-None post_front text (sym (or-None _ _ (sym none) (sym (numbered-None post_words text (sym e)))))))
+        (sym (optional-None post_front text
+        (sym (or-None _ _ (sym none) (sym (numbered-None post_words text (sym e)))))))
     by (Some rest) e = ap (λ (p : Option ℕ × List ℕ). after_post p.1)
         (sym (optional-Some post_front text (number_or_zero (without_separator rest))
         (sym (or-second _ _ _ (sym none) (sym (numbered-Some post_words text rest (sym e)))))))
@@ -172,14 +178,16 @@ implicit_shape (byte ∷ digit ∷ text) rest number e = elim (cases_Bool (byte 
   ]
 ]
 
-pub digit_small : (byte letter : ℕ) → is_ascii_digit byte ≡ true → 97 ≤ letter → (to_ascii_lowercase byte == letter) ≡ false
+pub digit_small : (byte letter : ℕ) → is_ascii_digit byte ≡ true → 97 ≤ letter → (to_ascii_lowercase byte == letter)
+    ≡ false
 digit_small byte letter e f = grind (arith, nat_tests)
 
 no_digit_word : (letter byte : ℕ) (word more : List ℕ) → is_ascii_digit byte ≡ true → 97 ≤ letter
     → after_word (letter ∷ word) (byte ∷ more) ≡ None
 no_digit_word letter byte word more e f = rw (digit_small byte letter e f) refl
 
-no_implicit_stage : (text more : List ℕ) (digit : ℕ) → without_separator text ≡ digit ∷ more → is_ascii_digit digit ≡ true
+no_implicit_stage : (text more : List ℕ) (digit : ℕ) → without_separator text ≡ digit ∷ more → is_ascii_digit digit
+    ≡ true
     → stage after_post after_post post_words text ≡ false
 no_implicit_stage text more digit e is =
     let none : after_any post_words (without_separator text) ≡ None =
@@ -192,16 +200,14 @@ no_implicit_stage text more digit e is =
     ∙ ap (λ (o : Option (List ℕ)). option_or o None) (no_digit_word 100 digit (codes "ev") more is (omega arith)) in
     ap (λ (o : Option (List ℕ)). option_map_or (number_then after_post) o (after_post text)) none
     ∙ post_stage text ∙ ap (λ (o : Option (List ℕ)). option_map_or (number_then after_dev) o (after_dev text)) no_dev
-    ∙ dev_no text more digit e (digit_no_blank digit is) (is_no_plus digit is)
-  where
-    is_no_plus : (byte : ℕ) → is_ascii_digit byte ≡ true → (byte == plus) ≡ false
-    is_no_plus byte e = grind (arith, nat_tests)
+    ∙ dev_no text more digit e (digit_no_blank digit is) (digit_no_plus digit is)
 
 pub implicit_or : (text : List ℕ) → after_pre text ≡ (is_implicit text || stage after_post after_post post_words text)
 implicit_or text = by (behind hyphen number_front text) refl
   where
     by : (o : Option (ℕ × List ℕ)) → behind hyphen number_front text ≡ o
-        → after_pre text ≡ (option_map_or (λ read. after_post read.1) o false || stage after_post after_post post_words text)
+        → after_pre text
+        ≡ (option_map_or (λ read. after_post read.1) o false || stage after_post after_post post_words text)
     by None e = pre_by text e
     by (Some read) e =
         let shape = implicit_shape text read.1 read.0 e in
@@ -219,7 +225,8 @@ none_of small byte more lower [] all = refl
 none_of small byte more lower ([] ∷ words) all = cc all
 none_of small byte more lower ((letter ∷ word) ∷ words) all =
     let other : (small == letter) ≡ false = not_true (small == letter) (first_so (not (small == letter)) _ all) in
-    ap (λ (o : Option (List ℕ)). option_or o (after_any words (byte ∷ more))) (no_letter letter small byte word more lower other)
+    ap (λ (o : Option (List ℕ)). option_or o (after_any words (byte ∷ more)))
+    (no_letter letter small byte word more lower other)
     ∙ none_of small byte more lower words (second_so (not (small == letter)) _ all)
 
 no_stage : (base test : List ℕ → Bool) (words : List (List ℕ)) (text more : List ℕ) (small byte : ℕ)
@@ -237,7 +244,8 @@ letter_stage base test words text more small byte next other e lower lower_next 
     let same : (to_ascii_lowercase byte == small) ≡ true = eq-eqb _ _ lower in
     let here : after_word (small ∷ []) (byte ∷ next ∷ more) ≡ Some (next ∷ more) = rw same refl in
     ap (λ (l : List ℕ). option_map_or (number_then test) (after_any ((small ∷ []) ∷ words) l) (base text)) e
-    ∙ ap (λ (o : Option (List ℕ)). option_map_or (number_then test) (option_or o (after_any words (byte ∷ next ∷ more))) (base text)) here
+    ∙ ap (λ (o : Option (List ℕ)). option_map_or (number_then test)
+    (option_or o (after_any words (byte ∷ next ∷ more))) (base text)) here
     ∙ number_letter test next other more lower_next first last
 
 post_at : (byte small : ℕ) (more : List ℕ) → to_ascii_lowercase byte ≡ small → 97 ≤ small → small ≤ 122
@@ -252,7 +260,8 @@ r_word text = stage_step after_post after_post (codes "r") [] text (λ rest e.
     post_no text r.1 r.0 114 r.2 r.3 (omega arith) (omega arith) refl)
 
 -- what follows r is no post-release
-rev_no : (text more : List ℕ) (byte next : ℕ) → without_separator text ≡ byte ∷ next ∷ more → to_ascii_lowercase byte ≡ 114
+rev_no : (text more : List ℕ) (byte next : ℕ) → without_separator text ≡ byte ∷ next ∷ more
+    → to_ascii_lowercase byte ≡ 114
     → to_ascii_lowercase next ≡ 101 → stage after_post after_post (codes "r" ∷ []) text ≡ false
 rev_no text more byte next cut lower lower_next =
     letter_stage after_post after_post [] text more 114 byte next 101 cut lower lower_next (omega arith) (omega arith)
@@ -274,7 +283,8 @@ post_word text = stage_step after_post after_post (codes "post") (codes "rev" �
 -- ---- pre-releases
 
 -- no number follows the separator
-behind_none : (text more : List ℕ) (byte small : ℕ) → without_separator text ≡ byte ∷ more → to_ascii_lowercase byte ≡ small
+behind_none : (text more : List ℕ) (byte small : ℕ) → without_separator text ≡ byte ∷ more → to_ascii_lowercase byte
+    ≡ small
     → 97 ≤ small → small ≤ 122 → behind hyphen number_front text ≡ None
 behind_none [] more byte small e lower first last = refl
 behind_none (one ∷ text) more byte small e lower first last = elim (cases_Bool (one == hyphen)) [
@@ -302,7 +312,8 @@ pre_at byte small more lower first last other all =
     pre_no (byte ∷ more) more byte small (letter_plain byte small more lower first last) lower first last other all
 
 -- a word whose second letter is another
-second_other : (letter second : ℕ) (word : List ℕ) (byte next other : ℕ) (more : List ℕ) → to_ascii_lowercase byte ≡ letter
+second_other : (letter second : ℕ) (word : List ℕ) (byte next other : ℕ) (more : List ℕ) → to_ascii_lowercase byte
+    ≡ letter
     → to_ascii_lowercase next ≡ other → (other == second) ≡ false
     → after_word (letter ∷ second ∷ word) (byte ∷ next ∷ more) ≡ None
 second_other letter second word byte next other more lower lower_next differ =
@@ -321,7 +332,8 @@ pre_no_rc text more byte next e lower lower_next =
     pre_by text (behind_none text (next ∷ more) byte 114 e lower (omega arith) (omega arith))
     ∙ ap (λ (l : List ℕ). option_map_or (number_then after_post) (after_any post_words l) (after_post text)) e
     ∙ ap (λ (o : Option (List ℕ)). option_map_or (number_then after_post) o (after_post text)) left
-    ∙ ap (λ (l : List ℕ). option_map_or (number_then after_post) (after_any (codes "r" ∷ []) l) (after_post text)) (sym e)
+    ∙ ap (λ (l : List ℕ). option_map_or (number_then after_post) (after_any (codes "r" ∷ []) l) (after_post text))
+    (sym e)
     ∙ letter_stage after_post after_post [] text more 114 byte next 99 e lower lower_next (omega arith) (omega arith)
     ∙ post_at next 99 more lower_next (omega arith) (omega arith) refl
 
@@ -339,7 +351,8 @@ pre_no_pr text more byte next e lower lower_next =
 -- ---- words of pre-releases
 
 abbrev pub pre_words : List (List ℕ)
-pre_words = codes "alpha" ∷ codes "a" ∷ codes "beta" ∷ codes "b" ∷ codes "rc" ∷ codes "c" ∷ codes "preview" ∷ codes "pre" ∷ []
+pre_words = codes "alpha" ∷ codes "a" ∷ codes "beta" ∷ codes "b" ∷ codes "rc" ∷ codes "c" ∷ codes "preview" ∷ codes
+    "pre" ∷ []
 
 or-assoc : (a b c : Option (List ℕ)) → option_or a (option_or b c) ≡ option_or (option_or a b) c
 or-assoc None b c = refl
@@ -373,7 +386,8 @@ release_stage text =
         → after_release text ≡ number_then after_pre rest
     read phase rest e = ap (λ (p : Option Phase × List ℕ). after_pre p.1) (sym (optional-Some pre_front text _ e))
 
-    by : (a b c : Option (List ℕ)) → after_any alphas (without_separator text) ≡ a → after_any betas (without_separator text) ≡ b
+    by : (a b c : Option (List ℕ)) → after_any alphas (without_separator text) ≡ a
+        → after_any betas (without_separator text) ≡ b
         → after_any candidates (without_separator text) ≡ c
         → after_release text ≡ option_map_or (number_then after_pre) (option_or a (option_or b c)) (after_pre text)
     by (Some rest) b c e f g =
@@ -397,7 +411,8 @@ release_stage text =
 abbrev pub pre_stage : List (List ℕ) → List ℕ → Bool
 pre_stage words text = stage after_pre after_pre words text
 
-pub pre_word : (text : List ℕ) → pre_stage (codes "pre" ∷ []) text ≡ (worded after_pre (codes "pre") text || after_pre text)
+pub pre_word : (text : List ℕ) → pre_stage (codes "pre" ∷ []) text
+    ≡ (worded after_pre (codes "pre") text || after_pre text)
 pre_word text = stage_step after_pre after_pre (codes "pre") [] text (λ rest e.
     let two = two_of 112 114 (codes "e") (without_separator text) rest e in
     pre_no_pr text two.2 two.0 two.1 two.3 two.4 two.5)
@@ -407,7 +422,8 @@ pre_read : (text : List ℕ) (p r e : ℕ) (more : List ℕ) → without_separat
     → to_ascii_lowercase p ≡ 112 → to_ascii_lowercase r ≡ 114 → to_ascii_lowercase e ≡ 101
     → pre_stage (codes "pre" ∷ []) text ≡ number_then after_pre more
 pre_read text p r e more whole one two three =
-    let read : after_word (codes "pre") (p ∷ r ∷ e ∷ more) ≡ Some more = rw (eq-eqb _ _ one, eq-eqb _ _ two, eq-eqb _ _ three) refl in
+    let read : after_word (codes "pre") (p ∷ r ∷ e ∷ more)
+    ≡ Some more = rw (eq-eqb _ _ one, eq-eqb _ _ two, eq-eqb _ _ three) refl in
     ap (λ (l : List ℕ). option_map_or (number_then after_pre) (after_any (codes "pre" ∷ []) l) (after_pre text)) whole
     ∙ ap (λ (o : Option (List ℕ)). option_map_or (number_then after_pre) (option_or o None) (after_pre text)) read
 
@@ -434,15 +450,18 @@ c_word text = stage_step after_pre after_pre (codes "c") (codes "preview" ∷ co
     no_stage after_pre after_pre (codes "preview" ∷ codes "pre" ∷ []) text c.1 99 c.0 c.2 c.3 refl
     ∙ pre_no text c.1 c.0 99 c.2 c.3 (omega arith) (omega arith) refl refl)
 
-rc_no : (text more : List ℕ) (byte next : ℕ) → without_separator text ≡ byte ∷ next ∷ more → to_ascii_lowercase byte ≡ 114
+rc_no : (text more : List ℕ) (byte next : ℕ) → without_separator text ≡ byte ∷ next ∷ more → to_ascii_lowercase byte
+    ≡ 114
     → to_ascii_lowercase next ≡ 99 → pre_stage (codes "c" ∷ codes "preview" ∷ codes "pre" ∷ []) text ≡ false
 rc_no text more byte next cut lower lower_next =
-    no_stage after_pre after_pre (codes "c" ∷ codes "preview" ∷ codes "pre" ∷ []) text (next ∷ more) 114 byte cut lower refl
+    no_stage after_pre after_pre (codes "c" ∷ codes "preview" ∷ codes "pre" ∷ []) text
+    (next ∷ more) 114 byte cut lower refl
     ∙ pre_no_rc text more byte next cut lower lower_next
 
 pub rc_word : (text : List ℕ) → pre_stage candidates text
     ≡ (worded after_pre (codes "rc") text || pre_stage (codes "c" ∷ codes "preview" ∷ codes "pre" ∷ []) text)
-rc_word text = stage_step after_pre after_pre (codes "rc") (codes "c" ∷ codes "preview" ∷ codes "pre" ∷ []) text (λ rest e.
+rc_word text = stage_step after_pre after_pre (codes "rc") (codes "c" ∷ codes "preview" ∷ codes "pre" ∷ []) text
+    (λ rest e.
     let two = two_of 114 99 [] (without_separator text) rest e in
     rc_no text two.2 two.0 two.1 two.3 two.4 two.5)
 
@@ -453,10 +472,12 @@ b_word text = stage_step after_pre after_pre (codes "b") candidates text (λ res
     no_stage after_pre after_pre candidates text b.1 98 b.0 b.2 b.3 refl
     ∙ pre_no text b.1 b.0 98 b.2 b.3 (omega arith) (omega arith) refl refl)
 
-beta_no : (text more : List ℕ) (byte next : ℕ) → without_separator text ≡ byte ∷ next ∷ more → to_ascii_lowercase byte ≡ 98
+beta_no : (text more : List ℕ) (byte next : ℕ) → without_separator text ≡ byte ∷ next ∷ more
+    → to_ascii_lowercase byte ≡ 98
     → to_ascii_lowercase next ≡ 101 → pre_stage (codes "b" ∷ candidates) text ≡ false
 beta_no text more byte next cut lower lower_next =
-    letter_stage after_pre after_pre candidates text more 98 byte next 101 cut lower lower_next (omega arith) (omega arith)
+    letter_stage after_pre after_pre candidates text more 98 byte next 101 cut lower lower_next (omega arith)
+    (omega arith)
     ∙ pre_at next 101 more lower_next (omega arith) (omega arith) refl refl
 
 pub beta_word : (text : List ℕ) → pre_stage (codes "beta" ∷ codes "b" ∷ candidates) text
@@ -472,16 +493,19 @@ a_word text = stage_step after_pre after_pre (codes "a") (codes "beta" ∷ codes
     no_stage after_pre after_pre (codes "beta" ∷ codes "b" ∷ candidates) text a.1 97 a.0 a.2 a.3 refl
     ∙ pre_no text a.1 a.0 97 a.2 a.3 (omega arith) (omega arith) refl refl)
 
-alpha_no : (text more : List ℕ) (byte next : ℕ) → without_separator text ≡ byte ∷ next ∷ more → to_ascii_lowercase byte ≡ 97
+alpha_no : (text more : List ℕ) (byte next : ℕ) → without_separator text ≡ byte ∷ next ∷ more
+    → to_ascii_lowercase byte ≡ 97
     → to_ascii_lowercase next ≡ 108 → pre_stage (codes "a" ∷ codes "beta" ∷ codes "b" ∷ candidates) text ≡ false
 alpha_no text more byte next cut lower lower_next =
-    letter_stage after_pre after_pre (codes "beta" ∷ codes "b" ∷ candidates) text more 97 byte next 108 cut lower lower_next
+    letter_stage after_pre after_pre (codes "beta" ∷ codes "b" ∷ candidates) text more 97 byte next 108 cut lower
+    lower_next
     (omega arith) (omega arith)
     ∙ pre_at next 108 more lower_next (omega arith) (omega arith) refl refl
 
 pub alpha_word : (text : List ℕ) → pre_stage pre_words text
     ≡ (worded after_pre (codes "alpha") text || pre_stage (codes "a" ∷ codes "beta" ∷ codes "b" ∷ candidates) text)
-alpha_word text = stage_step after_pre after_pre (codes "alpha") (codes "a" ∷ codes "beta" ∷ codes "b" ∷ candidates) text (λ rest e.
+alpha_word text = stage_step after_pre after_pre (codes "alpha")
+    (codes "a" ∷ codes "beta" ∷ codes "b" ∷ candidates) text (λ rest e.
     let two = two_of 97 108 (codes "pha") (without_separator text) rest e in
     alpha_no text two.2 two.0 two.1 two.3 two.4 two.5)
 
@@ -513,7 +537,8 @@ none_digit digit more is [] all = refl
 none_digit digit more is ([] ∷ words) all = cc all
 none_digit digit more is ((letter ∷ word) ∷ words) all =
     let small : 97 ≤ letter = leb-true _ _ (first_so (nat_le 97 letter) _ all) in
-    ap (λ (o : Option (List ℕ)). option_or o (after_any words (digit ∷ more))) (no_digit_word letter digit word more is small)
+    ap (λ (o : Option (List ℕ)). option_or o (after_any words (digit ∷ more)))
+    (no_digit_word letter digit word more is small)
     ∙ none_digit digit more is words (second_so (nat_le 97 letter) _ all)
 
 digit_stage : (base test : List ℕ → Bool) (words : List (List ℕ)) (text more : List ℕ) (digit : ℕ)
@@ -522,9 +547,6 @@ digit_stage : (base test : List ℕ → Bool) (words : List (List ℕ)) (text mo
 digit_stage base test words text more digit e is all =
     ap (λ (o : Option (List ℕ)). option_map_or (number_then test) o (base text))
     (ap (after_any words) e ∙ none_digit digit more is words all)
-
-digit_no_plus : (byte : ℕ) → is_ascii_digit byte ≡ true → (byte == plus) ≡ false
-digit_no_plus byte e = grind (arith, nat_tests)
 
 digit_no_separator : (byte : ℕ) → is_ascii_digit byte ≡ true → is_separator byte ≡ false
 digit_no_separator byte e = grind (arith, nat_tests)
@@ -549,16 +571,19 @@ pre_digit text more digit e is other =
     ∙ digit_stage after_post after_post post_words text more digit e is refl
     ∙ post_digit text more digit e is
 
-pub release_digit : (text more : List ℕ) (digit : ℕ) → without_separator text ≡ digit ∷ more → is_ascii_digit digit ≡ true
+pub release_digit : (text more : List ℕ) (digit : ℕ) → without_separator text ≡ digit ∷ more → is_ascii_digit digit
+    ≡ true
     → begins (λ b. b == hyphen) text ≡ false → after_release text ≡ false
 release_digit text more digit e is other =
     release_stage text ∙ digit_stage after_pre after_pre pre_words text more digit e is refl
     ∙ pre_digit text more digit e is other
 
-digit_plain : (digit : ℕ) (text : List ℕ) → is_ascii_digit digit ≡ true → without_separator (digit ∷ text) ≡ digit ∷ text
+digit_plain : (digit : ℕ) (text : List ℕ) → is_ascii_digit digit ≡ true → without_separator (digit ∷ text)
+    ≡ digit ∷ text
 digit_plain digit text is = rw (digit_no_separator digit is) refl
 
-apart : (test : List ℕ → Bool) → ((digit : ℕ) (text : List ℕ) → is_ascii_digit digit ≡ true → test (digit ∷ text) ≡ false)
+apart : (test : List ℕ → Bool)
+    → ((digit : ℕ) (text : List ℕ) → is_ascii_digit digit ≡ true → test (digit ∷ text) ≡ false)
     → (text : List ℕ) → test text ≡ true → begins is_ascii_digit text ≡ false
 apart test fails [] passes = refl
 apart test fails (byte ∷ text) passes = elim (cases_Bool (is_ascii_digit byte)) [

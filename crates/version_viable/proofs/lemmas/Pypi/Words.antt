@@ -126,7 +126,8 @@ module _ (test : List ℕ → Bool) (word : List ℕ) (some : word ≡ [] → �
   plain_apart [] passes = refl
   plain_apart (byte ∷ text) passes = by word some letter passes
     where
-      by : (w : List ℕ) → (w ≡ [] → ⊥) → begins is_separator w ≡ false → word_then (number_then test) w (byte ∷ text) ≡ true
+      by : (w : List ℕ) → (w ≡ [] → ⊥) → begins is_separator w ≡ false
+          → word_then (number_then test) w (byte ∷ text) ≡ true
           → is_separator byte ≡ false
       by [] none e passes = absurd (none refl)
       by (x ∷ w) none e passes = elim (cases_Bool (is_separator byte)) [
@@ -139,7 +140,8 @@ module _ (test : List ℕ → Bool) (word : List ℕ) (some : word ≡ [] → �
         ]
       ]
 
-  pub worded_left : (text left : List ℕ) → IsLeft plain (without_separator text) left → IsLeft (worded test word) text left
+  pub worded_left : (text left : List ℕ) → IsLeft plain (without_separator text) left
+      → IsLeft (worded test word) text left
   worded_left [] left is = unless is_separator (worded test word) plain plain_worded plain_apart [] left refl is
   worded_left (byte ∷ text) left is = elim (cases_Bool (is_separator byte)) [
     | inl marked ↦

@@ -7,7 +7,8 @@ use Rattle.version_viable.proofs.mixed.after_general.Goals as goal
 
 pub is_chunk-requires : goal.is_chunk-requires
 is_chunk-requires c =
-    ap (list_all is_ascii_alphanumeric) c.split_run.ensures.run ∙ list_all-take_while is_ascii_alphanumeric c.args.text.now
+    ap (list_all is_ascii_alphanumeric) c.split_run.ensures.run
+    ∙ list_all-take_while is_ascii_alphanumeric c.args.text.now
 
 pub returns-then-not-is_chunk : goal.returns-then-not-is_chunk
 returns-then-not-is_chunk c =

@@ -12,16 +12,19 @@ is_chunk-requires c =
 pub returns-then-not-is_chunk : goal.returns-then-not-is_chunk
 returns-then-not-is_chunk c =
     let cut = c.split_run.ensures in
-    c.chunks.invariant _ (no_chunk c.chunks.left.now _ _ cut.run cut.rest (sym c.is_chunk.ensures ∙ c.if-not-is_chunk.true))
+    c.chunks.invariant _
+    (no_chunk c.chunks.left.now _ _ cut.run cut.rest (sym c.is_chunk.ensures ∙ c.if-not-is_chunk.true))
 
 pub chunks-preserved : goal.chunks-preserved
 chunks-preserved c = λ rest is.
     let cut = c.split_run.ensures in
-    c.chunks.invariant rest (next_chunk c.chunks.left.now _ _ cut.run cut.rest (sym c.is_chunk.ensures ∙ c.if-not-is_chunk.false)
+    c.chunks.invariant rest
+    (next_chunk c.chunks.left.now _ _ cut.run cut.rest (sym c.is_chunk.ensures ∙ c.if-not-is_chunk.false)
     _ c.in-Some.ensures rest is)
 
 pub returns-in-None : goal.returns-in-None
 returns-in-None c =
     let cut = c.split_run.ensures in
-    c.chunks.invariant _ (last_chunk c.chunks.left.now _ _ cut.run cut.rest (sym c.is_chunk.ensures ∙ c.if-not-is_chunk.false)
+    c.chunks.invariant _
+    (last_chunk c.chunks.left.now _ _ cut.run cut.rest (sym c.is_chunk.ensures ∙ c.if-not-is_chunk.false)
     c.in-None.ensures _ c.after_metadata.ensures)

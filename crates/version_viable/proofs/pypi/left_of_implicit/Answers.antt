@@ -13,5 +13,6 @@ returns-then-is_empty c =
 pub returns-else-is_empty : goal.returns-else-is_empty
 returns-else-is_empty c =
     let cut = c.split_run.ensures in
-    implicit_some c.args.text.now _ _ _ c.in-Some.ensures cut.run cut.rest (sym c.is_empty.ensures ∙ c.if-is_empty.false)
+    implicit_some c.args.text.now _ _ _ c.in-Some.ensures cut.run cut.rest
+    (sym c.is_empty.ensures ∙ c.if-is_empty.false)
     _ c.left_behind_post.ensures

@@ -10,4 +10,5 @@ returns-then-is_empty c =
 pub returns-else-is_empty : goal.returns-else-is_empty
 returns-else-is_empty c =
     let cut = c.split_bytes.ensures in
-    tail_behind c.args.text.now _ _ cut.run cut.rest (sym c.is_empty.ensures ∙ c.if-is_empty.false) _ c.after_version.ensures
+    tail_behind c.args.text.now _ _ cut.run cut.rest
+    (sym c.is_empty.ensures ∙ c.if-is_empty.false) _ c.after_version.ensures

@@ -24,7 +24,8 @@ returns-then-dots-eq0 c =
     let cut = c.split_run.ensures in
     c.numbers.invariant _
     (subst (λ (n : ℕ). IsLeft (is_core n) c.numbers.left.now c.after_tail.result.now) (sym c.if-dots-eq0.true)
-    (last_digits c.numbers.left.now _ _ cut.run cut.rest (sym c.is_number.ensures ∙ c.if-not-is_number.false) _ c.after_tail.ensures))
+    (last_digits c.numbers.left.now _ _ cut.run cut.rest
+    (sym c.is_number.ensures ∙ c.if-not-is_number.false) _ c.after_tail.ensures))
 
 pub numbers-preserved : goal.numbers-preserved
 numbers-preserved c = λ rest is.
@@ -38,6 +39,7 @@ pub returns-in-None : goal.returns-in-None
 returns-in-None c =
     let cut = c.split_run.ensures in
     c.numbers.invariant _
-    (subst (λ (n : ℕ). IsLeft (is_core n) c.numbers.left.now c.split_run.result.1.now) (sym (by_count c.numbers.dots c.if-dots-eq0.false))
+    (subst (λ (n : ℕ). IsLeft (is_core n) c.numbers.left.now c.split_run.result.1.now)
+    (sym (by_count c.numbers.dots c.if-dots-eq0.false))
     (no_more_digits c.numbers.left.now _ _ cut.run cut.rest (sym c.is_number.ensures ∙ c.if-not-is_number.false) _
     c.in-None.ensures))

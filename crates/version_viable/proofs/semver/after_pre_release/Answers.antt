@@ -13,7 +13,8 @@ is_chunk-requires c =
 pub returns-then-not-is_chunk : goal.returns-then-not-is_chunk
 returns-then-not-is_chunk c =
     let cut = c.split_run.ensures in
-    c.identifiers.invariant _ (no_chunk c.identifiers.left.now _ _ cut.run cut.rest (sym c.is_chunk.ensures ∙ c.if-not-is_chunk.true))
+    c.identifiers.invariant _
+    (no_chunk c.identifiers.left.now _ _ cut.run cut.rest (sym c.is_chunk.ensures ∙ c.if-not-is_chunk.true))
 
 pub identifiers-preserved : goal.identifiers-preserved
 identifiers-preserved c = λ rest is.
