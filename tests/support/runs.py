@@ -2,6 +2,7 @@
 
 A run has FILES in its folder, and a file `full` that takes no byte. docs/VERS.md and docs/VERSIONS.md say what it does.
 """
+import os
 from typing import NamedTuple
 
 from schemes import SYSTEMS
@@ -115,6 +116,8 @@ NO_PARTS = "versions of this scheme have no parts, which ~, ^ and .* ask for"
 MORE = "\n\nFor more information, try '--help'.\n"
 OPERATORS = "[possible values: <, <=, =, >=, >, lt, le, eq, ge, gt]"
 STABILITIES = "[possible values: dev, alpha, beta, rc, stable]"
+# Why the system refuses a file, by its number.
+REFUSED = {number: f"{os.strerror(number)} (os error {number})" for number in (2, 20, 21, 28)}
 PLACES = "[possible values: major, minor, patch, release, pre, a number from 0]"
 WITH_SCHEME = "error: the argument '--explain' cannot be used with '--scheme <NAME>'"
 WITH_SCHEME_COLUMN = "error: the argument '--scheme-column <N>' cannot be used with '--scheme <NAME>' or '--match <SET>'"
@@ -220,10 +223,10 @@ VERSIONS_WITH_FILES = (
         files={"others": "what was there\n"},
         written={"others": "x y\n"},
     ),
-    Run("sort missing", status=3, fault="versions: cannot be read: missing\n"),
-    Run("diff --lists old missing", status=3, fault="versions: cannot be read: missing\n"),
-    Run("sort --invalid-to full", "1.1\nx y\n1.0\n", status=3, fault="versions: cannot be written: full\n"),
-    Run("sort --invalid-to .", "1.0\n", status=3, fault="versions: cannot be written: .\n"),
+    Run("sort missing", status=3, fault=f"versions: cannot be read: missing: {REFUSED[2]}\n"),
+    Run("diff --lists old missing", status=3, fault=f"versions: cannot be read: missing: {REFUSED[2]}\n"),
+    Run("sort --invalid-to full", "1.1\nx y\n1.0\n", status=3, fault=f"versions: cannot be written: full: {REFUSED[28]}\n"),
+    Run("sort --invalid-to .", "1.0\n", status=3, fault=f"versions: cannot be written: .: {REFUSED[21]}\n"),
 )
 
 # Words of which one is nearly right. Where a similar one is looked for, letters are collected, and a list of them that

@@ -9,6 +9,7 @@ import re
 from functools import cmp_to_key
 
 import versions
+from runs import REFUSED
 from tasks import stability_of_words, text_after_prefix, text_in_tag
 
 STABILITIES = ["dev", "alpha", "beta", "rc", "stable"]
@@ -91,7 +92,8 @@ class Run:
             else:
                 text = self.read(name)
             if text is None:
-                raise Ended(3, b"cannot be read: " + shown(name.encode()))
+                why = REFUSED[21 if name == "." else 2]
+                raise Ended(3, b"cannot be read: %s: %s" % (shown(name.encode()), why.encode()))
             texts.append(text if not text or text.endswith(self.end()) else text + self.end())
         return b"".join(texts).split(self.end())[:-1]
 

@@ -1,13 +1,68 @@
 //! The files of the system, as the program reads and writes them.
 
+use std::cell::Cell;
 use std::fs;
+use std::io::{self, Read, Write};
 use version_commands::{Files, Hint, Shown, Stage};
 use version_lines::{Trouble, read_onto, write_whole};
 
-/// The files of the system. What they hold is not known to any contract.
+/// The files of the system, and why it refused one. What they hold is not known to any contract.
 #[derive(Drop)]
 pub struct SystemFiles<'r> {
     pub rt: &'r HostRuntime,
+    /// The system's number for why it refused a file, if it did.
+    pub refused: Cell<Option<i32>>,
+}
+
+/// A file that keeps why the system refuses to read or to write it.
+#[derive(Drop)]
+struct Watched<'c, T> {
+    file: T,
+    refused: &'c Cell<Option<i32>>,
+}
+
+impl<T: Read> Read for Watched<'_, T> {
+    ghost remaining = { λ watched. T.remaining watched.file };
+
+    fn read(&mut self, bytes: &mut [u8]) -> io::Result<usize> {
+        let given = self.file.read(bytes);
+        if let Err(error) = &given {
+            self.refused.set(error.raw_os_error());
+        }
+        given
+    }
+}
+
+impl<T: Write> Write for Watched<'_, T> {
+    ghost contents = { λ watched. T.contents watched.file };
+
+    fn write(&mut self, bytes: &[u8]) -> io::Result<usize> {
+        let written = self.file.write(bytes);
+        if let Err(error) = &written {
+            self.refused.set(error.raw_os_error());
+        }
+        written
+    }
+
+    fn flush(&mut self) -> io::Result<()> {
+        self.file.flush()
+    }
+}
+
+impl SystemFiles<'_> {
+    // Watches a file that the system opens, or keeps why it refuses to.
+    fn watched<T>(&self, opened: io::Result<T>) -> Result<Watched<'_, T>, Trouble> {
+        match opened {
+            Ok(file) => Ok(Watched {
+                file,
+                refused: &self.refused,
+            }),
+            Err(error) => {
+                self.refused.set(error.raw_os_error());
+                Err(Trouble::System)
+            }
+        }
+    }
 }
 
 impl Files for SystemFiles<'_> {
@@ -20,16 +75,12 @@ impl Files for SystemFiles<'_> {
     ghost alters = { λ _ _ _. ⊤ };
 
     fn read_onto(&self, name: &str, input: &mut Vec<u8>) -> Result<(), Trouble> {
-        let Ok(mut file) = fs::File::open(self.rt, name) else {
-            return Err(Trouble::System);
-        };
+        let mut file = self.watched(fs::File::open(self.rt, name))?;
         read_onto(self.rt.alloc(), &mut file, input)
     }
 
     fn put(&mut self, name: &str, bytes: &[u8]) -> Result<(), Trouble> {
-        let Ok(mut file) = fs::File::create(self.rt, name) else {
-            return Err(Trouble::System);
-        };
+        let mut file = self.watched(fs::File::create(self.rt, name))?;
         match write_whole(&mut file, bytes) {
             Ok(()) => Ok(()),
             Err(_) => Err(Trouble::System),

@@ -11,9 +11,11 @@ mod output;
 
 use files::SystemFiles;
 use output::Output;
-use std::env;
+use std::cell::Cell;
 use std::env::Env;
 use std::process::ExitCode;
+use std::{env, io};
+use version_commands::Fault as TaskFault;
 use version_words::{Fault, WordsFault, run};
 
 // The status that a shell gives for a program whose reader has gone: that of the signal SIGPIPE.
@@ -24,20 +26,24 @@ const NO: u8 = 1;
 
 fn main(rt: HostRuntime) -> ExitCode {
     let Some(words) = words(&rt) else {
-        return ending(&rt, Err(not_text(&rt)));
+        return ending(&rt, Err(not_text(&rt)), None);
+    };
+    let mut files = SystemFiles {
+        rt: &rt,
+        refused: Cell::new(None),
     };
     let mut output = Output::new(rt.stdout());
     let outcome = run(
         rt.alloc(),
         words.as_slice(),
-        &mut SystemFiles { rt: &rt },
+        &mut files,
         &mut rt.stdin(),
         &mut output,
     );
     if output.has_no_reader() {
         return ExitCode::from(READER_GONE);
     }
-    ending(&rt, outcome)
+    ending(&rt, outcome, files.refused.get())
 }
 
 // Returns the words after the program's name, or None if the system does not provide them.
@@ -55,7 +61,8 @@ fn not_text<'w>(rt: &impl AllocGlobal) -> Fault<'w> {
 }
 
 // Returns the exit code: 1 where the answer is no. A fault is printed, and sets its status, even if it cannot be printed.
-fn ending(rt: &impl Eprint, outcome: Result<bool, Fault<'_>>) -> ExitCode
+// `refused` is why the system refused a file, if it did.
+fn ending(rt: &impl Eprint, outcome: Result<bool, Fault<'_>>, refused: Option<i32>) -> ExitCode
     ensures { MatchResult outcome.entry
         (λ answer. exit_status result ≡ if answer then 0 else 1)
         (λ fault. exit_status result ≡ status_of fault) }
@@ -64,16 +71,20 @@ fn ending(rt: &impl Eprint, outcome: Result<bool, Fault<'_>>) -> ExitCode
         Ok(true) => ExitCode::SUCCESS,
         Ok(false) => ExitCode::from(NO),
         Err(fault) => {
-            tell(rt, &fault);
+            tell(rt, &fault, refused);
             ExitCode::from(fault.status())
         }
     }
 }
 
-// Prints a fault. What is wrong with words says itself whose it is.
-fn tell(rt: &impl Eprint, fault: &Fault<'_>) {
-    let _ = match fault {
-        Fault::Words(WordsFault::Usage(text)) => eprint!(rt; "{text}"),
-        fault => eprintln!(rt; "versions: {fault}"),
+// Prints a fault, and of a file's why the system refused it. What is wrong with words says itself whose it is.
+fn tell(rt: &impl Eprint, fault: &Fault<'_>, refused: Option<i32>) {
+    let _ = match (fault, refused) {
+        (Fault::Words(WordsFault::Usage(text)), _) => eprint!(rt; "{text}"),
+        (Fault::Task(TaskFault::Read(_) | TaskFault::Write(Some(_))), Some(code)) => {
+            let why = io::Error::from_raw_os_error(code);
+            eprintln!(rt; "versions: {fault}: {why}")
+        }
+        (fault, _) => eprintln!(rt; "versions: {fault}"),
     };
 }
