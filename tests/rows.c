@@ -16,7 +16,8 @@ static const char *const of_each_line[] = {
   "INSERT INTO lines VALUES (?1)",
   "SELECT is_version(?1), version_key(?1), version_kind(?1), version_nth(?1, 0), version_nth(?1, 3), version_epoch(?1),"
   " version_pre_release(?1), version_release(?1), version_metadata(?1), version_is_prerelease(?1), version_in(?1),"
-  " version_in(?1, 'v'), version_stability(?1), version_stability_rank(?1), version_next(?1, 0), version_next(?1, 1)",
+  " version_in(?1, 'v'), version_stability(?1), version_stability_rank(?1), version_next(?1, 0), version_next(?1, 1),"
+  " version_next_release(?1), version_next_pre(?1), version_next_pre(?1, 'rc')",
   "SELECT version_compare(?2, ?1), version_compare_total(?2, ?1), version_difference(?2, ?1)",
   "SELECT version_matches(?3, ?1), version_why_not(?3, ?1), version_low(?3), version_high(?3)",
   "SELECT version_in_set(?3, ?1)",

@@ -1,9 +1,9 @@
 -- The number that comes next after the chunks of a word, read off texts.
-use Rattle.std.proofs.Common.{IfNone, IfSome, ◌≡◌, ◌∙◌, ◌<◌, ◌≤◌, ◌^◌, ◌⊎◌, ℕ, suc, true, false, List, [], ◌∷◌, ◌++◌, length, map, not, Option, Some, None, refl, sym, ap, append_assoc, arith, inl, inr}
+use Rattle.std.proofs.Common.{IfNone, IfSome, ◌≡◌, ◌∙◌, ◌<◌, ◌≤◌, ◌^◌, ◌⊎◌, ℕ, suc, true, false, List, [], ◌∷◌, ◌++◌, map, not, Option, Some, None, refl, sym, ap, append_assoc, arith, inl, inr}
 use Rattle.std.proofs.lemmas.Bool.{and_parts, cases_Bool, not-true}
 use Rattle.std.proofs.lemmas.List.Folds.{list_all-append}
 use Rattle.std.specs.Cmp.{nat_cmp_is}
-use Rattle.std.specs.List.{join_with_byte, list_all}
+use Rattle.std.specs.List.{list_all}
 use Rattle.std.specs.Ordering.{nat_cmp, ordering_then}
 use Rattle.std.specs.Str.Parse.{digits_value}
 use Rattle.std.specs.declared.cmp.Ordering.TheVariants.{Less, Equal, Greater}
@@ -149,11 +149,6 @@ module _ (word own rest : List ℕ) (is : own ≡ word_text word ++ rest) where
       ]
 
 -- ---- where a text does not begin with a word
-
-join_more : (piece : List ℕ) (pieces : List (List ℕ)) → 0 < length pieces
-    → join_with_byte dot (piece ∷ pieces) ≡ piece ++ dot ∷ join_with_byte dot pieces
-join_more piece [] some = absurd (omega (arith, some))
-join_more piece (next ∷ pieces) some = refl
 
 release_joined : (c : PlainChunk) (chunks : List PlainChunk) (d : PlainChunk)
     (more : List PlainChunk)

@@ -6,7 +6,6 @@ use Rattle.std.specs.Ordering.{nat_cmp, ordering_then}
 use Rattle.std.specs.declared.cmp.Ordering.TheVariants.{Less, Equal, Greater}
 use Rattle.version_rules.proofs.lemmas.NumberBytes.{above, below}
 use Rattle.version_rules.specs.grammar.Chunk.{PlainChunk, Numeric}
-use Rattle.version_rules.specs.grammar.Kind.{versioning_kind}
 use Rattle.version_rules.specs.grammar.SemVer.{PlainSemVer}
 use Rattle.version_rules.specs.grammar.Versioning.{PlainVersioning, Ideal, General, Complex}
 use Rattle.version_rules.specs.key.Key.{key_of, precedence, strict_body}
@@ -17,7 +16,6 @@ use Rattle.version_tasks.specs.NextPre.{AreNamed, IsNextPre, IsOfPreForm, IsPreR
 use Rattle.version_tasks.specs.NextPreText.{IsPlace, NonePass, Passes, own_chunks, word_chunks}
 use Rattle.version_tasks.proofs.lemmas.Next.Order.{both_raised, same, three_ways}
 use Rattle.version_tasks.proofs.lemmas.NextPre.Chunks.{numbers_cmp, one_named}
-use Rattle.version_rules.specs.declared.kind.Kind.TheVariants as kind
 
 abbrev tail_of : Option (List PlainChunk) → Tail
 tail_of pre_rel = option_map_or PreReleased pre_rel Bare
@@ -179,13 +177,6 @@ pub none_unnamed : (v : PlainSemVer) (given : Option (List ℕ))
 none_unnamed v given none (Ideal u) f after = none f.chunks f.named
 none_unnamed v given none (General u) f after = absurd f
 none_unnamed v given none (Complex u) f after = absurd f
-
--- or after a version that is not strict
-pub none_other : (v : PlainVersioning) (given : Option (List ℕ))
-    → ¬ (versioning_kind v ≡ kind.Ideal) → NoNextPre v given
-none_other (Ideal v) given other w f after = absurd (other refl)
-none_other (General v) given other w f after = absurd f
-none_other (Complex v) given other w f after = absurd f
 
 -- ---- at most one version comes next
 
