@@ -448,8 +448,8 @@ int versions_next_release(const char *text, size_t text_len, char *next, size_t 
  * Writes the pre-release of a word that comes next after a strict version, as text.
  *
  * The word is what stands before the number of the pre-release: one chunk or more, joined by dots, such as rc. Where
- * word_len is 0 it is what stands before the last chunk of the version's own pre-release, if that chunk is a number, and
- * may then be nothing. What is written is the least version that comes after that one with the same major and minor
+ * word_len is 0 it is what stands before the last chunk of the version's own pre-release, if that chunk is a number,
+ * and may then be nothing. What is written is the least version that comes after that one with the same major and minor
  * numbers, any patch, the word and one number from 1 on as pre-release, and no metadata.
  *
  *     version        word   next

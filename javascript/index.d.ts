@@ -111,7 +111,7 @@ export class Version {
   nth(n: number): number | null;
   /** The version that comes next at a place from 0 on: 1.3.0 after 1.2.3 at place 1. RangeError where there is none. */
   next(place: number): Version;
-  /** The version that comes next at the last place of its numbers: 1.2.3 after 1.2.3-rc.1. RangeError where there is none. */
+  /** The version that comes next at the last place: 1.2.3 after 1.2.3-rc.1. RangeError where there is none. */
   nextRelease(): Version;
   /**
    * The least version after it with its major and minor numbers whose pre-release is a word and one number from 1 on:

@@ -251,13 +251,13 @@ class Version(Value, _library.Keyed):
         return type(self)(text)
 
     def next_pre(self, word: Optional[str] = None) -> Self:
-        """The least version after a strict one with its major and minor numbers whose pre-release is a word and one number
-        from 1 on.
+        """The least version after a strict one with its major and minor numbers whose pre-release is a word and one
+        number from 1 on.
 
         A word is one chunk or more, joined by dots. Without a word, or with an empty one, it is what stands before the
         number that the version's own pre-release ends with. `ValueError` where there is no such version: of a version
-        that isn't strict, without a word for one whose pre-release doesn't end with a number, for a word that isn't such
-        chunks, and past the patch 4294967295.
+        that isn't strict, without a word for one whose pre-release doesn't end with a number, for a word that isn't
+        such chunks, and past the patch 4294967295.
 
         >>> [str(Version(text).next_pre("rc")) for text in ("1.2.3", "1.2.3-rc.1", "1.2.3-alpha.4")]
         ['1.2.4-rc.1', '1.2.3-rc.2', '1.2.3-rc.1']

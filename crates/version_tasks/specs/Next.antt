@@ -61,8 +61,8 @@ IsAfter w v = precedence (key_of w) (key_of v) ≡ Greater
 
 -- The version w is the least of a form after v: it is of the form, it comes after v, and no version
 -- of the form that comes after v is before it.
-pub record IsLeastAfter (v : PlainVersioning) (Form : PlainVersioning → Type 0) (w : PlainVersioning)
-    : Type 0 where
+pub record IsLeastAfter (v : PlainVersioning) (Form : PlainVersioning → Type 0)
+    (w : PlainVersioning) : Type 0 where
   pub form : Form w
   pub after : IsAfter w v
   pub least : (u : PlainVersioning) → Form u → IsAfter u v

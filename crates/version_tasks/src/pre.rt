@@ -30,11 +30,11 @@ use version_texts::{
     VersioningRef, compare_releases, is_digits, numeral_value, spells_numeral, split_piece,
 };
 
-/// Returns the pre-release that comes next after a strict version: the least one after it with the same major and minor
-/// numbers, whose pre-release is a word and then one number from 1 on, and without metadata. A word is one chunk or more,
-/// joined by dots. Without a word it is what stands before the last chunk of the version's own pre-release, where that
-/// chunk is a number. Returns None if the version isn't strict, if it has no such word, if the given word isn't such
-/// chunks, or if that would take a patch past 4294967295. Does not allocate.
+/// Returns the pre-release that comes next after a strict version: the least version after it with the same major and
+/// minor numbers, a word and then one number from 1 on as pre-release, and without metadata. A word is one chunk or
+/// more, joined by dots. Without a word it is what stands before the last chunk of the version's own pre-release, if
+/// that chunk is a number. Returns None if the version isn't strict, if it has no such word, if the given word isn't
+/// such chunks, or if that would take a patch past 4294967295. Does not allocate.
 ///
 /// | version | word | next |
 /// |---|---|---|

@@ -1,5 +1,5 @@
--- What comes next among the pre-releases of a word: its order, its number, its text, and how both are
--- read off a text.
+-- What comes next among the pre-releases of a word: its order, its number, its text, and how these
+-- are read off a text.
 pub mod Chunks
 pub mod Number
 pub mod Order

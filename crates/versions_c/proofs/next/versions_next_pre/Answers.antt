@@ -14,8 +14,9 @@ returns-clause-next c =
     let small : length c.args.next.now < 2 ^ 63 = omega arith in
     let within : c.write.result ≤ length c.args.next.now =
     omega (arith, c.if-next_len-next.false, c.write.auto.room) in
-    next_written (λ v. IsOfPreForm v (given_word c.args.word.now)) _ (plain_versioning_ref c.in-Some.version) c.in-Some.ensures
-    c.args.next.now (plain_next_pre c.in-Some-next_pre.found) (subst (λ (o : Option (List ℕ)). IsLeastAfter v (IsOfPreForm v o) w) c.given_word.ensures
-    c.in-Some-next_pre.ensures.some) _
-    c.write.ensures.length small within _
+    let found : IsLeastAfter v (IsOfPreForm v (given_word c.args.word.now)) w =
+    subst (λ (o : Option (List ℕ)). IsLeastAfter v (IsOfPreForm v o) w) c.given_word.ensures
+    c.in-Some-next_pre.ensures.some in
+    next_written (λ v. IsOfPreForm v (given_word c.args.word.now)) _ v c.in-Some.ensures
+    c.args.next.now w found _ c.write.ensures.length small within _
     (c.write.ensures.bytes.fitting (omega (arith, c.write.ensures.length, within, small)))

@@ -10,7 +10,7 @@ returns-clause-next c =
     let small : length c.args.next.now < 2 ^ 63 = omega arith in
     let within : c.write.result ≤ length c.args.next.now =
     omega (arith, c.if-next_len-next.false, c.write.auto.room) in
-    next_written (λ v. IsOfForm v (last_place v)) _ (plain_versioning_ref c.in-Some.version) c.in-Some.ensures
-    c.args.next.now (plain_next c.in-Some-next_release.found) c.in-Some-next_release.ensures.some _
+    next_written (λ v. IsOfForm v (last_place v)) _ (plain_versioning_ref c.in-Some.version)
+    c.in-Some.ensures c.args.next.now (plain_next c.in-Some-next_release.found) c.in-Some-next_release.ensures.some _
     c.write.ensures.length small within _
     (c.write.ensures.bytes.fitting (omega (arith, c.write.ensures.length, within, small)))
