@@ -2,6 +2,7 @@ pub mod Cuts
 pub mod Deb
 pub mod Gem
 pub mod General
+pub mod Laws
 pub mod Left
 pub mod Mixed
 pub mod Pypi

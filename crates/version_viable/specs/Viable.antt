@@ -17,5 +17,5 @@ pub record IsLeft (test : List ℕ → Bool) (text left : List ℕ) : Type 0 whe
   pub begun : List ℕ
   pub whole : text ≡ begun ++ left
   pub viable : IsViable test begun
-  pub stuck : (byte : ℕ) (behind : List ℕ) → left ≡ byte ∷ behind → (more : List ℕ) → test (begun ++ byte ∷ more)
-      ≡ false
+  pub stuck : (byte : ℕ) (behind : List ℕ) → left ≡ byte ∷ behind → (more : List ℕ)
+      → test (begun ++ byte ∷ more) ≡ false

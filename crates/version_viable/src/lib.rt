@@ -5,6 +5,7 @@
 mod bytes;
 mod deb;
 mod gem;
+mod laws;
 mod mixed;
 mod pypi;
 mod rpm;

@@ -421,3 +421,6 @@ pub after_first_blanks : (text run rest left : List ℕ) → run ≡ take_while 
 after_first_blanks text run rest left run_is rest_is is =
     after_run is_blank is_pypi (λ run rest. after_blanks rest) pypi_split text run rest run_is rest_is blanks_apart
     left is
+
+pub zero_pypi : is_pypi (48 ∷ []) ≡ true
+zero_pypi = pypi_split (48 ∷ []) ∙ zero_release
