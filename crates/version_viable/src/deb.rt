@@ -14,11 +14,11 @@ use version_rules::{Class, begins_with, split_run};
 pub(crate) fn deb_length(text: &[u8]) -> usize
     ensures { IsLongestViable (λ begun. is_some (deb_of begun)) text.now result }
 {
-    text.len() - after_deb(text).len()
+    text.len() - left_of_deb(text).len()
 }
 
 // What is left of a text as a version. A hyphen and a revision may follow any upstream version.
-fn after_deb(text: &[u8]) -> &[u8]
+fn left_of_deb(text: &[u8]) -> &[u8]
     ensures { IsLeft (λ begun. is_some (deb_of begun)) text.now result.now }
 {
     let (digits, rest) = split_run(text, Class::Digit);
@@ -28,7 +28,7 @@ fn after_deb(text: &[u8]) -> &[u8]
     match after_byte(b':', rest) {
         Some(behind) => {
             if is_epoch(digits, b"2147483647") {
-                after_epoch(behind)
+                left_behind_epoch(behind)
             } else {
                 rest
             }
@@ -38,7 +38,7 @@ fn after_deb(text: &[u8]) -> &[u8]
 }
 
 // The same of what stands behind an epoch.
-fn after_epoch(text: &[u8]) -> &[u8]
+fn left_behind_epoch(text: &[u8]) -> &[u8]
     ensures { IsLeft is_behind_epoch text.now result.now }
 {
     if begins_with(text, Class::Digit) {

@@ -15,19 +15,19 @@ use version_rules::{Class, split_run};
 pub(crate) fn gem_length(text: &[u8]) -> usize
     ensures { IsLongestViable (λ begun. is_some (gem_of begun)) text.now result }
 {
-    text.len() - after_gem(text).len()
+    text.len() - left_of_gem(text).len()
 }
 
 // What is left of a text as a version with blanks around it.
-fn after_gem(text: &[u8]) -> &[u8]
+fn left_of_gem(text: &[u8]) -> &[u8]
     ensures { IsLeft (λ begun. is_some (gem_of begun)) text.now result.now }
 {
     let (_, rest) = split_bytes(text, Bytes::GemBlank);
-    after_version(rest)
+    left_of_version(rest)
 }
 
 // The same of a version with blanks after it. Its first piece is digits.
-fn after_version(text: &[u8]) -> &[u8]
+fn left_of_version(text: &[u8]) -> &[u8]
     ensures { IsLeft is_ended text.now result.now }
 {
     let (digits, rest) = split_run(text, Class::Digit);
@@ -35,13 +35,13 @@ fn after_version(text: &[u8]) -> &[u8]
         return rest;
     }
     match after_byte(b'.', rest) {
-        Some(behind) => after_pieces(behind),
-        None => after_tail(rest),
+        Some(behind) => left_of_pieces(behind),
+        None => left_of_tail(rest),
     }
 }
 
 // The same of what follows the first dot.
-fn after_pieces(text: &[u8]) -> &[u8]
+fn left_of_pieces(text: &[u8]) -> &[u8]
     ensures { IsLeft is_pieces text.now result.now }
 {
     let mut left = text;
@@ -52,23 +52,23 @@ fn after_pieces(text: &[u8]) -> &[u8]
         }
         match after_byte(b'.', rest) {
             Some(behind) => left = behind,
-            None => return after_tail(rest),
+            None => return left_of_tail(rest),
         }
     }
 }
 
 // The same of what may follow a piece before the first hyphen.
-fn after_tail(text: &[u8]) -> &[u8]
+fn left_of_tail(text: &[u8]) -> &[u8]
     ensures { IsLeft is_tail text.now result.now }
 {
     match after_byte(b'-', text) {
-        Some(behind) => after_hyphen(behind),
-        None => after_blanks(text),
+        Some(behind) => left_behind_hyphen(behind),
+        None => left_of_blanks(text),
     }
 }
 
 // The same of what follows the first hyphen.
-fn after_hyphen(text: &[u8]) -> &[u8]
+fn left_behind_hyphen(text: &[u8]) -> &[u8]
     ensures { IsLeft is_after_hyphen text.now result.now }
 {
     let mut left = text;
@@ -79,14 +79,14 @@ fn after_hyphen(text: &[u8]) -> &[u8]
         }
         match after_byte(b'.', rest) {
             Some(behind) => left = behind,
-            None => return after_blanks(rest),
+            None => return left_of_blanks(rest),
         }
     }
 }
 
 // The same of blanks.
 #[inline(always)]
-fn after_blanks(text: &[u8]) -> &[u8]
+fn left_of_blanks(text: &[u8]) -> &[u8]
     ensures { IsLeft (list_all is_blank) text.now result.now }
 {
     split_bytes(text, Bytes::GemBlank).1

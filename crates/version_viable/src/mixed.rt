@@ -20,8 +20,8 @@ use version_texts::{is_digits, spells_numeral};
 pub(crate) fn mixed_length(text: &[u8]) -> usize
     ensures { IsLongestViable (λ begun. is_some (versioning_of begun)) text.now result }
 {
-    let general = after_general(text);
-    let messy = after_messy(text);
+    let general = left_of_general(text);
+    let messy = left_of_messy(text);
     if general.len() < messy.len() {
         text.len() - general.len()
     } else {
@@ -30,7 +30,7 @@ pub(crate) fn mixed_length(text: &[u8]) -> usize
 }
 
 // What is left of a text as a general version. A strict one is general too.
-fn after_general(text: &[u8]) -> &[u8]
+fn left_of_general(text: &[u8]) -> &[u8]
     ensures { IsLeft is_general text.now result.now }
 {
     let (first, rest) = split_run(text, Class::Alphanumeric);
@@ -38,11 +38,11 @@ fn after_general(text: &[u8]) -> &[u8]
         return rest;
     }
     if let Some(behind) = after_epoch(first, rest) {
-        return after_parts(behind);
+        return left_of_parts(behind);
     }
     match after_byte(b'.', rest) {
-        Some(behind) => after_parts(behind),
-        None => after_tail(rest),
+        Some(behind) => left_of_parts(behind),
+        None => left_of_tail(rest),
     }
 }
 
@@ -60,7 +60,7 @@ fn after_epoch<'t>(first: &[u8], rest: &'t [u8]) -> Option<&'t [u8]>
 }
 
 // The same of a general version without an epoch.
-fn after_parts(text: &[u8]) -> &[u8]
+fn left_of_parts(text: &[u8]) -> &[u8]
     ensures { IsLeft is_parts text.now result.now }
 {
     let mut left = text;
@@ -71,7 +71,7 @@ fn after_parts(text: &[u8]) -> &[u8]
         }
         match after_byte(b'.', rest) {
             Some(behind) => left = behind,
-            None => return after_tail(rest),
+            None => return left_of_tail(rest),
         }
     }
 }
@@ -86,17 +86,17 @@ fn is_chunk(run: &[u8], class: Class) -> bool
 }
 
 // The same of what may follow the parts.
-fn after_tail(text: &[u8]) -> &[u8]
+fn left_of_tail(text: &[u8]) -> &[u8]
     ensures { IsLeft is_tail text.now result.now }
 {
     match after_byte(b'-', text) {
-        Some(behind) => after_release(behind),
-        None => after_metadata(text),
+        Some(behind) => left_of_release(behind),
+        None => left_of_metadata(text),
     }
 }
 
 // The same of a release, and metadata that may follow it.
-fn after_release(text: &[u8]) -> &[u8]
+fn left_of_release(text: &[u8]) -> &[u8]
     ensures { IsLeft is_released text.now result.now }
 {
     let mut left = text;
@@ -107,13 +107,13 @@ fn after_release(text: &[u8]) -> &[u8]
         }
         match after_byte(b'.', rest) {
             Some(behind) => left = behind,
-            None => return after_metadata(rest),
+            None => return left_of_metadata(rest),
         }
     }
 }
 
 // The same of nothing, or a plus and metadata.
-fn after_metadata(text: &[u8]) -> &[u8]
+fn left_of_metadata(text: &[u8]) -> &[u8]
     ensures { IsLeft is_metadata_tail text.now result.now }
 {
     match after_byte(b'+', text) {
@@ -123,7 +123,7 @@ fn after_metadata(text: &[u8]) -> &[u8]
 }
 
 // The same of a messy version.
-fn after_messy(text: &[u8]) -> &[u8]
+fn left_of_messy(text: &[u8]) -> &[u8]
     ensures { IsLeft is_messy text.now result.now }
 {
     let mut left = text;

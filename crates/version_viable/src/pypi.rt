@@ -16,11 +16,11 @@ use version_rules::{Class, begins_with, split_run};
 pub(crate) fn pypi_length(text: &[u8]) -> usize
     ensures { IsLongestViable (λ begun. is_some (pypi_of begun)) text.now result }
 {
-    text.len() - left_of(text).len()
+    text.len() - left_of_pypi(text).len()
 }
 
 // What is left of a text as a version with blanks around it.
-fn left_of(text: &[u8]) -> &[u8]
+fn left_of_pypi(text: &[u8]) -> &[u8]
     ensures { IsLeft (λ begun. is_some (pypi_of begun)) text.now result.now }
 {
     let (_, rest) = split_bytes(text, Bytes::PypiBlank);

@@ -13,11 +13,11 @@ use crate::texts::{after_byte, is_epoch};
 pub(crate) fn rpm_length(text: &[u8]) -> usize
     ensures { IsLongestViable (λ begun. is_some (rpm_of begun)) text.now result }
 {
-    text.len() - after_rpm(text).len()
+    text.len() - left_of_rpm(text).len()
 }
 
 // What is left of a text as a version.
-fn after_rpm(text: &[u8]) -> &[u8]
+fn left_of_rpm(text: &[u8]) -> &[u8]
     ensures { IsLeft (λ begun. is_some (rpm_of begun)) text.now result.now }
 {
     let (run, rest) = split_bytes(text, Bytes::Rpm);
@@ -27,29 +27,29 @@ fn after_rpm(text: &[u8]) -> &[u8]
     match after_byte(b':', rest) {
         Some(behind) => {
             if is_epoch(run, b"4294967295") {
-                after_epoch(behind)
+                left_behind_epoch(behind)
             } else {
                 rest
             }
         }
-        None => after_version(rest),
+        None => left_behind_version(rest),
     }
 }
 
 // The same of what stands behind an epoch.
-fn after_epoch(text: &[u8]) -> &[u8]
+fn left_behind_epoch(text: &[u8]) -> &[u8]
     ensures { IsLeft is_behind_epoch text.now result.now }
 {
     let (run, rest) = split_bytes(text, Bytes::Rpm);
     if run.is_empty() {
         rest
     } else {
-        after_version(rest)
+        left_behind_version(rest)
     }
 }
 
 // The same of what may follow a version: a hyphen and a release.
-fn after_version(text: &[u8]) -> &[u8]
+fn left_behind_version(text: &[u8]) -> &[u8]
     ensures { IsLeft is_release_tail text.now result.now }
 {
     match after_byte(b'-', text) {

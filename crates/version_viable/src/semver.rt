@@ -17,11 +17,11 @@ use version_texts::is_digits;
 pub(crate) fn semver_length(text: &[u8]) -> usize
     ensures { IsLongestViable (λ begun. is_some (semver_of begun)) text.now result }
 {
-    text.len() - after_core(text).len()
+    text.len() - left_of_core(text).len()
 }
 
 // What is left of a text as three numbers, and what may follow them.
-fn after_core(text: &[u8]) -> &[u8]
+fn left_of_core(text: &[u8]) -> &[u8]
     ensures { IsLeft (is_core 2) text.now result.now }
 {
     let mut left = text;
@@ -29,10 +29,10 @@ fn after_core(text: &[u8]) -> &[u8]
     'numbers: loop {
         let (number, rest) = split_run(left, Class::Digit);
         if !is_number(number) {
-            return after_zero(left);
+            return left_without_number(left);
         }
         if dots == 0 {
-            return after_tail(rest);
+            return left_of_tail(rest);
         }
         match after_byte(b'.', rest) {
             Some(behind) => {
@@ -62,7 +62,7 @@ fn has_leading_zero(text: &[u8]) -> bool
 }
 
 // What is left of a text that begins with no number: with no digit, or with a zero before other digits.
-fn after_zero(text: &[u8]) -> &[u8]
+fn left_without_number(text: &[u8]) -> &[u8]
     requires { is_number (take_while is_ascii_digit text.now) ≡ false }
     ensures { (dots : ℕ) → IsLeft (is_core dots) text.now result.now }
 {
@@ -74,20 +74,20 @@ fn after_zero(text: &[u8]) -> &[u8]
 }
 
 // What is left of a text as what may follow the numbers.
-fn after_tail(text: &[u8]) -> &[u8]
+fn left_of_tail(text: &[u8]) -> &[u8]
     ensures { IsLeft is_tail text.now result.now }
 {
     if let Some(behind) = after_byte(b'+', text) {
-        return after_metadata(behind);
+        return left_of_metadata(behind);
     }
     match after_byte(b'-', text) {
-        Some(behind) => after_pre_release(behind),
+        Some(behind) => left_of_pre_release(behind),
         None => text,
     }
 }
 
 // The same as a pre-release, and metadata that may follow it.
-fn after_pre_release(text: &[u8]) -> &[u8]
+fn left_of_pre_release(text: &[u8]) -> &[u8]
     ensures { IsLeft is_pre_release text.now result.now }
 {
     let mut left = text;
@@ -98,17 +98,17 @@ fn after_pre_release(text: &[u8]) -> &[u8]
         }
         match after_byte(b'.', rest) {
             Some(behind) => left = behind,
-            None => return after_plus(rest),
+            None => return left_of_metadata_tail(rest),
         }
     }
 }
 
 // The same as metadata that may follow a pre-release.
-fn after_plus(text: &[u8]) -> &[u8]
+fn left_of_metadata_tail(text: &[u8]) -> &[u8]
     ensures { IsLeft is_metadata_tail text.now result.now }
 {
     match after_byte(b'+', text) {
-        Some(behind) => after_metadata(behind),
+        Some(behind) => left_of_metadata(behind),
         None => text,
     }
 }
@@ -123,7 +123,7 @@ fn is_chunk(run: &[u8]) -> bool
 }
 
 // The same as metadata.
-fn after_metadata(text: &[u8]) -> &[u8]
+fn left_of_metadata(text: &[u8]) -> &[u8]
     ensures { IsLeft is_metadata text.now result.now }
 {
     let mut left = text;

@@ -10,10 +10,10 @@ pub returns-then-general-messy : goal.returns-then-general-messy
 returns-then-general-messy c =
     longest _ c.args.text.now _
     (further (λ begun. is_some (versioning_of begun)) is_general is_messy any_kind c.args.text.now _ _
-    c.after_general-general.ensures c.after_messy-messy.ensures (omega (arith, c.if-general-messy.true)))
+    c.left_of_general-general.ensures c.left_of_messy-messy.ensures (omega (arith, c.if-general-messy.true)))
 
 pub returns-else-general-messy : goal.returns-else-general-messy
 returns-else-general-messy c =
     longest _ c.args.text.now _
     (further_other (λ begun. is_some (versioning_of begun)) is_general is_messy any_kind c.args.text.now _ _
-    c.after_general-general.ensures c.after_messy-messy.ensures (omega (arith, c.if-general-messy.false)))
+    c.left_of_general-general.ensures c.left_of_messy-messy.ensures (omega (arith, c.if-general-messy.false)))

@@ -8,4 +8,4 @@ use Rattle.version_viable.proofs.semver.semver_length.Goals as goal
 pub returns : goal.returns
 returns c =
     longest _ c.args.text.now _
-    (same (λ begun. is_some (semver_of begun)) (is_core 2) semver_core c.args.text.now _ c.after_core.ensures)
+    (same (λ begun. is_some (semver_of begun)) (is_core 2) semver_core c.args.text.now _ c.left_of_core.ensures)
