@@ -1,6 +1,6 @@
 //! How far a text could become a version of Debian.
 
-ghost use Rattle.std.specs.Prelude.{◌≡◌, is_some};
+ghost use Rattle.std.specs.Prelude.{is_some};
 ghost use Rattle.version_schemes.specs.deb.Texts.{deb_of};
 ghost use Rattle.version_viable.specs.Viable.{IsLeft, IsLongestViable};
 ghost use Rattle.version_viable.specs.deb.Parts.{is_behind_epoch};

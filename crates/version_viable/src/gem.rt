@@ -1,6 +1,6 @@
 //! How far a text could become a version of RubyGems.
 
-ghost use Rattle.std.specs.Prelude.{◌≡◌, is_some};
+ghost use Rattle.std.specs.Prelude.{is_some};
 ghost use Rattle.std.specs.List.{list_all};
 ghost use Rattle.version_schemes.specs.gem.Texts.{gem_of, is_blank};
 ghost use Rattle.version_viable.specs.Viable.{IsLeft, IsLongestViable};

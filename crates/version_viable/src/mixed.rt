@@ -7,7 +7,7 @@ ghost use Rattle.version_rules.specs.grammar.Class.{contains};
 ghost use Rattle.version_rules.specs.grammar.DigitRun.{is_digits};
 ghost use Rattle.version_rules.specs.grammar.Front.{begins};
 ghost use Rattle.version_rules.specs.grammar.Versioning.{versioning_of};
-ghost use Rattle.version_texts.specs.scan.TextKind.{are_marked_runs, is_chunk, is_general, is_messy, is_metadata_tail, is_released, is_run, is_tail};
+ghost use Rattle.version_texts.specs.scan.TextKind.{is_chunk, is_general, is_messy, is_metadata_tail, is_released, is_tail};
 ghost use Rattle.version_viable.specs.Viable.{IsLeft, IsLongestViable};
 ghost use Rattle.version_viable.specs.mixed.Parts.{is_parts};
 

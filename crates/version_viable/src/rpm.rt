@@ -1,7 +1,7 @@
 //! How far a text could become a version of RPM.
 
-ghost use Rattle.std.specs.Prelude.{◌≡◌, is_some};
-ghost use Rattle.version_schemes.specs.rpm.Texts.{is_version, rpm_of};
+ghost use Rattle.std.specs.Prelude.{is_some};
+ghost use Rattle.version_schemes.specs.rpm.Texts.{rpm_of};
 ghost use Rattle.version_viable.specs.Viable.{IsLeft, IsLongestViable};
 ghost use Rattle.version_viable.specs.rpm.Parts.{is_behind_epoch, is_release_tail};
 
