@@ -187,11 +187,11 @@ then_next (byte ∷ rest) ends = elim (cases_Bool (is_metadata_byte byte)) [
   ]
 ]
   where
-    abbrev_next : (inside : is_metadata_byte byte ≡ true)
+    at_metadata : is_metadata_byte byte ≡ true
         → then_blanks (next is_dot is_plain is_hyphenated) (byte ∷ rest)
         ≡ (next is_dot is_plain is_hyphenated (byte ∷ take_while is_metadata_byte rest)
         && list_all is_blank (drop (prefix_len is_metadata_byte rest) rest))
-    abbrev_next inside =
+    at_metadata inside =
         let step = run_cons is_metadata_byte byte rest inside in
         λ i. next is_dot is_plain is_hyphenated (step.0 i) && list_all is_blank (step.1 i)
 
@@ -213,7 +213,7 @@ then_next (byte ∷ rest) ends = elim (cases_Bool (is_metadata_byte byte)) [
     at_dot : is_metadata_byte byte ≡ true → is_dot byte ≡ true
         → then_blanks (next is_dot is_plain is_hyphenated) (byte ∷ rest) ≡ next is_dot is_pieces is_tail (byte ∷ rest)
     at_dot inside dots =
-        abbrev_next inside
+        at_metadata inside
         ∙ ap (λ (b : Bool). (if b then is_plain (take_while is_metadata_byte rest)
         else is_hyphenated (byte ∷ take_while is_metadata_byte rest))
         && list_all is_blank (drop (prefix_len is_metadata_byte rest) rest)) dots
@@ -222,7 +222,7 @@ then_next (byte ∷ rest) ends = elim (cases_Bool (is_metadata_byte byte)) [
     at_hyphen : is_metadata_byte byte ≡ true → is_dot byte ≡ false → (byte == hyphen) ≡ true
         → then_blanks (next is_dot is_plain is_hyphenated) (byte ∷ rest) ≡ next is_dot is_pieces is_tail (byte ∷ rest)
     at_hyphen inside no_dot here =
-        abbrev_next inside
+        at_metadata inside
         ∙ ap (λ (b : Bool). (if b then is_plain (take_while is_metadata_byte rest)
         else is_hyphenated (byte ∷ take_while is_metadata_byte rest))
         && list_all is_blank (drop (prefix_len is_metadata_byte rest) rest)) no_dot

@@ -19,7 +19,7 @@ use Rattle.version_viable.specs.Viable.{IsLeft}
 use Rattle.version_viable.specs.mixed.Parts.{is_parts}
 use Rattle.version_texts.proofs.lemmas.order.Piece.Spelled.{identifier_no_dot}
 use Rattle.version_viable.proofs.lemmas.Within.{split_pieces, split_within}
-use Rattle.version_viable.proofs.lemmas.Left.{alone, grown, run_left, behind, is_nothing, last_piece, nothing_apart, nothing_left, run_is_run, next, next_piece, stays, unless, wrong_piece}
+use Rattle.version_viable.proofs.lemmas.Left.{alone, grown, run_left, behind, is_nothing, last_piece, nothing_apart, nothing_left, run_is_run, next, next_piece, unless, wrong_piece}
 
 -- ---- messy versions
 
@@ -66,13 +66,6 @@ tail_begins : (text : List ℕ) → is_metadata_tail text ≡ true → (test : �
 tail_begins [] passes test apart = refl
 tail_begins (byte ∷ text) passes test apart =
     ap test (eqb-true byte plus (first_so (byte == plus) _ passes)) ∙ apart
-
-pub no_metadata : (text : List ℕ) → begins (λ b. b == plus) text ≡ false → IsLeft is_metadata_tail text text
-no_metadata text none = stays is_metadata_tail text [] refl (by text none)
-  where
-    by : (l : List ℕ) → begins (λ b. b == plus) l ≡ false → (byte : ℕ) (after : List ℕ) → l ≡ byte ∷ after
-        → (more : List ℕ) → is_metadata_tail (byte ∷ more) ≡ false
-    by l e byte after f more = rw (rw f at e) refl
 
 pub some_metadata : (text behind run rest : List ℕ) → text ≡ plus ∷ behind → run ≡ take_while is_metadata_byte behind
     → rest ≡ drop (prefix_len is_metadata_byte behind) behind → IsLeft is_metadata_tail text rest

@@ -13,10 +13,10 @@ use Rattle.version_rules.specs.grammar.Front.{after_mark, begins}
 use Rattle.version_texts.proofs.lemmas.scan.General.Runs.{run_cons, run_none}
 use Rattle.version_texts.proofs.lemmas.scan.General.RunsWithin.{no_run as no_run_of}
 use Rattle.version_schemes.proofs.lemmas.PypiItems.{joined-last, joined-more}
-use Rattle.version_schemes.proofs.lemmas.PypiPieces.{local-None, local-Some, local-other, piece_read, pieces_read, some_run}
+use Rattle.version_schemes.proofs.lemmas.PypiPieces.{local-None, local-other, piece_read, pieces_read, some_run}
 use Rattle.version_schemes.proofs.lemmas.PypiWords.{optional-None, optional-Some}
 use Rattle.version_schemes.specs.pypi.Order.{Local}
-use Rattle.version_schemes.specs.pypi.Texts.{is_blank, is_separator, joined, local_front, local_of, piece_front, pieces_front, pieces_of, without_blanks}
+use Rattle.version_schemes.specs.pypi.Texts.{is_blank, is_separator, joined, local_front, local_of, piece_front, pieces_front, without_blanks}
 use Rattle.version_schemes.specs.pypi.Walk.{next_piece as next_piece_of}
 use Rattle.version_viable.specs.Viable.{IsLeft}
 use Rattle.version_viable.specs.pypi.Stages.{after_dev, after_plus, is_ended}
@@ -126,11 +126,6 @@ no_pieces text e =
     ap (λ (o : Option (List Local) × List ℕ). is_ended o.1)
     (sym (optional-None local_front (plus ∷ text) (local-other (plus ∷ text) text refl e)))
     ∙ eqb-suc-zero (length text)
-
-read_pieces : (text rest : List ℕ) → pieces_front text ≡ Some (pieces_of text, rest) → after_plus text ≡ is_ended rest
-read_pieces text rest e =
-    ap (λ (o : Option (List Local) × List ℕ). is_ended o.1)
-    (sym (optional-Some local_front (plus ∷ text) (pieces_of text, rest) (local-Some (plus ∷ text) text rest refl e)))
 
 read_any : (text rest : List ℕ) (read : List Local) → pieces_front text ≡ Some (read, rest) → after_plus text
     ≡ is_ended rest

@@ -264,9 +264,6 @@ epoch_split text = elim (cases_Bool (begins is_ascii_digit text)) [
       ∙ sym (ap (λ (b : Bool). b && marked (drop (prefix_len is_ascii_digit text) text)) (some_digits text ∙ none))
 ]
   where
-    mark : ℕ → Option (List ℕ) → Option (ℕ × List ℕ)
-    mark number o = option_and_then (λ rest. Some (number, rest)) o
-
     of : Option (ℕ × List ℕ) → Bool
     of o = option_map_or (λ (read : ℕ × List ℕ). is_release read.1)
         (option_and_then
