@@ -1,5 +1,6 @@
 pub mod Bytes
 pub mod deb
+pub mod Flaw
 pub mod gem
 pub mod mixed
 pub mod pypi

@@ -4,6 +4,7 @@
 
 mod bytes;
 mod deb;
+mod flaw;
 mod gem;
 mod laws;
 mod mixed;
@@ -13,4 +14,5 @@ mod semver;
 mod texts;
 mod viable;
 
+pub use flaw::{Flaw, Mark, Reason};
 pub use viable::viable_length;

@@ -1,0 +1,95 @@
+-- Why a text is no version: what stands where it could become one no more.
+use Rattle.std.specs.Prelude.{◌≡◌, ◌==◌, ◌&&◌, ◌||◌, ◌-◌, ℕ, Bool, true, false, List, codes, if◌then◌else◌, nat_le, nat_lt, Option, None}
+use Rattle.std.specs.Char.{is_ascii_digit}
+use Rattle.std.specs.List.{slice_get}
+use Rattle.std.specs.Option.{is_some, option_map_or}
+use Rattle.version_rules.specs.grammar.Bytes.{colon, dot, hyphen, plus, tilde, underscore}
+use Rattle.version_schemes.specs.Scheme.{rules}
+use Rattle.version_schemes.specs.declared.scheme.Scheme.{Scheme}
+use Rattle.version_schemes.specs.declared.scheme.Scheme.TheVariants.{Deb, Gem, Mixed, Pypi, Rpm, SemVer}
+use Rattle.version_viable.specs.Viable.{IsLongestViable}
+use Rattle.version_viable.specs.declared.flaw.Mark.TheVariants.{Colon, Dot, Exclamation, Hyphen, Plus, Tilde, Underscore}
+use Rattle.version_viable.specs.declared.flaw.Reason.{Reason}
+use Rattle.version_viable.specs.declared.flaw.Reason.TheVariants.{Blank, Control, Empty, EmptyPart, LeadingZero, NotAscii, NothingAfter, Other, Unfinished}
+
+-- whether a text is a version
+abbrev pub is_version : Scheme → List ℕ → Bool
+is_version scheme text = is_some ((rules scheme).read_as text)
+
+-- ---- what stands there
+
+-- a mark of a scheme: it stands between parts, and begins none
+abbrev pub is_mark : Scheme → ℕ → Bool
+is_mark Mixed b = b == hyphen || (b == plus || (b == dot || (b == colon || (b == underscore || b == tilde))))
+is_mark Deb b = b == hyphen || b == colon
+is_mark Rpm b = b == hyphen || b == colon
+is_mark Pypi b = b == hyphen || (b == plus || (b == dot || (b == underscore || b == 33)))
+is_mark SemVer b = b == hyphen || (b == plus || b == dot)
+is_mark Gem b = b == hyphen || b == dot
+
+-- a space or a tab
+abbrev pub is_blank : ℕ → Bool
+is_blank b = b == 32 || b == 9
+
+abbrev pub is_control : ℕ → Bool
+is_control b = nat_lt b 32 || b == 127
+
+-- the digit 0
+abbrev pub is_zero : ℕ → Bool
+is_zero b = b == 48
+
+-- by the byte that a text can't go on with, and the one before it, if there is one
+abbrev pub reason_of_byte : Scheme → Option ℕ → ℕ → Reason
+reason_of_byte scheme last byte =
+    if is_blank byte then Blank else
+    (if is_control byte then Control else
+    (if nat_le 128 byte then NotAscii else
+    (if is_mark scheme byte && option_map_or (is_mark scheme) last true then EmptyPart else
+    (if is_ascii_digit byte && option_map_or is_zero last false then LeadingZero else
+    Other))))
+
+-- by the last byte of a text that has to go on
+abbrev pub reason_after : ℕ → Reason
+reason_after last =
+    if last == hyphen then NothingAfter Hyphen else
+    (if last == plus then NothingAfter Plus else
+    (if last == dot then NothingAfter Dot else
+    (if last == colon then NothingAfter Colon else
+    (if last == underscore then NothingAfter Underscore else
+    (if last == tilde then NothingAfter Tilde else
+    (if last == 33 then NothingAfter Exclamation else
+    Unfinished))))))
+
+-- the byte before a place
+abbrev pub byte_before : List ℕ → ℕ → Option ℕ
+byte_before text place = if place == 0 then None else slice_get text (place - 1)
+
+-- why a text that could become a version up to a place is none
+abbrev pub reason_at : Scheme → List ℕ → ℕ → Reason
+reason_at scheme text place =
+    option_map_or (reason_of_byte scheme (byte_before text place)) (slice_get text place)
+    (option_map_or reason_after (byte_before text place) Empty)
+
+-- what keeps a text from being a version: how far it could become one, and why no further
+abbrev pub IsFlaw : Scheme → List ℕ → ℕ → Reason → Type 0
+IsFlaw scheme text place reason =
+    (is_version scheme text ≡ false) × (IsLongestViable (is_version scheme) text place) × (reason ≡ reason_at scheme text place)
+
+-- ---- what is said of it
+
+abbrev pub reason_text : Reason → List ℕ
+reason_text Empty = codes "nothing"
+reason_text (NothingAfter Hyphen) = codes "nothing after the hyphen"
+reason_text (NothingAfter Plus) = codes "nothing after the plus"
+reason_text (NothingAfter Dot) = codes "nothing after the dot"
+reason_text (NothingAfter Colon) = codes "nothing after the colon"
+reason_text (NothingAfter Underscore) = codes "nothing after the underscore"
+reason_text (NothingAfter Tilde) = codes "nothing after the tilde"
+reason_text (NothingAfter Exclamation) = codes "nothing after the exclamation mark"
+reason_text Unfinished = codes "an end too early"
+reason_text Blank = codes "a blank"
+reason_text Control = codes "a control character"
+reason_text NotAscii = codes "a character past ASCII"
+reason_text EmptyPart = codes "an empty part"
+reason_text LeadingZero = codes "a number with a leading zero"
+reason_text Other = codes "a character that can't stand there"

@@ -1,0 +1,222 @@
+//! Why a text is no version: what stands where it could become one no more.
+
+ghost use Rattle.std.specs.Prelude.{◌≡◌, false, true, IfNone, IfSome};
+ghost use Rattle.std.specs.Option.{option_map_or};
+ghost use Rattle.version_viable.specs.declared.flaw.Reason.TheVariants.{Empty, NothingAfter};
+ghost use Rattle.version_viable.specs.Flaw.{IsFlaw, byte_before, is_blank, is_control, is_mark, is_version, is_zero, reason_after, reason_at, reason_of_byte, reason_text};
+
+use crate::viable::viable_length;
+use version_schemes::{AnyVersion, Scheme};
+
+/// A mark, which stands between the parts of a version.
+#[derive(Clone, Copy, Debug, PartialEq, Eq)]
+pub enum Mark {
+    Hyphen,
+    Plus,
+    Dot,
+    Colon,
+    Underscore,
+    Tilde,
+    Exclamation,
+}
+
+/// Why a text is no version of a scheme.
+#[derive(Clone, Copy, Debug, PartialEq, Eq)]
+pub enum Reason {
+    /// It is empty.
+    Empty,
+    /// It ends after this mark, which something has to follow.
+    NothingAfter(Mark),
+    /// It ends where something has to follow.
+    Unfinished,
+    /// A space or a tab.
+    Blank,
+    /// Another control character.
+    Control,
+    /// A byte past ASCII.
+    NotAscii,
+    /// A mark of the scheme at the beginning, or after another.
+    EmptyPart,
+    /// A digit after a zero that a number can't begin with.
+    LeadingZero,
+    /// Another byte.
+    Other,
+}
+
+/// What keeps a text from being a version.
+#[derive(Clone, Copy, Debug, PartialEq, Eq)]
+pub struct Flaw {
+    /// How many of its bytes could begin a version.
+    pub place: usize,
+    /// What stands there, or that the text ends there.
+    pub reason: Reason,
+}
+
+impl Flaw {
+    /// Returns what keeps a text from being a version of a scheme, for those who mend it; None for a version. Of
+    /// `1.2.3-` that is at 6 (nothing after the hyphen), of `1..2` at 2 (an empty part), of `1.2.3 ` at 5 (a blank), all
+    /// of `mixed`. Takes time linear in the text. Does not allocate.
+    pub fn of(scheme: Scheme, text: &[u8]) -> Option<Flaw>
+        ensures none { IfNone result (is_version scheme text.now ≡ true) }
+        ensures some { IfSome result (λ flaw. IsFlaw scheme text.now flaw.place flaw.reason) }
+    {
+        if AnyVersion::read(scheme, text).is_some() {
+            return None;
+        }
+        let place = viable_length(scheme, text);
+        Some(Flaw {
+            place,
+            reason: reason_at(scheme, text, place),
+        })
+    }
+}
+
+// Returns why a text that could become a version up to a place is none.
+fn reason_at(scheme: Scheme, text: &[u8], place: usize) -> Reason
+    ensures { result ≡ reason_at scheme text.now place }
+{
+    let last = byte_before(text, place);
+    match text.get(place) {
+        Some(byte) => reason_of_byte(scheme, last, *byte),
+        None => reason_of_end(last),
+    }
+}
+
+// Returns the byte before a place.
+fn byte_before(text: &[u8], place: usize) -> Option<u8>
+    ensures { result ≡ byte_before text.now place }
+{
+    if place == 0 {
+        return None;
+    }
+    text.get(place - 1).copied()
+}
+
+// Returns the reason by the byte that a text can't go on with, and the one before it.
+fn reason_of_byte(scheme: Scheme, last: Option<u8>, byte: u8) -> Reason
+    ensures { result ≡ reason_of_byte scheme last byte }
+{
+    if is_blank(byte) {
+        return Reason::Blank;
+    }
+    if is_control(byte) {
+        return Reason::Control;
+    }
+    if byte >= 128 {
+        return Reason::NotAscii;
+    }
+    if is_mark(scheme, byte) && ends_part(scheme, last) {
+        return Reason::EmptyPart;
+    }
+    if byte.is_ascii_digit() && ends_in_zero(last) {
+        return Reason::LeadingZero;
+    }
+    Reason::Other
+}
+
+// Whether there is no byte, or it is a mark.
+fn ends_part(scheme: Scheme, last: Option<u8>) -> bool
+    ensures { result ≡ option_map_or (is_mark scheme) last true }
+{
+    match last {
+        Some(last) => is_mark(scheme, last),
+        None => true,
+    }
+}
+
+// Whether there is a byte, and it is the digit 0.
+fn ends_in_zero(last: Option<u8>) -> bool
+    ensures { result ≡ option_map_or is_zero last false }
+{
+    match last {
+        Some(last) => last == b'0',
+        None => false,
+    }
+}
+
+// Whether a byte is a mark of a scheme.
+fn is_mark(scheme: Scheme, byte: u8) -> bool
+    ensures { result ≡ is_mark scheme byte }
+{
+    match scheme {
+        Scheme::Mixed => matches!(byte, b'-' | b'+' | b'.' | b':' | b'_' | b'~'),
+        Scheme::Deb | Scheme::Rpm => matches!(byte, b'-' | b':'),
+        Scheme::Pypi => matches!(byte, b'-' | b'+' | b'.' | b'_' | b'!'),
+        Scheme::SemVer => matches!(byte, b'-' | b'+' | b'.'),
+        Scheme::Gem => matches!(byte, b'-' | b'.'),
+    }
+}
+
+// Whether a byte is a space or a tab.
+fn is_blank(byte: u8) -> bool
+    ensures { result ≡ is_blank byte }
+{
+    matches!(byte, b' ' | b'\t')
+}
+
+// Whether a byte is a control character.
+fn is_control(byte: u8) -> bool
+    ensures { result ≡ is_control byte }
+{
+    byte < 32 || byte == 127
+}
+
+// Returns the reason by the last byte of a text that has to go on.
+fn reason_of_end(last: Option<u8>) -> Reason
+    ensures { result ≡ option_map_or reason_after last Empty }
+{
+    match last {
+        None => Reason::Empty,
+        Some(last) => reason_after(last),
+    }
+}
+
+// Returns the reason by the last byte of a text that has to go on.
+fn reason_after(last: u8) -> Reason
+    ensures { result ≡ reason_after last }
+{
+    match last {
+        b'-' => Reason::NothingAfter(Mark::Hyphen),
+        b'+' => Reason::NothingAfter(Mark::Plus),
+        b'.' => Reason::NothingAfter(Mark::Dot),
+        b':' => Reason::NothingAfter(Mark::Colon),
+        b'_' => Reason::NothingAfter(Mark::Underscore),
+        b'~' => Reason::NothingAfter(Mark::Tilde),
+        b'!' => Reason::NothingAfter(Mark::Exclamation),
+        _ => Reason::Unfinished,
+    }
+}
+
+impl Reason {
+    /// Returns what is said of the text at that place, in English and without a full stop. Does not allocate.
+    pub fn text(self) -> &'static str
+        ensures { result.now ≡ reason_text self }
+    {
+        match self {
+            Reason::Empty => "nothing",
+            Reason::NothingAfter(mark) => nothing_after(mark),
+            Reason::Unfinished => "an end too early",
+            Reason::Blank => "a blank",
+            Reason::Control => "a control character",
+            Reason::NotAscii => "a character past ASCII",
+            Reason::EmptyPart => "an empty part",
+            Reason::LeadingZero => "a number with a leading zero",
+            Reason::Other => "a character that can't stand there",
+        }
+    }
+}
+
+// Returns what is said of a text that ends after a mark.
+fn nothing_after(mark: Mark) -> &'static str
+    ensures { result.now ≡ reason_text (NothingAfter mark) }
+{
+    match mark {
+        Mark::Hyphen => "nothing after the hyphen",
+        Mark::Plus => "nothing after the plus",
+        Mark::Dot => "nothing after the dot",
+        Mark::Colon => "nothing after the colon",
+        Mark::Underscore => "nothing after the underscore",
+        Mark::Tilde => "nothing after the tilde",
+        Mark::Exclamation => "nothing after the exclamation mark",
+    }
+}
