@@ -41,7 +41,7 @@ C_LIBRARY := c/out$(of_target)
 header := c/versions.h
 built := $(C_LIBRARY)/versions.pc
 $(built): crates.txt c/build c/target c/pkg-config-file c/declarations.py c/versions.3.in c/versions.c c/versions.h \
-  $(call sources,version_rules version_texts version_sets version_schemes version_tasks versions_c)
+  $(call sources,version_rules version_texts version_sets version_schemes version_viable version_tasks versions_c)
 	c/build --target $(TARGET) $(C_LIBRARY)
 else
 header := $$C_LIBRARY/versions.h

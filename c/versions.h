@@ -67,7 +67,7 @@ extern "C" {
 #define VERSIONS_NO_MEMORY 9        /* memory allocation failed; reserved: no call allocates, and none returns this */
 #define VERSIONS_NULL 10            /* a pointer is null, and what it should point to is not empty */
 #define VERSIONS_NO_FIELD 11        /* the version has no such field */
-#define VERSIONS_NO_WRONG_MEMBER 12 /* each member of the list is a requirement, or the text is a set */
+#define VERSIONS_NO_WRONG_MEMBER 12 /* each member of the list is a requirement, or the text is a set or a version */
 #define VERSIONS_LARGE_EPOCH 13     /* the epoch is above 9223372036854775807 */
 #define VERSIONS_UNKNOWN_FIELD 14   /* no field has that number */
 #define VERSIONS_ALL_MATCH 15       /* each member of the list matches the version */
@@ -128,6 +128,23 @@ extern "C" {
 #define VERSIONS_PYPI 4 /* pypi: Python's versions (PEP 440) */
 #define VERSIONS_SEMVER 5 /* semver: SemVer 2.0.0 in full */
 #define VERSIONS_GEM 6 /* gem: RubyGems' versions (Gem::Version) */
+
+/* Why a text is not a version: what ends, or stands, at the place up to which it could become one. */
+#define VERSIONS_WRONG_EMPTY 1             /* the text is empty */
+#define VERSIONS_WRONG_AFTER_HYPHEN 2      /* it ends after a hyphen, which something has to follow */
+#define VERSIONS_WRONG_AFTER_PLUS 3        /* it ends after a plus */
+#define VERSIONS_WRONG_AFTER_DOT 4         /* it ends after a dot */
+#define VERSIONS_WRONG_AFTER_COLON 5       /* it ends after a colon */
+#define VERSIONS_WRONG_AFTER_UNDERSCORE 6  /* it ends after an underscore */
+#define VERSIONS_WRONG_AFTER_TILDE 7       /* it ends after a tilde */
+#define VERSIONS_WRONG_AFTER_EXCLAMATION 8 /* it ends after an exclamation mark */
+#define VERSIONS_WRONG_UNFINISHED 9        /* it ends elsewhere, where something has to follow */
+#define VERSIONS_WRONG_BLANK 10            /* a space or a tab */
+#define VERSIONS_WRONG_CONTROL 11          /* another control character */
+#define VERSIONS_WRONG_NOT_ASCII 12        /* a character past ASCII */
+#define VERSIONS_WRONG_EMPTY_PART 13       /* a mark of the scheme, first or after another: a part is empty */
+#define VERSIONS_WRONG_LEADING_ZERO 14     /* a digit after a zero, which its number begins with */
+#define VERSIONS_WRONG_OTHER 15            /* another character */
 
 /* Why a text is not a set. */
 #define VERSIONS_SET_NO_MEMBER 1    /* a member has to come: first, or after a comma or || */
@@ -534,6 +551,30 @@ int versions_scheme_name(uint32_t scheme, char *name, size_t room, size_t *name_
  * Returns VERSIONS_OK or VERSIONS_NO_SCHEME.
  */
 int versions_scheme_has(uint32_t scheme, const char *text, size_t text_len, bool *has);
+
+/*
+ * Finds how far a text could become a version of a scheme, and why no further, for those who mend it.
+ *
+ * Sets *place to the length in bytes of its longest beginning that something put after it makes a version, and *reason
+ * to what stands there, or to how the text ends there: VERSIONS_WRONG_EMPTY to VERSIONS_WRONG_OTHER. In mixed 1.2.3-
+ * ends at 6, after a hyphen; 1..2 has an empty part at 2, and 1.2.3 with a space after it a blank at 5. What stands
+ * before the place is ASCII.
+ *
+ * Returns VERSIONS_OK, VERSIONS_NO_SCHEME, or VERSIONS_NO_WRONG_MEMBER if the text is a version.
+ */
+int versions_wrong(uint32_t scheme, const char *text, size_t text_len, size_t *place, uint32_t *reason);
+
+/*
+ * Writes why a text is not a version of a scheme, in English without a full stop: for 1.2.3- in mixed, nothing after
+ * the hyphen.
+ *
+ * Writes the text into the first bytes of `why`, which has `room` bytes, without a byte 0 after it, and its length to
+ * *why_len, also with VERSIONS_NO_ROOM. 100 bytes are always enough. To get the length alone, pass room 0 and a null
+ * pointer.
+ *
+ * Returns VERSIONS_OK, VERSIONS_NO_SCHEME, VERSIONS_NO_WRONG_MEMBER if the text is a version, or VERSIONS_NO_ROOM.
+ */
+int versions_wrong_text(uint32_t scheme, const char *text, size_t text_len, char *why, size_t room, size_t *why_len);
 
 /*
  * Compares two versions of a scheme by its order, without their keys.

@@ -1767,6 +1767,110 @@ static void worked_schemes(void) {
   CHECK(place == 2 && reason == VERSIONS_SET_NOT_DOUBLED);
 }
 
+// Why texts are no versions, on rows worked out by hand: each reason, in each scheme, and on long texts.
+static void worked_flaws(void) {
+  enum {
+    EMPTY = 1, HYPHEN, PLUS, DOT, COLON, UNDERSCORE, TILDE, EXCLAMATION, UNFINISHED, BLANK, CONTROL, NOT_ASCII, PART, ZERO,
+    OTHER
+  };
+  static const char *const words[] = {
+      "", "nothing", "nothing after the hyphen", "nothing after the plus", "nothing after the dot",
+      "nothing after the colon", "nothing after the underscore", "nothing after the tilde",
+      "nothing after the exclamation mark", "an end too early", "a blank", "a control character",
+      "a character past ASCII", "an empty part", "a number with a leading zero", "a character that can't stand there",
+  };
+  static const struct {
+    uint32_t scheme;
+    const char *text;
+    size_t place;
+    uint32_t reason;
+  } rows[] = {
+      {VERSIONS_MIXED, "", 0, EMPTY},           {VERSIONS_MIXED, "1.2.3-", 6, HYPHEN},
+      {VERSIONS_MIXED, "1.2.3+", 6, PLUS},      {VERSIONS_MIXED, "1.", 2, DOT},
+      {VERSIONS_MIXED, "1:", 2, COLON},         {VERSIONS_MIXED, "1_", 2, UNDERSCORE},
+      {VERSIONS_MIXED, "1~", 2, TILDE},         {VERSIONS_MIXED, "1..2", 2, PART},
+      {VERSIONS_MIXED, "-1", 0, PART},          {VERSIONS_MIXED, "1.0+~b", 4, PART},
+      {VERSIONS_MIXED, "1.2.3 ", 5, BLANK},     {VERSIONS_MIXED, " 1", 0, BLANK},
+      {VERSIONS_MIXED, "1\t2", 1, BLANK},       {VERSIONS_MIXED, "1\n", 1, CONTROL},
+      {VERSIONS_MIXED, "1\x7f", 1, CONTROL},    {VERSIONS_MIXED, "1\x1f", 1, CONTROL},
+      {VERSIONS_MIXED, "1.2\xc3\xa9", 3, NOT_ASCII}, {VERSIONS_MIXED, "\xff", 0, NOT_ASCII},
+      {VERSIONS_MIXED, "1\x80", 1, NOT_ASCII},  {VERSIONS_MIXED, "1.2.3-a_!", 8, OTHER},
+      {VERSIONS_MIXED, "1!2", 1, OTHER},        {VERSIONS_MIXED, "^1", 0, OTHER},
+      {VERSIONS_DEB, "", 0, EMPTY},             {VERSIONS_DEB, "1:", 2, COLON},
+      {VERSIONS_DEB, "1.0-", 4, HYPHEN},        {VERSIONS_DEB, "a1", 0, OTHER},
+      {VERSIONS_DEB, "1_0", 1, OTHER},          {VERSIONS_DEB, "1.0:1", 3, OTHER},
+      {VERSIONS_DEB, "2147483648:1", 10, OTHER}, {VERSIONS_DEB, ".1", 0, OTHER},
+      {VERSIONS_DEB, "-1", 0, PART},            {VERSIONS_DEB, "1.0 ", 3, BLANK},
+      {VERSIONS_RPM, "", 0, EMPTY},             {VERSIONS_RPM, "1-", 2, HYPHEN},
+      {VERSIONS_RPM, "1:", 2, COLON},           {VERSIONS_RPM, "1-2-3", 3, OTHER},
+      {VERSIONS_RPM, "a:1", 1, OTHER},          {VERSIONS_RPM, "1--2", 2, PART},
+      {VERSIONS_RPM, "4294967296:1", 10, OTHER}, {VERSIONS_RPM, "1/0", 1, OTHER},
+      {VERSIONS_PYPI, "", 0, EMPTY},            {VERSIONS_PYPI, "1!", 2, EXCLAMATION},
+      {VERSIONS_PYPI, "1.0+", 4, PLUS},         {VERSIONS_PYPI, "1.0_", 4, UNDERSCORE},
+      {VERSIONS_PYPI, "v", 1, UNFINISHED},      {VERSIONS_PYPI, " ", 1, UNFINISHED},
+      {VERSIONS_PYPI, "1.0x", 3, OTHER},        {VERSIONS_PYPI, "1..0", 2, PART},
+      {VERSIONS_PYPI, "1!!0", 2, PART},         {VERSIONS_PYPI, "1 2", 2, OTHER},
+      {VERSIONS_PYPI, "1.0.po\xc5\xbft1", 6, NOT_ASCII},
+      {VERSIONS_SEMVER, "", 0, EMPTY},          {VERSIONS_SEMVER, "1.2", 3, UNFINISHED},
+      {VERSIONS_SEMVER, "1.2.", 4, DOT},        {VERSIONS_SEMVER, "1.2.3-", 6, HYPHEN},
+      {VERSIONS_SEMVER, "1.2.3+", 6, PLUS},     {VERSIONS_SEMVER, "01.0.0", 1, ZERO},
+      {VERSIONS_SEMVER, "1.00.0", 3, ZERO},     {VERSIONS_SEMVER, "1.0.0-01", 8, UNFINISHED},
+      {VERSIONS_SEMVER, "1.0.0-01.a", 8, OTHER}, {VERSIONS_SEMVER, "1.0.0-a..b", 8, PART},
+      {VERSIONS_SEMVER, "v1.0.0", 0, OTHER},    {VERSIONS_SEMVER, "1.0.0+a+b", 7, OTHER},
+      {VERSIONS_GEM, "", 0, EMPTY},             {VERSIONS_GEM, "1.", 2, DOT},
+      {VERSIONS_GEM, "1-", 2, HYPHEN},          {VERSIONS_GEM, "1..0", 2, PART},
+      {VERSIONS_GEM, "a", 0, OTHER},            {VERSIONS_GEM, "1a.0", 1, OTHER},
+      {VERSIONS_GEM, " ", 1, UNFINISHED},       {VERSIONS_GEM, "1. 0", 2, BLANK},
+  };
+  for (size_t i = 0; i < sizeof rows / sizeof *rows; i++) {
+    uint32_t scheme = rows[i].scheme, reason = 77;
+    size_t length = strlen(rows[i].text), place = 77, written = 77, wanted = strlen(words[rows[i].reason]);
+    char *text = (char *)block(length);
+    memcpy(text, rows[i].text, length);
+    CHECK(versions_wrong(scheme, text, length, &place, &reason) == VERSIONS_OK);
+    CHECK(place == rows[i].place && reason == rows[i].reason);
+    char *why = (char *)block(wanted);
+    memset(why, '?', wanted);
+    CHECK(versions_wrong_text(scheme, text, length, why, wanted - 1, &written) == VERSIONS_NO_ROOM);
+    CHECK(written == wanted && why[0] == '?');
+    written = 77;
+    CHECK(versions_wrong_text(scheme, text, length, why, wanted, &written) == VERSIONS_OK);
+    CHECK(written == wanted && memcmp(why, words[rows[i].reason], wanted) == 0);
+    CHECK(versions_wrong_text(scheme, text, length, NULL, 0, &written) == VERSIONS_NO_ROOM && written == wanted);
+    release(why), release(text);
+  }
+
+  // A byte 0 is a control character, as the others.
+  size_t place = 77, written = 77;
+  uint32_t reason = 77;
+  char why[1] = {'?'};
+  CHECK(versions_wrong(VERSIONS_MIXED, "1.0\0", 4, &place, &reason) == VERSIONS_OK && place == 3 && reason == CONTROL);
+  // Of a version, and in no scheme, nothing is written.
+  place = 77, reason = 77;
+  static const char *const right[] = {"1.0.0", "1.0-1", "1.0-1", "1.0-1", "1.0.0", "1.0-1"};
+  for (uint32_t scheme = 0; scheme <= 7; scheme++) {
+    const char *text = scheme % 7 == 0 ? "" : right[scheme - 1];
+    int status = scheme % 7 == 0 ? VERSIONS_NO_SCHEME : VERSIONS_NO_WRONG_MEMBER;
+    CHECK(versions_wrong(scheme, text, strlen(text), &place, &reason) == status);
+    CHECK(versions_wrong_text(scheme, text, strlen(text), why, 1, &written) == status);
+    CHECK(place == 77 && reason == 77 && written == 77 && why[0] == '?');
+  }
+
+  // A million parts, and a blank or nothing after the last dot.
+  size_t length = 2000001;
+  char *text = (char *)block(length);
+  for (size_t i = 0; i < length; i++) text[i] = i % 2 ? '.' : '1';
+  text[length - 1] = ' ';
+  for (uint32_t scheme = VERSIONS_MIXED; scheme <= VERSIONS_GEM; scheme++) {
+    CHECK(versions_wrong(scheme, text, length, &place, &reason) == VERSIONS_OK);
+    if (scheme != VERSIONS_SEMVER) CHECK(place == length - 1 && reason == BLANK);
+    else CHECK(place == 5 && reason == OTHER);
+  }
+  CHECK(versions_wrong(VERSIONS_GEM, text, length - 1, &place, &reason) == VERSIONS_OK);
+  CHECK(place == length - 1 && reason == DOT);
+  release(text);
+}
+
 // Makes every call on a long text: a piece many times, and one more byte.
 static void long_text(const char *piece, size_t times, int kind, size_t key_length) {
   size_t piece_length = strlen(piece), length = piece_length * times + 1, needed = 0;
@@ -2202,6 +2306,7 @@ static void without_memory(const struct lines *lines) {
   CHECK(versions_matches("^1.2.3-a,<9,>0.1a", 17, "1.2.3-rc.10+x", 13, &matches) == VERSIONS_OK && matches);
   worked_sets();
   worked_schemes();
+  worked_flaws();
 }
 
 int main(int count, char **words) {
@@ -2230,6 +2335,7 @@ int main(int count, char **words) {
     bad_offsets();
     worked_sets();
     worked_schemes();
+    worked_flaws();
     statuses();
     library();
   } else if (strcmp(word, "long") == 0) {

@@ -86,6 +86,10 @@ static void of_one(const char *text, size_t length) {
   // And numbers that no scheme has, on both sides.
   for (uint32_t scheme = 0; scheme <= VERSIONS_GEM + 1; scheme++) {
     answer(versions_scheme_has(scheme, text, length, NUMBER(bool, 0)));
+    answer(versions_wrong(scheme, text, length, NUMBER(size_t, 0), NUMBER(uint32_t, 1)));
+    status = versions_wrong_text(scheme, text, length, (char *)buffer, ROOM, &written);
+    numbers[0] = written;
+    answer_with(status, written);
     answer(versions_scheme_key_bound(scheme, length, NUMBER(size_t, 0)));
     status = versions_scheme_key(scheme, text, length, buffer, ROOM, &written);
     numbers[0] = written;

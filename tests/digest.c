@@ -161,6 +161,10 @@ static void digest_one(size_t place, struct text a, struct text b, struct text l
   for (uint32_t scheme = 0; scheme <= VERSIONS_GEM; scheme++) {
     CLEAR, digest_slots("scheme_has", versions_scheme_has(scheme, a.at, a.length, (bool *)&slots[0]), 1, 1);
     CLEAR, digest_slots("scheme_key_bound", versions_scheme_key_bound(scheme, a.length, SIZE(0)), 1, 8);
+    CLEAR, digest_slots("wrong", versions_wrong(scheme, a.at, a.length, SIZE(0), U32(1)), 2, 8);
+    CLEAR;
+    if (digest_slots("wrong_text", versions_wrong_text(scheme, a.at, a.length, (char *)out, room, SIZE(0)), 1, 8))
+      digest("wrong_text", out, slots[0]);
     CLEAR;
     int status = versions_scheme_compare(scheme, a.at, a.length, b.at, b.length, I32);
     digest_slots("scheme_compare", status, 1, 8);

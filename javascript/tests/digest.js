@@ -123,6 +123,8 @@ export function digest(library, lines, lists) {
     for (let scheme = 0; scheme <= GEM; scheme++) {
       ask("scheme_has", [scheme, ...a, SLOTS[0]], 1, 1);
       ask("scheme_key_bound", [scheme, BigInt(line.length), SLOTS[0]], 1);
+      ask("wrong", [scheme, ...a, SLOTS[0], SLOTS[1]], 2);
+      written("wrong_text", ask("wrong_text", [scheme, ...a, ...key, SLOTS[0]], 1), slot(0));
       ask("scheme_compare", [scheme, ...a, ...b, SLOTS[0]], 1);
       written("scheme_key", ask("scheme_key", [scheme, ...a, ...key, SLOTS[0]], 1), slot(0));
       written("scheme_name", ask("scheme_name", [scheme, ...key, SLOTS[0]], 1), slot(0));

@@ -70,6 +70,22 @@ pub const PYPI: u32 = 4;
 pub const SEMVER: u32 = 5;
 pub const GEM: u32 = 6;
 
+pub const WRONG_EMPTY: u32 = 1;
+pub const WRONG_AFTER_HYPHEN: u32 = 2;
+pub const WRONG_AFTER_PLUS: u32 = 3;
+pub const WRONG_AFTER_DOT: u32 = 4;
+pub const WRONG_AFTER_COLON: u32 = 5;
+pub const WRONG_AFTER_UNDERSCORE: u32 = 6;
+pub const WRONG_AFTER_TILDE: u32 = 7;
+pub const WRONG_AFTER_EXCLAMATION: u32 = 8;
+pub const WRONG_UNFINISHED: u32 = 9;
+pub const WRONG_BLANK: u32 = 10;
+pub const WRONG_CONTROL: u32 = 11;
+pub const WRONG_NOT_ASCII: u32 = 12;
+pub const WRONG_EMPTY_PART: u32 = 13;
+pub const WRONG_LEADING_ZERO: u32 = 14;
+pub const WRONG_OTHER: u32 = 15;
+
 pub const SET_NO_MEMBER: u32 = 1;
 pub const SET_NO_VERSION: u32 = 2;
 pub const SET_NO_OPERATOR: u32 = 3;
@@ -261,6 +277,21 @@ extern "C" {
         text: *const c_char,
         text_len: usize,
         has: *mut u8,
+    ) -> c_int;
+    pub fn versions_wrong(
+        scheme: u32,
+        text: *const c_char,
+        text_len: usize,
+        place: *mut usize,
+        reason: *mut u32,
+    ) -> c_int;
+    pub fn versions_wrong_text(
+        scheme: u32,
+        text: *const c_char,
+        text_len: usize,
+        why: *mut c_char,
+        room: usize,
+        why_len: *mut usize,
     ) -> c_int;
     pub fn versions_scheme_compare(
         scheme: u32,

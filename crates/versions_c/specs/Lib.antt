@@ -1,5 +1,6 @@
 pub mod Difference
 pub mod Fields
+pub mod Flaw
 pub mod Inexact
 pub mod Keys
 pub mod Kinds

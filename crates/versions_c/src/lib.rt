@@ -4,6 +4,7 @@
 
 mod difference;
 mod fields;
+mod flaw;
 mod inexact;
 mod keys;
 mod kinds;
