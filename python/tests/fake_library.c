@@ -142,3 +142,11 @@ int versions_set_wrong_text(uint32_t scheme, const char *text, size_t text_len, 
   *why_len = room;
   return fake_status;
 }
+
+int versions_wrong(uint32_t scheme, const char *text, size_t text_len, size_t *place, uint32_t *reason) {
+  return versions_set_wrong(scheme, text, text_len, place, reason);
+}
+
+int versions_wrong_text(uint32_t scheme, const char *text, size_t text_len, char *why, size_t room, size_t *why_len) {
+  return versions_set_wrong_text(scheme, text, text_len, why, room, why_len);
+}

@@ -568,7 +568,7 @@ class Resolver(unittest.TestCase):
     def test_what_is_wrong(self):
         for words, text, said in (
             ("dpkg FILE a *", "{}", "a scheme is one of mixed, "),
-            ("semver FILE a *", '{"a": {"1.0": {}}}', "not a version of semver: '1.0'"),
+            ("semver FILE a *", '{"a": {"1.0": {}}}', "not a version of semver: '1.0'; at 3: an end too early"),
             ("semver FILE a *", '{"a": {"1.0.0": {"b": "^1"}}}', "not a set of versions of semver: '^1'"),
             ("deb FILE a 1", "{}", "not a set of versions of deb: '1'"),
             ("deb FILE a", "{}", "resolver.py SCHEME INDEX NAME SET"),

@@ -112,11 +112,13 @@ class FakeLibrary(WithFolder):
             "Formed.of in deb": lambda: module.Formed.of("1", scheme="deb"),
             "in a set in deb": lambda: "1" in made_of_deb,
             "wrong_set in deb": lambda: module.wrong_set("1", "deb"),
+            "wrong_version in deb": lambda: module.wrong_version("1", "deb"),
             "the names of schemes": self.load,
             "Formed": lambda: module.Formed("*"),
             "Formed.of": lambda: module.Formed.of("1"),
             "Formed of a form": lambda: module.Formed._of_form(b"form", None, None),
             "wrong_set": lambda: module.wrong_set("1", "mixed"),
+            "wrong_version": lambda: module.wrong_version("1", "mixed"),
             "in a set": lambda: "1" in made,
             "bool of a set": lambda: bool(made),
             "intervals": lambda: made.intervals,
@@ -157,14 +159,16 @@ class FakeLibrary(WithFolder):
             self.set(type=ctypes.c_size_t, room=room)
             self.assertRaises(MemoryError, module.Formed, "*")
 
-    def test_the_place_of_what_is_wrong_with_a_set_is_counted_in_characters(self):
+    def test_the_place_of_what_is_wrong_is_counted_in_characters(self):
         module = self.load()
         text = "a\tö\ud800\U0001f600z"
         for place in range(len(text) + 1):
             self.set(type=ctypes.c_size_t, place=len(text[:place].encode("utf-8", "surrogatepass")))
-            self.assertEqual(module.wrong_set(text, "mixed"), (place, "!" * 100))
+            for call in (module.wrong_set, module.wrong_version):
+                self.assertEqual(call(text, "mixed"), (place, "!" * 100))
         self.set(status=12)
-        self.assertIsNone(module.wrong_set(text, "deb"))
+        for call in (module.wrong_set, module.wrong_version):
+            self.assertIsNone(call(text, "deb"))
 
     def test_statuses_of_sets(self):
         module = self.load()
@@ -397,6 +401,11 @@ CALLS = {
     "wrong_set of a set": partial(library.wrong_set, ">=1.2", "mixed"),
     "wrong_set of no text": partial(library.wrong_set, 3, "mixed"),
     "wrong_set in no scheme": partial(library.wrong_set, ">=1.2", "dpkg"),
+    "wrong_version": partial(library.wrong_version, "1.2-", "mixed"),
+    "wrong_version of a surrogate": partial(library.wrong_version, "1.2\ud800é", "deb"),
+    "wrong_version of a version": partial(library.wrong_version, "1.2", "mixed"),
+    "wrong_version of no text": partial(library.wrong_version, 3, "mixed"),
+    "wrong_version in no scheme": partial(library.wrong_version, "1-", "dpkg"),
     "and": partial(operator.and_, SET, OTHER_SET),
     "and of a subclass": partial(operator.and_, MINE_SET("*"), LONG_SET),
     "or": partial(operator.or_, SET, LONG_SET),
@@ -510,6 +519,9 @@ PYTHON_CALLS = {
     "sort_keys of a Series": lambda: versions.sort_keys(Series(["1.2", None], "ab")).texts,
     "kinds of a Series that fails": lambda: versions.kinds(BadSeries(["1.2"], "a")),
     "no set": lambda: str(versions.InvalidVersionSet(">=1.2 | 3")),
+    "no version": lambda: str(versions.InvalidVersion("1..2")),
+    "no version in deb": lambda: (versions.InvalidVersion("1-", "deb").place, versions.InvalidVersion("1-", "deb").reason),
+    "no version in a tag": lambda: versions.Version.from_tag("go1.2"),
     "in deb": lambda: (repr(DEB), repr(DEB_SET), repr(~DEB_SET), str(versions.InvalidVersionSet(">=1-", "deb"))),
     "pickles in deb": lambda: [pickle.loads(pickle.dumps(each)) for each in (DEB, MINE(DEB, scheme="deb"), ~DEB_SET)],
     "no parts in deb": lambda: DEB.epoch,

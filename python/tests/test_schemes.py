@@ -34,6 +34,37 @@ RANKS = {text: rank for rank, tied in enumerate(DEB) for text in tied}
 # No versions by the same, and what is no text of Unicode.
 NO_DEB = ["a1", "1-", "a:1", "", "1_0", "1 0", "1\0", "1.é", "\ud800", "1.0\udcff"]
 
+# Texts that are no versions, how far each could become one, and what keeps it from it.
+OTHER = "a character that can't stand there"
+WRONG = (
+    ("mixed", "", 0, "nothing"),
+    ("mixed", "1.2.3-", 6, "nothing after the hyphen"),
+    ("mixed", "1.2.3+", 6, "nothing after the plus"),
+    ("mixed", "1.", 2, "nothing after the dot"),
+    ("mixed", "1:", 2, "nothing after the colon"),
+    ("mixed", "1_", 2, "nothing after the underscore"),
+    ("mixed", "1~", 2, "nothing after the tilde"),
+    ("pypi", "1!", 2, "nothing after the exclamation mark"),
+    ("semver", "1.2", 3, "an end too early"),
+    ("pypi", "\u2003v", 0, "a character past ASCII"),
+    ("mixed", "1.2.3 ", 5, "a blank"),
+    ("mixed", "1\t", 1, "a blank"),
+    ("mixed", "1\0", 1, "a control character"),
+    ("mixed", "1\x7f", 1, "a control character"),
+    ("mixed", "1.2é", 3, "a character past ASCII"),
+    ("deb", "1.0\U0001f600", 3, "a character past ASCII"),
+    ("rpm", "1\ud800", 1, "a character past ASCII"),
+    ("mixed", "1..2", 2, "an empty part"),
+    ("gem", "1..0é", 2, "an empty part"),
+    ("semver", "01.0.0", 1, "a number with a leading zero"),
+    ("mixed", "1.2.3-a_!", 8, OTHER),
+    ("deb", "1:", 2, "nothing after the colon"),
+    ("deb", "1_0", 1, OTHER),
+    ("rpm", "1-2-3", 3, OTHER),
+    ("pypi", "1.0x", 3, OTHER),
+    ("gem", " ", 1, "an end too early"),
+)
+
 TWO = "versions of {} are wanted, and this is of {}"
 NO_PARTS = "versions of deb have no kind, parts, fields or stability"
 
@@ -174,7 +205,7 @@ class Calls(LongLists):
                     call()
                 error = raised.exception
                 self.assertEqual((error.text, error.scheme), (text, "deb"))
-                self.assertEqual(str(error), f"not a version of deb: {text!r}")
+                self.assertEqual(str(error), f"not a version of deb: {text!r}; at {error.place}: {error.reason}")
 
     def test_what_is_no_text(self):
         for other in (None, 1.2, b"1", Requirement("*"), debs("*"), ["1"]):
@@ -559,6 +590,38 @@ class Errors(unittest.TestCase):
             self.assertEqual((kind(text).args, kind(text, "deb").args), ((text,), (text, "deb")))
         self.assertEqual(Version("1").scheme, InvalidVersion("x").scheme)
         self.assertRaises(TypeError, versions.InvalidRequirement, "x", "deb")
+
+    def test_why_a_text_is_no_version(self):
+        for scheme, text, place, reason in WRONG:
+            with self.subTest(scheme=scheme, text=ascii(text)), self.assertRaises(InvalidVersion) as raised:
+                Version(text, scheme=scheme)
+            error = raised.exception
+            self.assertEqual((error.place, error.reason), (place, reason))
+            of = "" if scheme == "mixed" else f" of {scheme}"
+            self.assertEqual(str(error), f"not a version{of}: {text!r}; at {place}: {reason}")
+            for back in (pickle.loads(pickle.dumps(error)), copy.copy(error), InvalidVersion(text, scheme)):
+                self.assertEqual((back.place, back.reason, str(back)), (place, reason, str(error)))
+            self.assertRaises(AttributeError, setattr, error, "place", 1)
+            with self.assertRaises(InvalidVersion) as raised:
+                versions.sorted(["1.0.0", text], scheme=scheme)
+            self.assertEqual(str(raised.exception), str(error))
+
+    def test_why_a_long_text_is_none(self):
+        long = "1." * 1_000_000
+        for scheme in SCHEMES:
+            for end, reason in ((" ", "a blank"), ("é", "a character past ASCII"), ("\0", "a control character")):
+                error = InvalidVersion(long + end, scheme)
+                wanted = (2_000_000, reason) if scheme != "semver" else (5, "a character that can't stand there")
+                self.assertEqual((error.place, error.reason), wanted)
+
+    def test_one_made_by_hand_of_a_version(self):
+        for scheme in SCHEMES:
+            error = InvalidVersion("1.0.0", scheme)
+            self.assertEqual((error.place, error.reason), (None, None))
+            self.assertEqual(str(error), f"not a version{'' if scheme == 'mixed' else f' of {scheme}'}: '1.0.0'")
+        error = InvalidVersion("1-", "of tomorrow")
+        self.assertEqual((error.place, error.reason), (None, None))
+        self.assertEqual(str(error), "not a version of of tomorrow: '1-'")
 
     def test_one_made_by_hand_names_any_scheme(self):
         error = InvalidVersionSet(">=1-", "of tomorrow")

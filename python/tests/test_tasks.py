@@ -73,7 +73,11 @@ class Tags(unittest.TestCase):
     def assertNone(self, named, *given, **more):
         with self.assertRaises(InvalidVersion) as raised:
             Version.from_tag(*given, **more)
-        self.assertEqual((raised.exception.text, type(raised.exception.text)), (named, str))
+        error = raised.exception
+        self.assertEqual((error.text, type(error.text)), (named, str))
+        # It says what it said of the whole tag, which may be a version; also once pickled.
+        for each in (error, pickle.loads(pickle.dumps(error)), copy.copy(error)):
+            self.assertEqual((each.place, each.reason, str(each)), (None, None, f"not a version: {named!r}"))
 
     def test_tags(self):
         for tag, text in TAGS.items():

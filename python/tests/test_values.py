@@ -95,8 +95,9 @@ class Versions(unittest.TestCase):
         for text in NONE:
             with self.subTest(text=text), self.assertRaises(InvalidVersion) as raised:
                 Version(text)
-            self.assertEqual(raised.exception.text, text)
-            self.assertEqual(str(raised.exception), f"not a version: {text!r}")
+            error = raised.exception
+            self.assertEqual(error.text, text)
+            self.assertEqual(str(error), f"not a version: {text!r}; at {error.place}: {error.reason}")
 
     def test_no_text(self):
         for other in (None, 1.2, 5, b"1.2", ["1.2"], Requirement("=1.2"), object):
@@ -383,7 +384,8 @@ class Requirements(unittest.TestCase):
             with self.subTest(text=text):
                 with self.assertRaises(InvalidVersion) as raised:
                     anything.matches(text)
-                self.assertEqual(str(raised.exception), f"not a version: {text!r}")
+                error = raised.exception
+                self.assertEqual(str(error), f"not a version: {text!r}; at {error.place}: {error.reason}")
                 self.assertNotIn(text, anything)
         for other in (None, 1.2, b"1.2", anything):
             self.assertRaises(TypeError, anything.matches, other)

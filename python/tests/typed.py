@@ -69,6 +69,7 @@ key_of_version: bytes = versions.sort_key(version)
 order_of_versions: int = versions.compare(version, "1.3") + versions.compare_total("1.2", version)
 again: Version = Version(version)
 text: str = InvalidVersion("1..2").text + InvalidRequirement("1").text + versions.__version__
+why_none: tuple[Optional[int], Optional[str]] = (InvalidVersion("1..2").place, InvalidVersion("1..2").reason)
 errors: list[type[ValueError]] = [InvalidVersion, InvalidRequirement, InvalidVersionSet]
 schemes: tuple[str, ...] = versions.SCHEMES
 of_deb: Version = Version("1.0", scheme="deb")

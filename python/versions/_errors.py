@@ -2,6 +2,8 @@
 
 from __future__ import annotations
 
+from typing import Optional
+
 from . import _library
 
 
@@ -35,17 +37,44 @@ class _InvalidInScheme(_Invalid):
 class InvalidVersion(_InvalidInScheme):
     """A text that is not a version of the `scheme`, which `text` is.
 
+    Up to `place` it could become one, a place of the text as Python counts them. `reason` says what stands there, or
+    how the text ends there. Both are None where a tag has no version.
+
     >>> try:
     ...     Version("1..2")
     ... except InvalidVersion as error:
-    ...     print(error.text, error)
-    1..2 not a version: '1..2'
+    ...     print(error)
+    ...     print(error.text, error.place, error.reason)
+    not a version: '1..2'; at 2: an empty part
+    1..2 2 an empty part
     >>> Version("1-", scheme="deb")
     Traceback (most recent call last):
-    versions.InvalidVersion: not a version of deb: '1-'
+    versions.InvalidVersion: not a version of deb: '1-'; at 2: nothing after the hyphen
     """
 
     _wanted = "version"
+    _is_tag = False
+
+    @property
+    def place(self) -> Optional[int]:
+        """How many of its characters could begin a version."""
+        return self._wrong()[0]
+
+    @property
+    def reason(self) -> Optional[str]:
+        """What stands there, or how the text ends there: a phrase of the library's, without a full stop."""
+        return self._wrong()[1]
+
+    def _wrong(self) -> tuple[Optional[int], Optional[str]]:
+        # One that was made by hand, or pickled beside another library, may name any scheme, and hold a version.
+        known = not self._is_tag and self.scheme in _library.SCHEMES
+        found = _library.wrong_version(self.text, self.scheme) if known else None
+        return found or (None, None)
+
+    def __str__(self) -> str:
+        place, reason = self._wrong()
+        wrong = "" if reason is None else f"; at {place}: {reason}"
+        return f"{super().__str__()}{wrong}"
 
 
 class InvalidRequirement(_Invalid):

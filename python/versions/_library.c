@@ -1381,6 +1381,7 @@ static PyMethodDef functions[] = {
     {"conflict", conflict, METH_O, NULL},
     {"why_text", why_text, METH_VARARGS, NULL},
     {"wrong_set", wrong_set, METH_VARARGS, NULL},
+    {"wrong_version", wrong_version, METH_VARARGS, NULL},
     {NULL, NULL, 0, NULL},
 };
 

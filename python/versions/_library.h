@@ -219,8 +219,9 @@ int has_texts(const struct set *set, const struct texts *texts, uint8_t *answers
 /* The items of a list whose versions are in a set. With `tags`, a text has its version as a tag has it. */
 PyObject *kept_in(const struct set *set, PyObject *items, bool tags);
 
-/* wrong_set(text, scheme) of the module */
+/* wrong_set(text, scheme) and wrong_version(text, scheme) of the module */
 PyObject *wrong_set(PyObject *module, PyObject *args);
+PyObject *wrong_version(PyObject *module, PyObject *args);
 
 /* The type Formed. */
 extern PyType_Spec formed_spec;

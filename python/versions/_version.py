@@ -6,6 +6,7 @@ import enum
 from typing import TYPE_CHECKING, Any, Literal, NamedTuple, Optional, SupportsIndex, Union
 
 from . import _library
+from ._errors import InvalidVersion
 from ._value import Value, shown_scheme
 
 if TYPE_CHECKING:
@@ -129,7 +130,7 @@ class Version(Value, _library.Keyed):
     True
     >>> Version("1..2")
     Traceback (most recent call last):
-    versions.InvalidVersion: not a version: '1..2'
+    versions.InvalidVersion: not a version: '1..2'; at 2: an empty part
     """
 
     __slots__ = ("__weakref__",)
@@ -166,7 +167,12 @@ class Version(Value, _library.Keyed):
         Traceback (most recent call last):
         versions.InvalidVersion: not a version: 'go1.20.3'
         """
-        return cls(_library.in_tag(tag, prefix))
+        try:
+            found = _library.in_tag(tag, prefix)
+        except InvalidVersion as error:
+            error._is_tag = True
+            raise
+        return cls(found)
 
     @property
     def is_ideal(self) -> bool:
