@@ -2,25 +2,31 @@ use std::error::Error;
 use std::fmt;
 use std::ops::Range;
 
-use crate::library::{self, sets};
+use crate::library::{self, schemes, sets};
 use crate::Scheme;
 
 /// The error for a text that is not a version of a scheme, which is [`Scheme::Mixed`] where none is
-/// named. It holds the whole text.
+/// named. It holds the whole text, and says how far that could become a version, and why no further:
+/// not of a tag that has none.
 ///
 /// ```
 /// use proved_versions::{Scheme, Versioning};
 ///
 /// let error = Versioning::new("1..2").unwrap_err();
-/// assert_eq!(error.to_string(), r#"not a version: "1..2""#);
+/// assert_eq!(error.to_string(), r#"not a version: "1..2"; at byte 2: an empty part"#);
 /// assert_eq!((error.text(), error.scheme()), ("1..2", Scheme::Mixed));
+/// assert_eq!((error.place(), error.reason().as_deref()), (Some(2), Some("an empty part")));
 /// let error = Scheme::Deb.sort_key("1-").unwrap_err();
-/// assert_eq!(error.to_string(), r#"not a version of deb: "1-""#);
+/// assert_eq!(
+///     error.to_string(),
+///     r#"not a version of deb: "1-"; at byte 2: nothing after the hyphen"#
+/// );
 /// ```
 #[derive(Clone, Debug, PartialEq, Eq, Hash)]
 pub struct InvalidVersion {
     text: String,
     scheme: Scheme,
+    is_tag: bool,
 }
 
 /// The error for a text that is not a requirement, nor a list of them. It holds the whole text, and
@@ -95,6 +101,15 @@ impl InvalidVersion {
         InvalidVersion {
             text: text.into(),
             scheme,
+            is_tag: false,
+        }
+    }
+
+    /// The error for a tag that has no version, which may be one itself.
+    pub(crate) fn tag(tag: impl Into<String>) -> Self {
+        InvalidVersion {
+            is_tag: true,
+            ..InvalidVersion::mixed(tag)
         }
     }
 
@@ -112,7 +127,26 @@ impl InvalidVersion {
         self.scheme
     }
 
-    /// Returns the same, as the `String` that the error held.
+    /// Returns how many bytes of the text could begin a version; `None` where a tag has none. Asks the
+    /// library, in time linear in the text.
+    pub fn place(&self) -> Option<usize> {
+        self.wrong().map(|(place, _)| place)
+    }
+
+    /// Returns what stands at that place, or how the text ends there: a phrase in English without a
+    /// full stop. As [`place`](InvalidVersion::place).
+    pub fn reason(&self) -> Option<String> {
+        self.wrong().map(|(_, reason)| reason)
+    }
+
+    fn wrong(&self) -> Option<(usize, String)> {
+        if self.is_tag {
+            return None;
+        }
+        Some(schemes::wrong(self.scheme, &self.text))
+    }
+
+    /// Returns the text, as the `String` that the error held.
     pub fn into_text(self) -> String {
         self.text
     }
@@ -229,7 +263,11 @@ impl InvalidName {
 
 impl fmt::Display for InvalidVersion {
     fn fmt(&self, f: &mut fmt::Formatter<'_>) -> fmt::Result {
-        write!(f, "not a version{}: {:?}", Of(self.scheme), self.text)
+        write!(f, "not a version{}: {:?}", Of(self.scheme), self.text)?;
+        match self.wrong() {
+            Some((place, reason)) => write!(f, "; at byte {place}: {reason}"),
+            None => Ok(()),
+        }
     }
 }
 

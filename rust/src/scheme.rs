@@ -108,7 +108,7 @@ impl Scheme {
     ///
     /// assert_eq!(Scheme::Deb.compare("1.0~rc1", "1.0"), Ok(Ordering::Less));
     /// let error = Scheme::Deb.compare("1.0", "1-").unwrap_err();
-    /// assert_eq!(error.to_string(), r#"not a version of deb: "1-""#);
+    /// assert_eq!((error.text(), error.place()), ("1-", Some(2)));
     /// ```
     pub fn compare(self, a: &str, b: &str) -> Result<Ordering, InvalidVersion> {
         schemes::compare(self, a, b).map_err(|text| InvalidVersion::new(text, self))

@@ -120,7 +120,7 @@ impl<'a> Versioning<'a> {
         let tag = into_cow(tag);
         match library::in_tag(&tag) {
             Some(start) => Versioning::parsed(cut(tag, start)),
-            None => Err(InvalidVersion::mixed(tag)),
+            None => Err(InvalidVersion::tag(tag)),
         }
     }
 
@@ -143,7 +143,7 @@ impl<'a> Versioning<'a> {
         let tag = into_cow(tag);
         match library::after_prefix(prefix, &tag) {
             Some(start) => Versioning::parsed(cut(tag, start)),
-            None => Err(InvalidVersion::mixed(tag)),
+            None => Err(InvalidVersion::tag(tag)),
         }
     }
 

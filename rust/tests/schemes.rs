@@ -240,7 +240,9 @@ fn what_is_not_a_version_is_an_error_with_the_text_and_the_scheme() {
                     Scheme::Mixed => String::new(),
                     scheme => format!(" of {scheme}"),
                 };
-                assert_eq!(error.to_string(), format!("not a version{of}: {text:?}"));
+                let (place, reason) = (error.place().unwrap(), error.reason().unwrap());
+                let said = format!("not a version{of}: {text:?}; at byte {place}: {reason}");
+                assert_eq!(error.to_string(), said);
                 assert!(error.source().is_none());
                 assert_eq!(error.into_text(), text);
             }
@@ -417,4 +419,49 @@ fn threads_may_share_all() {
     shared::<VersionOf<'static, Scheme>>();
     shared::<Key<Scheme>>();
     shared::<OtherScheme>();
+}
+
+#[test]
+fn why_a_text_is_no_version() {
+    let other = "a character that can't stand there";
+    let rows = [
+        (Scheme::Mixed, "", 0, "nothing"),
+        (Scheme::Mixed, "1.2.3-", 6, "nothing after the hyphen"),
+        (Scheme::Mixed, "1.2.3+", 6, "nothing after the plus"),
+        (Scheme::Mixed, "1.", 2, "nothing after the dot"),
+        (Scheme::Mixed, "1:", 2, "nothing after the colon"),
+        (Scheme::Mixed, "1_", 2, "nothing after the underscore"),
+        (Scheme::Mixed, "1~", 2, "nothing after the tilde"),
+        (Scheme::Pypi, "1!", 2, "nothing after the exclamation mark"),
+        (Scheme::Semver, "1.2", 3, "an end too early"),
+        (Scheme::Mixed, "1.2.3 ", 5, "a blank"),
+        (Scheme::Mixed, "1\0", 1, "a control character"),
+        (Scheme::Deb, "1.2é", 3, "a character past ASCII"),
+        (Scheme::Rpm, "\u{1f600}", 0, "a character past ASCII"),
+        (Scheme::Mixed, "1..2", 2, "an empty part"),
+        (Scheme::Semver, "01.0.0", 1, "a number with a leading zero"),
+        (Scheme::Mixed, "1.2.3-a_!", 8, other),
+        (Scheme::Deb, "1_0", 1, other),
+        (Scheme::Rpm, "1-2-3", 3, other),
+        (Scheme::Pypi, "1.0x", 3, other),
+        (Scheme::Gem, "a", 0, other),
+    ];
+    for (scheme, text, place, reason) in rows {
+        let error = VersionOf::new(text, scheme).unwrap_err();
+        assert_eq!(error.place(), Some(place), "{scheme} {text:?}");
+        assert_eq!(error.reason().as_deref(), Some(reason));
+        assert_eq!(error.clone().to_string(), error.to_string());
+    }
+    let long = "1.".repeat(1_000_000) + "é";
+    let error = Scheme::Mixed.sort_key(&long).unwrap_err();
+    assert_eq!(error.place(), Some(2_000_000));
+    // A tag that has no version may be one itself.
+    for (tag, prefix) in [("go1.20.3", None), ("x y", None), ("1.2", Some("go"))] {
+        let error = match prefix {
+            None => Versioning::from_tag(tag).unwrap_err(),
+            Some(prefix) => Versioning::after_prefix(prefix, tag).unwrap_err(),
+        };
+        assert_eq!((error.place(), error.reason()), (None, None));
+        assert_eq!(error.to_string(), format!("not a version: {tag:?}"));
+    }
 }

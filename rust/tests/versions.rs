@@ -178,7 +178,9 @@ fn what_is_not_a_version_is_an_error_with_the_text() {
         ];
         for error in errors {
             assert_eq!(error.text(), text);
-            assert_eq!(error.to_string(), format!("not a version: {text:?}"));
+            let (place, reason) = (error.place().unwrap(), error.reason().unwrap());
+            let said = format!("not a version: {text:?}; at byte {place}: {reason}");
+            assert_eq!(error.to_string(), said);
             assert!(error.source().is_none());
             assert_eq!(error.clone(), error);
             assert_eq!(error.into_text(), text);
@@ -187,7 +189,7 @@ fn what_is_not_a_version_is_an_error_with_the_text() {
     assert_ne!(Versioning::new("1..2"), Versioning::new("1..3"));
     assert_eq!(
         compare("\"\n", "1").unwrap_err().to_string(),
-        r#"not a version: "\"\n""#
+        r#"not a version: "\"\n"; at byte 0: a character that can't stand there"#
     );
 }
 

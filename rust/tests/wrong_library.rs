@@ -559,6 +559,14 @@ fn statuses_of_schemes_and_sets() {
     }
     let said = panic(|| VersionSet::new("18").is_ok());
     assert_eq!(said, unexpected("versions_set_wrong", "status 18"));
+    for (text, call, what) in [
+        ("1", "versions_wrong", "status 1"),
+        ("w1_s", "versions_wrong_text", "status 99"),
+        ("w1_l", "versions_wrong_text", "length 101"),
+    ] {
+        let said = panic(|| Versioning::new(text).unwrap_err().reason());
+        assert_eq!(said, unexpected(call, what));
+    }
     let forgotten = "the library no longer takes the text of a version for one";
     assert!(panic(|| set("s1").contains(&version("v0"))).contains(forgotten));
 }
@@ -635,6 +643,15 @@ fn places_in_sets() {
             said,
             unexpected("versions_set_wrong", &format!("place {place}"))
         );
+    }
+    for (text, place) in [
+        ("w1_a", "5"),
+        ("w1_dé", "5"),
+        ("w1_e", "18446744073709551615"),
+    ] {
+        let said = panic(|| Versioning::new(text).unwrap_err().place());
+        let wanted = unexpected("versions_wrong", &format!("place {place}"));
+        assert_eq!(said, wanted);
     }
     let ends = [
         ("a", "0..4"),

@@ -300,6 +300,15 @@ int versions_set_wrong_text(uint32_t scheme, const char *text, size_t text_len, 
   return which == 's' ? 99 : VERSIONS_OK;
 }
 
+/* The same of texts that are no versions, as `w1_a`. */
+int versions_wrong(uint32_t scheme, const char *text, size_t text_len, size_t *place, uint32_t *reason) {
+  return versions_set_wrong(scheme, text, text_len, place, reason);
+}
+
+int versions_wrong_text(uint32_t scheme, const char *text, size_t text_len, char *why, size_t room, size_t *why_len) {
+  return versions_set_wrong_text(scheme, text, text_len, why, room, why_len);
+}
+
 /* `i0` has a form longer than any room. */
 int versions_set_of_version(uint32_t scheme, const char *text, size_t text_len, uint8_t *form, size_t room,
                             size_t *form_len) {

@@ -2,10 +2,13 @@
 
 use std::cmp::Ordering;
 
-use super::{bool_of, fitting, ordering, start, unexpected, Texts, ON_STACK};
+use super::{bool_of, fitting, ordering, start, unexpected, written, Texts, ON_STACK};
 use crate::bytes::Bytes;
 use crate::declarations::*;
 use crate::Scheme;
+
+/// How many bytes are enough for each text of `versions_wrong_text`.
+const PHRASE: usize = 100;
 
 /// The number that a scheme has in `versions.h`.
 pub(super) fn number(scheme: Scheme) -> u32 {
@@ -29,6 +32,48 @@ pub fn is_version(scheme: Scheme, text: &str) -> bool {
     match status {
         OK => bool_of("versions_scheme_has", answer),
         _ => unexpected("versions_scheme_has", "status", status),
+    }
+}
+
+/// How far a text could become a version, and why no further. Panics where the text is a version.
+pub fn wrong(scheme: Scheme, text: &str) -> (usize, String) {
+    let (mut place, mut reason) = (0, 0);
+    // SAFETY: the pointer and the length are those of `text`, which is only read; the others are
+    // written.
+    let status = unsafe {
+        versions_wrong(
+            number(scheme),
+            start(text),
+            text.len(),
+            &mut place,
+            &mut reason,
+        )
+    };
+    match status {
+        OK if text.is_char_boundary(place) => (place, why_wrong(scheme, text)),
+        OK => unexpected("versions_wrong", "place", place),
+        _ => unexpected("versions_wrong", "status", status),
+    }
+}
+
+/// Why no further, in words.
+fn why_wrong(scheme: Scheme, text: &str) -> String {
+    let (mut room, mut length) = (vec![0; PHRASE], 0);
+    // SAFETY: the pointer and the length are those of `text`, which is only read. `room` and
+    // `length` are written, and overlap with nothing, as they are borrowed mutably.
+    let status = unsafe {
+        versions_wrong_text(
+            number(scheme),
+            start(text),
+            text.len(),
+            room.as_mut_ptr().cast(),
+            room.len(),
+            &mut length,
+        )
+    };
+    match status {
+        OK => written("versions_wrong_text", room, length),
+        _ => unexpected("versions_wrong_text", "status", status),
     }
 }
 
