@@ -37,6 +37,10 @@ export class InvalidVersion extends RangeError {
   constructor(text: string, scheme?: Scheme, message?: string);
   readonly text: string;
   readonly scheme: Scheme;
+  /** How far it could become a version, a place as strings count places; null of a tag, and of a version. */
+  readonly place: number | null;
+  /** What stands at that place, or how the text ends there, without a full stop; null as the place is. */
+  readonly reason: string | null;
 }
 
 /** A text is neither a requirement nor a list of them. Its members are the pieces between the commas. */

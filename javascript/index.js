@@ -67,10 +67,19 @@ function numberOfScheme(name = "mixed") {
 
 const ofScheme = (name) => (name === "mixed" ? "" : ` of ${name}`);
 
+// How far a text could become a version, counted in its units, and why no further; null of both where it is one.
+const NO_WRONG = { place: null, reason: null };
+function wrongVersion(text, scheme) {
+  const its = wrongIn(text, numberOfScheme(scheme), call.versions_wrong, call.versions_wrong_text);
+  return its === null ? NO_WRONG : { place: its[0], reason: its[1] };
+}
+const saidOf = ({ place, reason }) => (reason === null ? "" : `; at ${place}: ${reason}`);
+
+// With a message it is about more than the text, and what is wrong with that isn't asked for: it may be passed too.
 export class InvalidVersion extends RangeError {
-  constructor(text, scheme = "mixed", message = `not a version${ofScheme(scheme)}: ${JSON.stringify(text)}`) {
-    super(message);
-    Object.assign(this, { text, scheme });
+  constructor(text, scheme = "mixed", message = null, wrong = message === null ? wrongVersion(text, scheme) : NO_WRONG) {
+    super((message ?? `not a version${ofScheme(scheme)}: ${JSON.stringify(text)}`) + saidOf(wrong));
+    Object.assign(this, { text, scheme, ...wrong });
   }
 }
 
@@ -86,7 +95,8 @@ export class InvalidRequirement extends RangeError {
 
 export class InvalidVersionSet extends RangeError {
   constructor(text, scheme = "mixed") {
-    const [start, reason] = wrongPiece(text, numberOfScheme(scheme));
+    const its = wrongIn(text, numberOfScheme(scheme), call.versions_set_wrong, call.versions_set_wrong_text);
+    const [start, reason] = its ?? [0, ""];
     const wrong = reason === "" ? "" : `; at ${start}: ${reason}`;
     super(`not a set of versions${ofScheme(scheme)}: ${JSON.stringify(text)}${wrong}`);
     Object.assign(this, { text, scheme, start, reason });
@@ -153,14 +163,14 @@ function wrongMember(text) {
   return status === OK ? placesOf(text) : [0, text.length];
 }
 
-// Where a text is no set, counted in its units, and why.
-function wrongPiece(text, scheme) {
+// Where a text is wrong, counted in its units, and why, by two calls; null where it is not.
+function wrongIn(text, scheme, askPlace, askReason) {
   const most = 100;
   const length = write(text, most);
   const passed = [scheme, FROM, big(length)];
-  if (call.versions_set_wrong(...passed, SLOTS[0], SLOTS[1]) !== OK) return [0, ""];
+  if (askPlace(...passed, SLOTS[0], SLOTS[1]) !== OK) return null;
   const start = placeOf(text, slot(0));
-  call.versions_set_wrong_text(...passed, after(length), big(most), SLOTS[0]);
+  askReason(...passed, after(length), big(most), SLOTS[0]);
   return [start, binary(FIRST + length, FIRST + length + slot(0))];
 }
 
@@ -444,7 +454,8 @@ export function sort(texts, options = {}) {
     const text = its[place];
     const where = `${what} ${reverse ? last - place : place}`;
     const of = nameOfScheme(scheme);
-    throw new InvalidVersion(text, of, `${where} is not a version${ofScheme(of)}: ${JSON.stringify(text)}`);
+    const said = `${where} is not a version${ofScheme(of)}: ${JSON.stringify(text)}`;
+    throw new InvalidVersion(text, of, said, wrongVersion(text, of));
   }
   const versions = places.slice(0, good);
   const others = places.slice(good);

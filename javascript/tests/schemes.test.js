@@ -9,8 +9,9 @@ import {
 } from "./support.js";
 
 const {
-  InvalidVersionSet, Requirement, SCHEMES, Version, VersionSet, compare, compareTotal, eq, gt, gte, inTags, kind, kinds, lt,
-  lte, matchAll, maxSatisfying, minSatisfying, neq, newest, rcompare, rsort, satisfies, sort, sortKey, sortKeys, stabilities,
+  InvalidVersion, InvalidVersionSet, Requirement, SCHEMES, Version, VersionSet, compare, compareTotal, eq, gt, gte,
+  inTags, kind, kinds, lt, lte, matchAll, maxSatisfying, minSatisfying, neq, newest, rcompare, rsort, satisfies, sort,
+  sortKey, sortKeys, stabilities,
 } = versions;
 
 const DEB = { scheme: "deb" };
@@ -115,6 +116,46 @@ test("order and keys", () => {
   // Mixed is another order, in which `sort` breaks the ties of `compare`.
   assert.deepEqual(["mixed", "deb"].map((scheme) => compare("1.0", "1.0-0", { scheme })), [-1, 0]);
   assert.deepEqual(["mixed", "deb"].map((scheme) => sort(["0:1.2", "1.2"], { scheme })), [["1.2", "0:1.2"], ["0:1.2", "1.2"]]);
+});
+
+test("why a text is no version", () => {
+  const other = "a character that can't stand there";
+  const rows = [
+    ["mixed", "", 0, "nothing"],
+    ["mixed", "1.2.3-", 6, "nothing after the hyphen"],
+    ["mixed", "1.2.3+", 6, "nothing after the plus"],
+    ["mixed", "1.", 2, "nothing after the dot"],
+    ["mixed", "1:", 2, "nothing after the colon"],
+    ["mixed", "1_", 2, "nothing after the underscore"],
+    ["mixed", "1~", 2, "nothing after the tilde"],
+    ["pypi", "1!", 2, "nothing after the exclamation mark"],
+    ["semver", "1.2", 3, "an end too early"],
+    ["mixed", "1.2.3 ", 5, "a blank"],
+    ["mixed", "1\0", 1, "a control character"],
+    ["deb", "1.2\u00e9", 3, "a character past ASCII"],
+    ["rpm", "1\u{1f600}2", 1, "a character past ASCII"],
+    ["gem", "1.0\ud800", 3, "a character past ASCII"],
+    ["mixed", "1..2", 2, "an empty part"],
+    ["semver", "01.0.0", 1, "a number with a leading zero"],
+    ["mixed", "1.2.3-a_!", 8, other],
+    ["deb", "1_0", 1, other],
+    ["rpm", "1-2-3", 3, other],
+    ["pypi", "1.0x", 3, other],
+    ["gem", "a", 0, other],
+    ...SCHEMES.filter((scheme) => scheme !== "semver").map((scheme) => [scheme, `${"1.".repeat(1e6)} `, 2e6, "a blank"]),
+  ];
+  for (const [scheme, text, place, reason] of rows) {
+    const made = new InvalidVersion(text, scheme);
+    assert.deepEqual([made.place, made.reason], [place, reason], JSON.stringify(text.slice(0, 20)));
+    refusesVersion(() => new Version(text, { scheme }), text, undefined, scheme);
+    refusesVersion(() => sortKey(text, { scheme }), text, made.message.slice(0, -`; at ${place}: ${reason}`.length), scheme);
+  }
+  // One made by hand may be of a version, or have its own message; a name of no scheme is refused.
+  for (const its of [new InvalidVersion("1.0"), new InvalidVersion("1..2", "deb", "said")]) {
+    assert.deepEqual([its.place, its.reason], [null, null]);
+  }
+  assert.equal(new InvalidVersion("1.0").message, 'not a version: "1.0"');
+  assert.throws(() => new InvalidVersion("1..2", "dpkg"), RangeError);
 });
 
 test("what is no version of deb", () => {

@@ -8,20 +8,23 @@ const { InvalidRequirement, InvalidVersion, InvalidVersionSet } = versions;
 
 const ofScheme = (scheme) => (scheme === "mixed" ? "" : ` of ${scheme}`);
 
-/** Whether a call throws InvalidVersion with a text of a scheme, and a message. */
-export function refusesVersion(call, text, message, scheme = "mixed") {
+/** Whether a call throws InvalidVersion with a text of a scheme, and a message; of a tag without what is wrong with it. */
+export function refusesVersion(call, text, message, scheme = "mixed", isTag = false) {
   assert.throws(call, (error) => {
     assert.ok(error instanceof InvalidVersion && error instanceof RangeError, String(error));
     assert.deepEqual([error.text, error.scheme], [text, scheme]);
     const said = message ?? `not a version${ofScheme(scheme)}: ${JSON.stringify(text)}`;
-    assert.equal(String(error), `InvalidVersion: ${said}`);
+    const { place, reason } = error;
+    if (isTag) assert.deepEqual([place, reason], [null, null]);
+    else assert.ok(Number.isInteger(place) && place <= text.length && typeof reason === "string", said);
+    assert.equal(String(error), `InvalidVersion: ${said}${isTag ? "" : `; at ${place}: ${reason}`}`);
     return true;
   });
 }
 
 /** Whether Version.fromTag throws InvalidVersion for a tag, and says why. */
 export function refusesTag(tag, prefix, why) {
-  refusesVersion(() => versions.Version.fromTag(tag, prefix), tag, `the tag ${JSON.stringify(tag)} ${why}`);
+  refusesVersion(() => versions.Version.fromTag(tag, prefix), tag, `the tag ${JSON.stringify(tag)} ${why}`, "mixed", true);
 }
 
 /** Whether a call throws InvalidRequirement with a text, and its first wrong member. */

@@ -34,6 +34,7 @@ const best: string | null = newest(["1"], { requirement: wanted, stability: null
 const most: string | null = maxSatisfying(["1"], null) ?? minSatisfying(["1"], wanted) ?? valid(null);
 const error: RangeError = new InvalidRequirement("x");
 const text: string = new InvalidVersion("x").text;
+const flaw: [number | null, string | null] = [new InvalidVersion("x-").place, new InvalidVersion("x-").reason];
 const scheme: Scheme = SCHEMES[0] ?? version.scheme;
 const deb: Version = new Version("1.0~rc1", { scheme });
 const set: VersionSet = new VersionSet(">=1.2, <2 || ^3");
