@@ -55,7 +55,7 @@ fn write_fault<W: fmt::Write>(
     ensures { DisplaysOnOk W.write_str_gives f.old result (Some (task_fault_text fault.now)) f.new }
 {
     match fault {
-        version_commands::Fault::NotVersion(word) => write!(f, "not a version: {word}"),
+        version_commands::Fault::NotVersion(word, _) => write!(f, "not a version: {word}"),
         version_commands::Fault::NotRequirement(word) => write!(f, "not a requirement: {word}"),
         version_commands::Fault::BadLine { number, .. } => {
             write!(f, "line {number} is not a version")

@@ -5,13 +5,14 @@ use Rattle.std.specs.Prelude.{◌≡◌, ◌⊎◌, ⊤, ℕ, false, List, [], �
 use Rattle.std.specs.Io.KnownBytes.{Consumes, IsAtEnd}
 use Rattle.version_commands.specs.Arranged.{policy}
 use Rattle.version_commands.specs.Choice.{wrong_set}
-use Rattle.version_commands.specs.Each.{has_version, AreTexts, IsFirstWithoutNext, reads_by}
+use Rattle.version_commands.specs.Each.{has_version, scheme_of, AreTexts, IsFirstWithoutNext, reads_by}
 use Rattle.version_commands.specs.Fault.{first_wrong, ComesOfLines, ComesOfMatching, ComesOfPut, ComesOfReading, ComesOfSets, ComesOfStandard, ComesOfTestOfSet, ComesOfTestOfSets, ComesOfTestOfTwo, ComesOfWords}
 use Rattle.version_commands.specs.Inputs.{joined, names_read, AreInputs, Reading}
 use Rattle.version_commands.specs.Lists.{bad_lines_of, lines_of_list, names_of}
-use Rattle.version_commands.specs.Ordered.{body_of, versions_by}
+use Rattle.version_commands.specs.Ordered.{body_of, scheme_of_line, versions_by}
+use Rattle.version_commands.specs.Mark.{IsMark}
 use Rattle.version_commands.specs.Picked.{Versions}
-use Rattle.version_commands.specs.Place.{reads_of, spelled, spelled_mixed}
+use Rattle.version_commands.specs.Place.{plain_scheme, reads_of, scheme_of_lines, scheme_of_whole, spelled, spelled_mixed}
 use Rattle.version_commands.specs.Quote.{quoted}
 use Rattle.version_commands.specs.Sets.{IsWrongSet}
 use Rattle.version_commands.specs.declared.faults.Fault.{Fault}
@@ -29,13 +30,15 @@ use Rattle.version_commands.specs.declared.options.Invalid.TheVariants.{Fail}
 use Rattle.version_commands.specs.declared.set.WrongSet.{WrongSet}
 use Rattle.version_lines.specs.Lines.{lines_of}
 use Rattle.version_lines.specs.Sort.{version_in}
+use Rattle.version_schemes.specs.declared.scheme.Scheme.TheVariants.{Mixed}
 
 -- the faults of a run over the lines of an input: of the lines that have no version, or of the file
 -- for these
 abbrev pub ComesOfArranged : LineOptions → Versions → List ℕ → Fault → Type 0
 ComesOfArranged options versions input (fault.Write name) = ComesOfPut options (fault.Write name)
 ComesOfArranged options versions input other =
-    ComesOfLines (policy options) options.place.crlf options.header versions (lines_of options.end input) other
+    ComesOfLines (policy options) options.place.crlf (scheme_of_line options) options.header versions
+    (lines_of options.end input) other
 
 -- the faults of `sort`, `newest` and `filter`: of a word that is no set, of an input, of the lines that
 -- have no version, or of the file for these
@@ -76,14 +79,14 @@ ComesOfAnswering question naming end texts other = (other ≡ fault.Memory)
 -- the faults of `show`, `key`, `why` and `next`: of the last word if none is a version, or without words of
 -- standard input or a line of it, of a version that none comes next to, or of the set of `why`
 abbrev pub ComesOfAsking : Question → EachOptions → Option (List ℕ) → Fault → Type 0
-ComesOfAsking question options old (fault.NotVersion text) =
-    (has_version question options ≡ false) × (before : List (List ℕ))
+ComesOfAsking question options old (fault.NotVersion text mark) =
+    IsMark (scheme_of_whole options.naming (scheme_of question)) text.now mark × (has_version question options ≡ false) × (before : List (List ℕ))
     × (map (λ word. word.now) options.versions.items ≡ before ++ text.now ∷ [])
-ComesOfAsking question options old (fault.BadLine number text ends more) =
+ComesOfAsking question options old (fault.BadLine number text ends more mark) =
     (options.versions.items ≡ []) × (new : Option (List ℕ)) × (input : List ℕ)
     × Consumes old new input × IsAtEnd new
-    × ComesOfLines Fail options.crlf 0 (version_in (reads_by question options.naming options.crlf)) (lines_of options.end input)
-    (fault.BadLine number text ends more)
+    × ComesOfLines Fail options.crlf (scheme_of_whole options.naming (scheme_of question)) 0 (version_in (reads_by question options.naming options.crlf)) (lines_of options.end input)
+    (fault.BadLine number text ends more mark)
 ComesOfAsking question options old (fault.Read name) =
     (options.versions.items ≡ []) × (name.now ≡ codes "-")
 ComesOfAsking question options old (fault.NoNext text) =
@@ -94,7 +97,7 @@ ComesOfAsking question options old other = ComesOfQuestion question other
 -- the faults of the lines without a version of a list
 abbrev pub ComesOfOne : Lists → List ℕ → Fault → Type 0
 ComesOfOne lists input =
-    ComesOfLines lists.invalid lists.place.crlf 0 (version_in (reads_of lists.place)) (lines_of_list lists input)
+    ComesOfLines lists.invalid lists.place.crlf (scheme_of_lines lists.place) 0 (version_in (reads_of lists.place)) (lines_of_list lists input)
 
 -- those of two lists: of the new one only where each line of the old one has a version
 abbrev pub ComesOfEither : Lists → List ℕ → List ℕ → Fault → Type 0
@@ -103,10 +106,10 @@ ComesOfEither lists first second fault = ComesOfOne lists first fault
 
 -- the faults of `diff --lists`: of an input, or of the lines of a list that have no version
 abbrev pub ComesOfChanges : Lists → Reading → Option (List ℕ) → Fault → Type 0
-ComesOfChanges lists reads old (fault.BadLine number text ends more) =
+ComesOfChanges lists reads old (fault.BadLine number text ends more mark) =
     (new : Option (List ℕ)) × (first second : List ℕ)
     × AreInputs reads old new (names_of lists) (first ∷ second ∷ [])
-    × ComesOfEither lists first second (fault.BadLine number text ends more)
+    × ComesOfEither lists first second (fault.BadLine number text ends more mark)
 ComesOfChanges lists reads old other = ComesOfReading reads (names_of lists) other
 
 -- the faults of each task, but for a writer that takes no more
@@ -115,17 +118,17 @@ ComesOf (task.Lines arrangement options) reads old fault =
     ComesOfArranging arrangement options reads old fault
 ComesOf (task.Each question options) reads old fault = ComesOfAsking question options old fault
 ComesOf (task.TestTwo spelling a operator b) reads old fault =
-    ComesOfTestOfTwo (first_wrong (spelled spelling) (a.now ∷ b.now ∷ [])) fault
+    ComesOfTestOfTwo (plain_scheme spelling) (first_wrong (spelled spelling) (a.now ∷ b.now ∷ [])) fault
 ComesOf (task.TestSet spelling version set) reads old fault =
     ComesOfTestOfSet spelling version.now set.now fault
 ComesOf (task.Implies scheme one other) reads old fault = ComesOfTestOfSets scheme one.now other.now fault
 ComesOf (task.Meets scheme one other) reads old fault = ComesOfTestOfSets scheme one.now other.now fault
 ComesOf (task.Compare spelling a b) reads old fault =
-    ComesOfWords (first_wrong (spelled spelling) (a.now ∷ b.now ∷ [])) fault
+    ComesOfWords (plain_scheme spelling) (first_wrong (spelled spelling) (a.now ∷ b.now ∷ [])) fault
 ComesOf (task.Explain naming a b) reads old fault =
-    ComesOfWords (first_wrong (spelled_mixed naming) (a.now ∷ b.now ∷ [])) fault
+    ComesOfWords (scheme_of_whole naming Mixed) (first_wrong (spelled_mixed naming) (a.now ∷ b.now ∷ [])) fault
 ComesOf (task.Difference naming a b) reads old fault =
-    ComesOfWords (first_wrong (spelled_mixed naming) (a.now ∷ b.now ∷ [])) fault
+    ComesOfWords (scheme_of_whole naming Mixed) (first_wrong (spelled_mixed naming) (a.now ∷ b.now ∷ [])) fault
 ComesOf (task.Lists lists) reads old fault = ComesOfChanges lists reads old fault
 ComesOf (task.Match list) reads old fault = ComesOfMatching list.now fault
 ComesOf (task.Label labels) reads old fault = ComesOfStandard fault

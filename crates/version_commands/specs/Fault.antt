@@ -14,7 +14,9 @@ use Rattle.version_lines.specs.declared.input.Trouble.TheVariants as trouble
 use Rattle.version_commands.specs.Bad.{Reports}
 use Rattle.version_commands.specs.Inputs.{IsRefused, Reading}
 use Rattle.version_commands.specs.Picked.{bad_lines, good_before, Versions}
-use Rattle.version_commands.specs.Place.{spelled}
+use Rattle.version_commands.specs.Mark.{no_version_text, IsMark}
+use Rattle.version_commands.specs.Place.{line_text, plain_scheme, spelled}
+use Rattle.version_commands.specs.declared.mark.Mark.{Mark}
 use Rattle.version_commands.specs.Quote.{quoted}
 use Rattle.version_commands.specs.Sets.{IsWrongSet, keys_of}
 use Rattle.version_rules.specs.requirement.Requirements.{requirements_of}
@@ -25,12 +27,12 @@ use Rattle.version_commands.specs.declared.faults.Fault.TheVariants.{NotVersion,
 
 -- the status that a fault ends the program with
 abbrev pub status_of : Fault → ℕ
-status_of (NotVersion text) = 1
+status_of (NotVersion text mark) = 1
 status_of (NotRequirement text) = 1
 status_of (NotSet wrong) = 1
-status_of (NotTested text) = 2
+status_of (NotTested text mark) = 2
 status_of (NotTestedSet wrong) = 2
-status_of (BadLine number text ends more) = 1
+status_of (BadLine number text ends more mark) = 1
 status_of (NoNext text) = 1
 status_of Memory = 3
 status_of (Read name) = 3
@@ -42,11 +44,11 @@ others_text zero = []
 others_text more = codes " (and " ++ (decimal more ++ codes " more)")
 
 -- what a message says of the first line that has no version, and of how many more have none
-abbrev pub bad_line_text : ℕ → List ℕ → Bool → ℕ → List ℕ
-bad_line_text number text true more =
+abbrev pub bad_line_text : ℕ → List ℕ → Bool → ℕ → Option Mark → List ℕ
+bad_line_text number text true more mark =
     codes "line " ++ (decimal number ++ (codes " ends in a carriage return: --crlf" ++ others_text more))
-bad_line_text number text false more =
-    codes "line " ++ (decimal number ++ (codes " is not a version: " ++ (text ++ others_text more)))
+bad_line_text number text false more mark =
+    codes "line " ++ (decimal number ++ (codes " is not a version: " ++ no_version_text mark text (others_text more)))
 
 -- what a message says of a word that is no set; places count from 1
 abbrev pub wrong_set_text : WrongSet → List ℕ
@@ -56,13 +58,13 @@ wrong_set_text wrong =
 
 -- what a message says of a fault
 abbrev pub fault_text : Fault → List ℕ
-fault_text (NotVersion word) = codes "not a version: " ++ quoted word.now
+fault_text (NotVersion word mark) = codes "not a version: " ++ no_version_text mark (quoted word.now) []
 fault_text (NotRequirement word) = codes "not a requirement: " ++ quoted word.now
 fault_text (NotSet wrong) = wrong_set_text wrong
-fault_text (NotTested word) = codes "not a version: " ++ quoted word.now
+fault_text (NotTested word mark) = codes "not a version: " ++ no_version_text mark (quoted word.now) []
 fault_text (NotTestedSet wrong) = wrong_set_text wrong
-fault_text (BadLine number text ends_in_return more) =
-    bad_line_text number (string_bytes text) ends_in_return more
+fault_text (BadLine number text ends_in_return more mark) =
+    bad_line_text number (string_bytes text) ends_in_return more mark
 fault_text (NoNext text) = codes "no version comes next at that place: " ++ string_bytes text
 fault_text Memory = codes "no memory"
 fault_text (Read name) = codes "cannot be read: " ++ quoted name.now
@@ -87,23 +89,28 @@ ComesOfReading reads names (Read shown) =
     IsRefused reads names shown.now
 ComesOfReading reads names fault = ⊥
 
+-- the mark of the first of some lines, if they are read by a scheme as they stand
+abbrev pub MarksFirst : Option Scheme → Bool → List (List ℕ) → Option Mark → Type 0
+MarksFirst scheme crlf [] mark = ⊥
+MarksFirst scheme crlf (first ∷ others) mark = IsMark scheme (line_text crlf first) mark
+
 -- the faults that lines without a version can end in, before the first of which come so many with one
-abbrev pub ComesOfBadAfter : Invalid → Bool → ℕ → List (List ℕ) → Fault → Type 0
-ComesOfBadAfter policy crlf before bad Memory = ⊤
-ComesOfBadAfter policy crlf before bad (BadLine number text ends more) =
+abbrev pub ComesOfBadAfter : Invalid → Bool → Option Scheme → ℕ → List (List ℕ) → Fault → Type 0
+ComesOfBadAfter policy crlf scheme before bad Memory = ⊤
+ComesOfBadAfter policy crlf scheme before bad (BadLine number text ends more mark) =
     (policy ≡ invalid.Fail) × (number ≡ min (before + 1) (2 ^ 64 - 1))
-    × Reports crlf bad (string_bytes text) ends more
-ComesOfBadAfter policy crlf before bad fault = ⊥
+    × Reports crlf bad (string_bytes text) ends more × MarksFirst scheme crlf bad mark
+ComesOfBadAfter policy crlf scheme before bad fault = ⊥
 
 -- those of the lines without a version that were found, behind a header of so many lines
-abbrev pub ComesOfBad : Invalid → Bool → ℕ → BadLines → Fault → Type 0
-ComesOfBad policy crlf header bad =
-    ComesOfBadAfter policy crlf (header + bad.before) (map (λ line. line.now) bad.lines.items)
+abbrev pub ComesOfBad : Invalid → Bool → Option Scheme → ℕ → BadLines → Fault → Type 0
+ComesOfBad policy crlf scheme header bad =
+    ComesOfBadAfter policy crlf scheme (header + bad.before) (map (λ line. line.now) bad.lines.items)
 
 -- those of some lines
-abbrev pub ComesOfLines : Invalid → Bool → ℕ → Versions → List (List ℕ) → Fault → Type 0
-ComesOfLines policy crlf header versions lines =
-    ComesOfBadAfter policy crlf (header + good_before versions lines) (bad_lines versions lines)
+abbrev pub ComesOfLines : Invalid → Bool → Option Scheme → ℕ → Versions → List (List ℕ) → Fault → Type 0
+ComesOfLines policy crlf scheme header versions lines =
+    ComesOfBadAfter policy crlf scheme (header + good_before versions lines) (bad_lines versions lines)
 
 -- the faults of `match` of `vers`, by the word of its list
 abbrev pub ComesOfMatching : List ℕ → Fault → Type 0
@@ -131,18 +138,19 @@ abbrev pub first_wrong : {V : Type 0} → (List ℕ → Option V) → List (List
 first_wrong read [] = None
 first_wrong read (word ∷ words) = option_or (unless_version read word) (first_wrong read words)
 
--- the faults that words which should be versions can end in, if this is the first that is none
-abbrev pub ComesOfWords : Option (List ℕ) → Fault → Type 0
-ComesOfWords wrong Memory = ⊤
-ComesOfWords wrong (NotVersion text) = wrong ≡ Some text.now
-ComesOfWords wrong fault = ⊥
+-- the faults that words which should be versions can end in, if this is the first that is none, and they are read by a
+-- scheme as they stand
+abbrev pub ComesOfWords : Option Scheme → Option (List ℕ) → Fault → Type 0
+ComesOfWords scheme wrong Memory = ⊤
+ComesOfWords scheme wrong (NotVersion text mark) = (wrong ≡ Some text.now) × IsMark scheme text.now mark
+ComesOfWords scheme wrong fault = ⊥
 
 -- ---- of tasks that answer by their status
 
 -- those of words which should be versions, if this is the first that is none
-abbrev pub ComesOfTestOfTwo : Option (List ℕ) → Fault → Type 0
-ComesOfTestOfTwo wrong (NotTested text) = wrong ≡ Some text.now
-ComesOfTestOfTwo wrong fault = ⊥
+abbrev pub ComesOfTestOfTwo : Option Scheme → Option (List ℕ) → Fault → Type 0
+ComesOfTestOfTwo scheme wrong (NotTested text mark) = (wrong ≡ Some text.now) × IsMark scheme text.now mark
+ComesOfTestOfTwo scheme wrong fault = ⊥
 
 -- those of a word that should be a set
 abbrev pub ComesOfTestedSet : Scheme → List ℕ → Fault → Type 0
@@ -153,7 +161,8 @@ ComesOfTestedSet scheme word fault = ⊥
 -- those of a version and a set, of which the version comes first
 abbrev pub ComesOfTestOfSet : Spelling → List ℕ → List ℕ → Fault → Type 0
 ComesOfTestOfSet spelling version set Memory = ⊤
-ComesOfTestOfSet spelling version set (NotTested text) = (text.now ≡ version) × (spelled spelling version ≡ None)
+ComesOfTestOfSet spelling version set (NotTested text mark) =
+    (text.now ≡ version) × (spelled spelling version ≡ None) × IsMark (plain_scheme spelling) version mark
 ComesOfTestOfSet spelling version set (NotTestedSet wrong) =
     IsSome (spelled spelling version) × IsWrongSet spelling.scheme set wrong
 ComesOfTestOfSet spelling version set fault = ⊥

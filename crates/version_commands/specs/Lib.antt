@@ -16,6 +16,7 @@ pub mod Json
 pub mod Key
 pub mod Label
 pub mod Lists
+pub mod Mark
 pub mod Matched
 pub mod Next
 pub mod Ordered

@@ -3,14 +3,15 @@ use Rattle.std.specs.Prelude.{◌≡◌, ◌++◌, ℕ, Bool, List, [], map, Opt
 use Rattle.version_commands.specs.Arranged.{arranged, placed, policy}
 use Rattle.version_commands.specs.BySchemes.{arranged_by_schemes, version_by}
 use Rattle.version_commands.specs.Choice.{keeps_of}
-use Rattle.std.specs.Option.{option_map}
+use Rattle.std.specs.Option.{option_map, option_map_or}
 use Rattle.version_commands.specs.Inputs.{after_lines, first_lines, joined, names_read, AreInputs, Reading}
 use Rattle.version_commands.specs.Picked.{Versions, bad_lines, has, kept_lines}
-use Rattle.version_commands.specs.Place.{group_text, reads_of}
+use Rattle.version_commands.specs.Place.{group_text, reads_of, scheme_of_lines}
 use Rattle.version_commands.specs.declared.options.Arrangement.{Arrangement}
 use Rattle.version_commands.specs.declared.options.Invalid.TheVariants.{Fail}
 use Rattle.version_commands.specs.declared.options.LineOptions.{LineOptions}
 use Rattle.version_commands.specs.declared.options.VersionPlace.{VersionPlace}
+use Rattle.version_schemes.specs.declared.scheme.Scheme.{Scheme}
 use Rattle.version_lines.specs.Lines.{lines_of, lines_output, whole_line}
 use Rattle.version_lines.specs.Sort.{Reads, version_in}
 use Rattle.version_lines.specs.declared.column.Column.{Column}
@@ -35,6 +36,11 @@ arranged_in reads keeps arrangement options input =
 abbrev pub versions_by : VersionPlace → Option Column → Versions
 versions_by place None = version_in (reads_of place)
 versions_by place (Some column) = version_by place column
+
+-- the scheme by which whole lines are read as they stand, if they are
+abbrev pub scheme_of_line : LineOptions → Option Scheme
+scheme_of_line options =
+    option_map_or (λ column. None) options.scheme_column (scheme_of_lines options.place)
 
 -- the lines that are kept, arranged: those of each scheme, where a column names it
 abbrev pub ordered_by : Option Column → (PlainAny → Bool) → Arrangement → LineOptions → List ℕ → List (List ℕ)

@@ -1,6 +1,6 @@
 -- Where the version of a line stands.
 use Rattle.std.specs.Prelude.{ℕ, ◌-◌, Bool, List, [], Option, Some, None, if◌then◌else◌, length, take}
-use Rattle.std.specs.Option.{unwrap_or}
+use Rattle.std.specs.Option.{option_map_or, unwrap_or}
 use Rattle.std.specs.Str.Lines.{strip_carriage_return}
 use Rattle.version_lines.specs.Column.{column_of}
 use Rattle.version_lines.specs.declared.column.Column.{Column}
@@ -42,7 +42,19 @@ before_named naming text = take (length text - length (named_text naming text)) 
 abbrev pub spelled : Spelling → List ℕ → Option PlainAny
 spelled spelling text = any_of spelling.scheme (named_text spelling.naming text)
 
--- the same of the scheme mixed
+-- the scheme by which texts are read as they stand, and not what a tag or a prefix leaves of them
+abbrev pub scheme_of_whole : Naming → Scheme → Option Scheme
+scheme_of_whole Bare scheme = Some scheme
+scheme_of_whole naming scheme = None
+
+abbrev pub plain_scheme : Spelling → Option Scheme
+plain_scheme spelling = scheme_of_whole spelling.naming spelling.scheme
+
+-- the same of whole lines
+abbrev pub scheme_of_lines : VersionPlace → Option Scheme
+scheme_of_lines place = option_map_or (λ column. None) place.column (scheme_of_whole place.naming place.scheme)
+
+-- the version that a text spells, by the scheme mixed
 abbrev pub spelled_mixed : Naming → List ℕ → Option PlainVersioning
 spelled_mixed naming text = versioning_of (named_text naming text)
 

@@ -127,7 +127,13 @@ fn refuse_none<'w>(question: Question<'_>, options: &EachOptions<'w>) -> Result<
     ensures { (old : Option (List ℕ)) → IfErr result (ComesOfAsking question.entry options.now old) }
 {
     match options.versions.as_slice() {
-        [_before @ .., last] if !has_version(&question, options) => Err(Fault::NotVersion(last)),
+        [_before @ .., last] if !has_version(&question, options) => {
+            let spelling = Spelling {
+                naming: options.naming,
+                scheme: question.scheme(),
+            };
+            Err(Fault::NotVersion(last, spelling.mark(last.as_bytes())))
+        }
         _ => Ok(()),
     }
 }
@@ -174,7 +180,8 @@ fn answer_lines<'w>(
         unanswered: None,
     };
     let bad = pick(alloc, &mut answers, &EveryVersion, options.end, input)?;
-    refuse_first(alloc, options.crlf, 0, &bad)?;
+    let scheme = options.naming.scheme_of_whole(question.scheme());
+    refuse_first(alloc, options.crlf, scheme, 0, &bad)?;
     answers.finish()
 }
 

@@ -1,8 +1,10 @@
 //! Why a task fails.
-ghost use Rattle.std.specs.Prelude.{◌++◌, Some};
+ghost use Rattle.std.specs.Prelude.{◌++◌, [], codes, Some};
 ghost use Rattle.std.specs.Fmt.{DisplaysOnOk};
+ghost use Rattle.version_commands.specs.Mark.{no_version_text};
 ghost use Rattle.version_commands.specs.Quote.{quoted};
 
+use crate::mark::{Mark, MarkLine};
 use crate::quote::Shown;
 use crate::set::WrongSet;
 use std::alloc::AllocError;
@@ -10,18 +12,18 @@ use std::error::Error;
 use std::fmt;
 use version_lines::NotWritten;
 
-/// Why a task failed. It prints as the line that the program `versions` writes to standard error, after its name. Of a word, a line or the name of a file a message shows what is UTF-8 in front of the first
+/// Why a task failed. It prints as what the program `versions` writes to standard error, after its name. Of a word, a line or the name of a file a message shows what is UTF-8 in front of the first
 /// sixty bytes, with control characters escaped.
 #[derive(Debug, PartialEq, Eq, Drop)]
 pub enum Fault<'w> {
     /// The first word that should be a version but is not.
-    NotVersion(&'w str),
+    NotVersion(&'w str, Option<Mark>),
     /// The word that should be a list of requirements but is not.
     NotRequirement(&'w str),
     /// The word that should be a set but is not.
     NotSet(WrongSet<'w>),
     /// The first word that should be a version but is not, of a task that answers by its status.
-    NotTested(&'w str),
+    NotTested(&'w str, Option<Mark>),
     /// The word that should be a set but is not, of such a task.
     NotTestedSet(WrongSet<'w>),
     /// The first line that has no version.
@@ -34,6 +36,8 @@ pub enum Fault<'w> {
         ends_in_return: bool,
         /// How many more such lines there are.
         more: usize,
+        /// Why it is none, where it is read as it stands.
+        mark: Option<Mark>,
     },
     /// The first version that none comes next to at the place, as a message shows it.
     NoNext(String),
@@ -55,12 +59,12 @@ impl Fault<'_> {
         ensures { result ≡ status_of self.now }
     {
         match self {
-            Fault::NotVersion(_)
+            Fault::NotVersion(..)
             | Fault::NotRequirement(_)
             | Fault::NotSet(_)
             | Fault::BadLine { .. }
             | Fault::NoNext(_) => 1,
-            Fault::NotTested(_) | Fault::NotTestedSet(_) => 2,
+            Fault::NotTested(..) | Fault::NotTestedSet(_) => 2,
             Fault::Memory | Fault::Read(_) | Fault::Write(_) => 3,
         }
     }
@@ -74,8 +78,8 @@ impl fmt::Display for Fault<'_> {
 
     fn fmt<W: fmt::Write>(&self, f: &mut fmt::Formatter<W>) -> fmt::Result {
         match self {
-            Fault::NotVersion(word) | Fault::NotTested(word) => {
-                write_word(f, "not a version: ", word)
+            Fault::NotVersion(word, mark) | Fault::NotTested(word, mark) => {
+                write_no_version(f, word, *mark)
             }
             Fault::NotRequirement(word) => write_word(f, "not a requirement: ", word),
             Fault::NotSet(wrong) | Fault::NotTestedSet(wrong) => write!(f, "{wrong}"),
@@ -93,9 +97,24 @@ impl fmt::Display for Fault<'_> {
                 text,
                 ends_in_return: false,
                 more,
+                mark: None,
             } => {
                 let others = Others { more: *more };
                 write!(f, "line {number} is not a version: {text}{others}")
+            }
+            Fault::BadLine {
+                number,
+                text,
+                ends_in_return: false,
+                more,
+                mark: Some(mark),
+            } => {
+                let (why, others) = (mark.reason.text(), Others { more: *more });
+                let line = MarkLine { place: mark.place };
+                write!(
+                    f,
+                    "line {number} is not a version: {why}{others}\n  {text}{line}"
+                )
             }
             Fault::NoNext(text) => write!(f, "no version comes next at that place: {text}"),
             Fault::Memory => write!(f, "no memory"),
@@ -104,6 +123,26 @@ impl fmt::Display for Fault<'_> {
             Fault::Write(None) => write!(f, "write failed"),
         }
     }
+}
+
+// Writes of a word that it is no version, and why, with the word and the mark below.
+fn write_no_version<W: fmt::Write>(
+    f: &mut fmt::Formatter<W>,
+    word: &str,
+    mark: Option<Mark>,
+) -> fmt::Result
+    ensures { DisplaysOnOk W.write_str_gives f.old result
+        (Some (codes "not a version: " ++ no_version_text mark (quoted word.now) [])) f.new }
+{
+    let Some(mark) = mark else {
+        return write_word(f, "not a version: ", word);
+    };
+    let why = mark.reason.text();
+    let shown = Shown {
+        text: word.as_bytes(),
+    };
+    let line = MarkLine { place: mark.place };
+    write!(f, "not a version: {why}\n  {shown}{line}")
 }
 
 // Writes what is wrong with a word, and the word as a message shows it.

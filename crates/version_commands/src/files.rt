@@ -2,6 +2,7 @@
 
 ghost use Rattle.std.specs.Prelude.{◌≡◌, ℕ, List, Option, None, Some, ◌++◌, IfErr, OnOk};
 
+use crate::mark::Mark;
 use version_lines::Trouble;
 
 /// How far a run is.
@@ -19,7 +20,7 @@ pub enum Stage {
 #[derive(Clone, Copy, Debug)]
 pub enum Hint<'w> {
     /// This word is no version, and was left out.
-    NotVersion(&'w str),
+    NotVersion(&'w str, Option<Mark>),
     /// This word of `filter` is a version, and there is no file of that name.
     NoFile(&'w str),
     /// Each version begins with a `v` and a digit, and was compared as a whole.

@@ -113,7 +113,10 @@ pub fn tell_before_last<F: Files>(
     answered: &Result<Vec<u8>, Fault<'_>>,
     files: &F,
 ) {
-    if let (Err(Fault::NotVersion(_)), [before @ .., _]) = (answered, options.versions.as_slice()) {
+    if let (Err(Fault::NotVersion(..)), [before @ .., _]) = (
+        answered,
+        options.versions.as_slice(),
+    ) {
         let spelling = Spelling {
             naming: options.naming,
             scheme: question.scheme(),
@@ -126,7 +129,7 @@ pub fn tell_before_last<F: Files>(
 fn tell_others<F: Files>(spelling: &Spelling<'_>, words: &[&str], files: &F) {
     for word in words {
         if spelling.version(word.as_bytes()).is_none() {
-            files.hint(Hint::NotVersion(word));
+            files.hint(Hint::NotVersion(word, spelling.mark(word.as_bytes())));
         }
     }
 }

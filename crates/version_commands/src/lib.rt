@@ -18,6 +18,7 @@ mod json;
 mod key;
 mod label;
 mod lists;
+mod mark;
 mod matched;
 mod next;
 mod options;
@@ -36,6 +37,7 @@ mod write;
 
 pub use faults::Fault;
 pub use files::{Files, Hint, NoFiles, Stage};
+pub use mark::Mark;
 pub use options::{
     Arrangement, Choice, EachOptions, Invalid, Labels, LineOptions, Lists, Naming, Operator,
     Question, Spelling, Step, Task, VersionPlace,

@@ -1,12 +1,14 @@
 //! Where the version of a line stands.
 ghost use Rattle.std.specs.Prelude.{◌≡◌, IsTrue};
 ghost use Rattle.std.specs.Option.{option_map};
-ghost use Rattle.version_commands.specs.Place.{before_named, column_text, line_text, named_text, place_text, reads_of, spelled, spelled_mixed, text_of};
+ghost use Rattle.version_commands.specs.Mark.{IsMark};
+ghost use Rattle.version_commands.specs.Place.{before_named, column_text, line_text, named_text, place_text, plain_scheme, reads_of, scheme_of_lines, scheme_of_whole, spelled, spelled_mixed, text_of};
 ghost use Rattle.version_lines.specs.Sort.{version_in};
 ghost use Rattle.version_schemes.specs.any.AnyVersion.{plain_any};
 ghost use Rattle.version_schemes.specs.declared.scheme.Scheme.TheVariants.{Mixed};
 ghost use Rattle.version_texts.specs.versioning_ref.VersioningRef.{plain_versioning_ref};
 
+use crate::mark::Mark;
 use crate::options::{Naming, Spelling, VersionPlace};
 use version_lines::{Column, GroupBy, SortBy};
 use version_schemes::{AnyVersion, Scheme};
@@ -46,6 +48,16 @@ impl VersionPlace<'_> {
         AnyVersion::read(self.scheme, self.text(line))
     }
 
+    /// Returns the scheme by which whole lines are read as they stand, if they are.
+    pub fn scheme_of_lines(&self) -> Option<Scheme>
+        ensures { result ≡ scheme_of_lines self.now }
+    {
+        match self.column {
+            Some(_) => None,
+            None => self.naming.scheme_of_whole(self.scheme),
+        }
+    }
+
     // Returns the text that names the version of a line.
     #[inline(always)]
     fn place_text<'a>(&self, line: &'a [u8]) -> &'a [u8]
@@ -62,6 +74,13 @@ impl Spelling<'_> {
     {
         AnyVersion::read(self.scheme, self.naming.text(text))
     }
+
+    /// Returns the mark of a text that spells no version.
+    pub fn mark(&self, text: &[u8]) -> Option<Mark>
+        ensures { IsMark (plain_scheme self.now) text.now result }
+    {
+        Mark::of(self.naming.scheme_of_whole(self.scheme), text)
+    }
 }
 
 impl Naming<'_> {
@@ -70,6 +89,16 @@ impl Naming<'_> {
         ensures { option_map plain_versioning_ref result ≡ spelled_mixed self.now text.now }
     {
         VersioningRef::from_bytes(self.text(text))
+    }
+
+    /// Returns the scheme by which texts are read as they stand, and not what a tag or a prefix leaves of them.
+    pub fn scheme_of_whole(&self, scheme: Scheme) -> Option<Scheme>
+        ensures { result ≡ scheme_of_whole self.now scheme }
+    {
+        match self {
+            Naming::Bare => Some(scheme),
+            Naming::Tag | Naming::Prefix(_) => None,
+        }
     }
 
     /// Returns what stands before the text of the version in a text.

@@ -1,17 +1,18 @@
 //! What a task does over any files, reader and writer.
-ghost use Rattle.std.specs.Prelude.{◌≡◌, ◌∷◌, [], false, true, IfErr, IfOk};
+ghost use Rattle.std.specs.Prelude.{◌≡◌, ◌∷◌, [], false, true, IfErr, IfOk, OnOk};
 ghost use Rattle.version_commands.specs.Cause.{ComesOf, ComesOfChanges};
 ghost use Rattle.version_commands.specs.Compare.{comparison_line};
 ghost use Rattle.version_commands.specs.Explain.{explained_line};
 ghost use Rattle.version_commands.specs.Difference.{difference_line};
 ghost use Rattle.version_commands.specs.Early.{IfOfWord, UnlessLate};
 ghost use Rattle.version_commands.specs.Ends.{Ends};
-ghost use Rattle.version_commands.specs.Fault.{first_wrong, ComesOfWords};
+ghost use Rattle.version_commands.specs.Fault.{first_wrong, ComesOfBad, ComesOfWords};
 ghost use Rattle.version_commands.specs.Files.{AltersAtMost, Leaves};
 ghost use Rattle.version_commands.specs.Inputs.{reads_standard};
 ghost use Rattle.version_commands.specs.Lists.{names_of};
 ghost use Rattle.version_commands.specs.Output.{asks_reader, file_of, Answers, AreChanges, IsLineOfTwo, IsOutput};
-ghost use Rattle.version_commands.specs.Place.{spelled, spelled_mixed};
+ghost use Rattle.version_commands.specs.Place.{plain_scheme, scheme_of_lines, scheme_of_whole, spelled, spelled_mixed};
+ghost use Rattle.version_schemes.specs.declared.scheme.Scheme.TheVariants.{Mixed};
 ghost use Rattle.version_commands.specs.Test.{answer_line};
 ghost use Rattle.version_lines.specs.Lines.{line_feed};
 
@@ -28,7 +29,8 @@ use crate::inputs::read_inputs;
 use crate::label::write_labels;
 use crate::lists::{add_lists, read_names};
 use crate::matched::write_matched;
-use crate::options::{Lists, Naming, Spelling, Task};
+use crate::options::{Invalid, Lists, Naming, Spelling, Task};
+use crate::pick::BadLines;
 use crate::test::{answer_line, implies, meets, test_set, test_two};
 use crate::word::{mixed_of_word, version_of_word};
 use crate::write::write_answer;
@@ -139,7 +141,7 @@ fn comparison<'w>(
 ) -> Result<&'static [u8], Fault<'w>>
     ensures output { IfOk result (λ line.
         IsLineOfTwo (spelled spelling.now) (comparison_line line_feed) first.now second.now line.now) }
-    ensures faults { IfErr result (ComesOfWords (first_wrong (spelled spelling.now) (first.now ∷ second.now ∷ []))) }
+    ensures faults { IfErr result (ComesOfWords (plain_scheme spelling.now) (first_wrong (spelled spelling.now) (first.now ∷ second.now ∷ []))) }
 {
     let first = version_of_word(spelling, first)?;
     let second = version_of_word(spelling, second)?;
@@ -155,7 +157,7 @@ fn explanation<'w>(
 ) -> Result<Vec<u8>, Fault<'w>>
     ensures output { IfOk result (λ output.
         IsLineOfTwo (spelled_mixed naming.now) (explained_line line_feed) first.now second.now output.items) }
-    ensures faults { IfErr result (ComesOfWords (first_wrong (spelled_mixed naming.now) (first.now ∷ second.now ∷ []))) }
+    ensures faults { IfErr result (ComesOfWords (scheme_of_whole naming.now Mixed) (first_wrong (spelled_mixed naming.now) (first.now ∷ second.now ∷ []))) }
 {
     let first = mixed_of_word(naming, first)?;
     let second = mixed_of_word(naming, second)?;
@@ -173,7 +175,7 @@ fn difference<'w>(
 ) -> Result<Vec<u8>, Fault<'w>>
     ensures output { IfOk result (λ output.
         IsLineOfTwo (spelled_mixed naming.now) (difference_line line_feed) first.now second.now output.items) }
-    ensures faults { IfErr result (ComesOfWords (first_wrong (spelled_mixed naming.now) (first.now ∷ second.now ∷ []))) }
+    ensures faults { IfErr result (ComesOfWords (scheme_of_whole naming.now Mixed) (first_wrong (spelled_mixed naming.now) (first.now ∷ second.now ∷ []))) }
 {
     let first = mixed_of_word(naming, first)?;
     let second = mixed_of_word(naming, second)?;
@@ -198,9 +200,19 @@ fn changes<'w, F: Files, R: Read>(
     let new = read_inputs(alloc, &[lists.new], lists.end, files, reader)?;
     let (old_names, old_bad) = read_names(alloc, lists, old.as_slice())?;
     let (new_names, new_bad) = read_names(alloc, lists, new.as_slice())?;
-    refuse_if(alloc, lists.invalid, lists.place.crlf, 0, &old_bad)?;
-    refuse_if(alloc, lists.invalid, lists.place.crlf, 0, &new_bad)?;
+    refuse_of_list(alloc, lists, &old_bad)?;
+    refuse_of_list(alloc, lists, &new_bad)?;
     let mut output = Vec::new(alloc);
     add_lists(&old_names, &new_names, lists.end, &mut output)?;
     Ok(output)
+}
+
+// Fails with the first line of a list that has no version, if there is one and the options ask for that.
+fn refuse_of_list<'w>(alloc: Global, lists: &Lists<'_>, bad: &BadLines<'_>) -> Result<(), Fault<'w>>
+    ensures none { OnOk result (lists.now.invalid ≡ Invalid.Fail → bad.now.lines.items ≡ []) }
+    ensures faults { IfErr result (ComesOfBad lists.now.invalid lists.now.place.crlf
+        (scheme_of_lines lists.now.place) 0 bad.now) }
+{
+    let scheme = lists.place.scheme_of_lines();
+    refuse_if(alloc, lists.invalid, lists.place.crlf, scheme, 0, bad)
 }

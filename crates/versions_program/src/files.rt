@@ -3,7 +3,7 @@
 use std::cell::Cell;
 use std::fs;
 use std::io::{self, Read, Write};
-use version_commands::{Files, Hint, Shown, Stage};
+use version_commands::{Fault, Files, Hint, Shown, Stage};
 use version_lines::{Trouble, read_onto, write_whole};
 
 /// The files of the system, and why it refused one. What they hold is not known to any contract.
@@ -97,11 +97,9 @@ impl Files for SystemFiles<'_> {
 
     fn hint(&self, hint: Hint<'_>) {
         let _ = match hint {
-            Hint::NotVersion(word) => {
-                let shown = Shown {
-                    text: word.as_bytes(),
-                };
-                eprintln!(self.rt; "versions: not a version: {shown}")
+            Hint::NotVersion(word, mark) => {
+                let fault = Fault::NotVersion(word, mark);
+                eprintln!(self.rt; "versions: {fault}")
             }
             Hint::NoFile(word) => {
                 let shown = Shown {

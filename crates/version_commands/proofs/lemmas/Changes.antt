@@ -7,7 +7,7 @@ use Rattle.version_commands.specs.Inputs.{joined, AreInputs, IsInput, Reading}
 use Rattle.version_commands.specs.Lists.{bad_lines_of, difference_text, names_of, rows_of}
 use Rattle.version_commands.specs.Output.{AreChanges}
 use Rattle.version_commands.specs.Picked.{bad_lines, AreBadOf}
-use Rattle.version_commands.specs.Place.{reads_of}
+use Rattle.version_commands.specs.Place.{reads_of, scheme_of_lines}
 use Rattle.version_commands.specs.declared.faults.Fault.{Fault}
 use Rattle.version_commands.specs.declared.faults.Fault.TheVariants.{BadLine}
 use Rattle.version_commands.specs.declared.options.Invalid.TheVariants.{Fail}
@@ -49,7 +49,7 @@ are-changes lists reads old between new first second before after output read is
 pub input-bad : (lists : Lists) (text input : List ℕ) (bad : BadLines)
     → input ≡ joined lists.end (text ∷ [])
     → AreBadOf (version_in (reads_of lists.place)) (lines_of lists.end input) bad
-    → (fault : Fault) → ComesOfBad lists.invalid lists.place.crlf 0 bad fault
+    → (fault : Fault) → ComesOfBad lists.invalid lists.place.crlf (scheme_of_lines lists.place) 0 bad fault
     → ComesOfOne lists text fault
 input-bad lists text input bad whole are fault is = grind (arith, lines-bad)
 
@@ -67,19 +67,20 @@ input-good lists text input bad whole (same, before) none =
 pub changes-bad : (lists : Lists) (reads : Reading) (old between new : Option (List ℕ))
     (first second : List ℕ) (bad : BadLines) → IsInput reads old between lists.old.now first
     → IsInput reads between new lists.new.now second
-    → ((fault : Fault) → lists.invalid ≡ Fail → ComesOfBad lists.invalid lists.place.crlf 0 bad fault
+    → ((fault : Fault) → lists.invalid ≡ Fail → ComesOfBad lists.invalid lists.place.crlf (scheme_of_lines lists.place) 0 bad fault
     → ComesOfEither lists first second fault)
-    → (fault : Fault) → ComesOfBad lists.invalid lists.place.crlf 0 bad fault
+    → (fault : Fault) → ComesOfBad lists.invalid lists.place.crlf (scheme_of_lines lists.place) 0 bad fault
     → ComesOfChanges lists reads old fault
 changes-bad lists reads old between new first second bad one other of_either =
-    bad-cases (ComesOfChanges lists reads old) lists.invalid lists.place.crlf (0 + bad.before)
+    bad-cases (ComesOfChanges lists reads old) lists.invalid lists.place.crlf
+    (scheme_of_lines lists.place) (0 + bad.before)
     (map (λ (line : Bor (List ℕ)). line.now) bad.lines.items) tt
-    (λ number text ends more is. (
+    (λ number text ends more mark is. (
       new,
       first,
       second,
       (between, one, (new, other, refl)),
-      of_either (BadLine number text ends more) is.0 is,
+      of_either (BadLine number text ends more mark) is.0 is,
     ))
 
 -- a name among those of one list is among those of both

@@ -50,12 +50,12 @@ at-once versions keeps options input leaves skips no_file left output is =
 -- the file for lines without a version is to blame
 pub put-faults : (options : LineOptions) (versions : Versions) (input : List ℕ)
     (fault : Fault) → ComesOfPut options fault → ComesOfArranged options versions input fault
-put-faults options versions input (NotVersion text) is = absurd is
+put-faults options versions input (NotVersion text mark) is = absurd is
 put-faults options versions input (NotRequirement text) is = absurd is
 put-faults options versions input (NotSet wrong) is = absurd is
-put-faults options versions input (NotTested text) is = absurd is
+put-faults options versions input (NotTested text mark) is = absurd is
 put-faults options versions input (NotTestedSet wrong) is = absurd is
-put-faults options versions input (BadLine number text ends more) is = absurd is
+put-faults options versions input (BadLine number text ends more mark) is = absurd is
 put-faults options versions input (NoNext text) is = absurd is
 put-faults options versions input Memory is = is
 put-faults options versions input (Read name) is = absurd is
@@ -96,13 +96,13 @@ module _ (arrangement : Arrangement) (options : LineOptions) (files : Reading)
 
   pub ordered-faults : (fault : Fault) → ComesOfArranged options (versions_by options.place options.scheme_column) body fault
       → ComesOfArranging arrangement options files old fault
-  ordered-faults (NotVersion text) comes = since-read (NotVersion text) comes
+  ordered-faults (NotVersion text mark) comes = since-read (NotVersion text mark) comes
   ordered-faults (NotRequirement text) comes = since-read (NotRequirement text) comes
   ordered-faults (NotSet wrong) comes = absurd comes
-  ordered-faults (NotTested text) comes = since-read (NotTested text) comes
+  ordered-faults (NotTested text mark) comes = since-read (NotTested text mark) comes
   ordered-faults (NotTestedSet wrong) comes = since-read (NotTestedSet wrong) comes
-  ordered-faults (BadLine number text ends more) comes =
-      since-read (BadLine number text ends more) comes
+  ordered-faults (BadLine number text ends more mark) comes =
+      since-read (BadLine number text ends more mark) comes
   ordered-faults (NoNext text) comes = since-read (NoNext text) comes
   ordered-faults Memory comes = tt
   ordered-faults (Read name) comes = absurd comes

@@ -73,11 +73,11 @@ pub of_word : (scheme : Scheme) (word : Bor (List ℕ)) (fault : Fault) → Come
 of_word scheme word (NotSet wrong) comes =
     rw (wrong_none scheme word.now (wrong.place, wrong.reason) comes.fault_is) comes
 of_word scheme word Memory comes = tt
-of_word scheme word (NotVersion text) comes = absurd comes
+of_word scheme word (NotVersion text mark) comes = absurd comes
 of_word scheme word (NotRequirement text) comes = absurd comes
-of_word scheme word (NotTested text) comes = absurd comes
+of_word scheme word (NotTested text mark) comes = absurd comes
 of_word scheme word (NotTestedSet wrong) comes = absurd comes
-of_word scheme word (BadLine number text ends more) comes = absurd comes
+of_word scheme word (BadLine number text ends more mark) comes = absurd comes
 of_word scheme word (NoNext text) comes = absurd comes
 of_word scheme word (Read name) comes = absurd comes
 of_word scheme word (Write name) comes = absurd comes
@@ -88,11 +88,11 @@ pub of_first : (scheme : Scheme) (one other : Option (List ℕ)) (fault : Fault)
 of_first scheme (Some word) other fault comes = comes
 of_first scheme None other (NotSet wrong) comes = absurd comes
 of_first scheme None other Memory comes = tt
-of_first scheme None other (NotVersion text) comes = absurd comes
+of_first scheme None other (NotVersion text mark) comes = absurd comes
 of_first scheme None other (NotRequirement text) comes = absurd comes
-of_first scheme None other (NotTested text) comes = absurd comes
+of_first scheme None other (NotTested text mark) comes = absurd comes
 of_first scheme None other (NotTestedSet wrong) comes = absurd comes
-of_first scheme None other (BadLine number text ends more) comes = absurd comes
+of_first scheme None other (BadLine number text ends more mark) comes = absurd comes
 of_first scheme None other (NoNext text) comes = absurd comes
 of_first scheme None other (Read name) comes = absurd comes
 of_first scheme None other (Write name) comes = absurd comes

@@ -10,4 +10,4 @@ returns-in-len1-up c = λ old.
     let none : has_version c.args.question c.args.options.now ≡ false = search rules in
     let some : 1 ≤ length words = search rules in
     let d : Bor (List ℕ) = record { ref_ptr = (0, 0); now = [] } in
-    (none, map (λ (word : Bor (List ℕ)). word.now) (take (length words - 1) words), rw same (last-apart words d some))
+    (search rules, none, map (λ (word : Bor (List ℕ)). word.now) (take (length words - 1) words), rw same (last-apart words d some))

@@ -27,9 +27,9 @@ returns-clause-output g c =
     one first_is other second_is
     (λ asked. (
       input-good lists first before c.in_ok-old_names.old_bad first_is
-          c.in_ok-old_names.ensures.bad (c.in_ok-refuse_if.ensures.none asked),
+          c.in_ok-old_names.ensures.bad (c.in_ok-refuse_of_list.ensures.none asked),
       input-good lists second after c.in_ok-new_names.new_bad second_is
-          c.in_ok-new_names.ensures.bad (c.in_ok-refuse_if-2.ensures.none asked),
+          c.in_ok-new_names.ensures.bad (c.in_ok-refuse_of_list-2.ensures.none asked),
     ))
     (added
     ∙ ap (λ (l : List ℕ). l ++ difference_text lists.end (rows_of lists before) (rows_of lists after))
@@ -49,10 +49,10 @@ returns-in_err-new-clause-faults g c =
     (reading-weaker reads (new ∷ []) (names_of lists) (of-second lists.old.now new) fault is))
     (search rules)
 
-pub returns-in_err-refuse_if-clause-faults : goal.returns-in_err-refuse_if-clause-faults
-returns-in_err-refuse_if-clause-faults g c =
+pub returns-in_err-refuse_of_list-clause-faults : goal.returns-in_err-refuse_of_list-clause-faults
+returns-in_err-refuse_of_list-clause-faults g c =
     grind (arith, one-input, IfErr-weaker, changes-bad, input-bad)
 
-pub returns-in_err-refuse_if-2-clause-faults : goal.returns-in_err-refuse_if-2-clause-faults
-returns-in_err-refuse_if-2-clause-faults g c =
+pub returns-in_err-refuse_of_list-2-clause-faults : goal.returns-in_err-refuse_of_list-2-clause-faults
+returns-in_err-refuse_of_list-2-clause-faults g c =
     grind (arith, one-input, IfErr-weaker, changes-bad, input-good, input-bad)
