@@ -20,7 +20,8 @@ is_version scheme text = is_some ((rules scheme).read_as text)
 
 -- a mark of a scheme: it stands between parts, and begins none
 abbrev pub is_mark : Scheme → ℕ → Bool
-is_mark Mixed b = b == hyphen || (b == plus || (b == dot || (b == colon || (b == underscore || b == tilde))))
+is_mark Mixed b =
+    b == hyphen || (b == plus || (b == dot || (b == colon || (b == underscore || b == tilde))))
 is_mark Deb b = b == hyphen || b == colon
 is_mark Rpm b = b == hyphen || b == colon
 is_mark Pypi b = b == hyphen || (b == plus || (b == dot || (b == underscore || b == 33)))
@@ -73,7 +74,8 @@ reason_at scheme text place =
 -- what keeps a text from being a version: how far it could become one, and why no further
 abbrev pub IsFlaw : Scheme → List ℕ → ℕ → Reason → Type 0
 IsFlaw scheme text place reason =
-    (is_version scheme text ≡ false) × (IsLongestViable (is_version scheme) text place) × (reason ≡ reason_at scheme text place)
+    (is_version scheme text ≡ false) × (IsLongestViable (is_version scheme) text place)
+    × (reason ≡ reason_at scheme text place)
 
 -- ---- what is said of it
 

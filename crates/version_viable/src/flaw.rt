@@ -53,9 +53,9 @@ pub struct Flaw {
 }
 
 impl Flaw {
-    /// Returns what keeps a text from being a version of a scheme, for those who mend it; None for a version. Of
-    /// `1.2.3-` that is at 6 (nothing after the hyphen), of `1..2` at 2 (an empty part), of `1.2.3 ` at 5 (a blank), all
-    /// of `mixed`. Takes time linear in the text. Does not allocate.
+    /// Returns what keeps a text from being a version of a scheme, for those who mend it; None for a version. In `mixed`
+    /// it is of `1.2.3-` at 6 (nothing after the hyphen), of `1..2` at 2 (an empty part), of `1.2.3 ` at 5 (a blank).
+    /// Takes time linear in the text. Does not allocate.
     pub fn of(scheme: Scheme, text: &[u8]) -> Option<Flaw>
         ensures none { IfNone result (is_version scheme text.now ≡ true) }
         ensures some { IfSome result (λ flaw. IsFlaw scheme text.now flaw.place flaw.reason) }

@@ -12,5 +12,6 @@ is_some_mapped f (Some x) = refl
 pub returns-then-is_some-clause-none : goal.returns-then-is_some-clause-none
 returns-then-is_some-clause-none c =
     let read : is_some c.read.result ≡ true = search rules in
-    sym (is_some_mapped (with_key c.args.scheme c.args.text.now) ((rules_of c.args.scheme).read_as c.args.text.now))
+    let keyed = with_key c.args.scheme c.args.text.now in
+    sym (is_some_mapped keyed ((rules_of c.args.scheme).read_as c.args.text.now))
     ∙ sym (ap is_some c.read.ensures) ∙ is_some_mapped plain_any c.read.result ∙ read
