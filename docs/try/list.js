@@ -52,9 +52,14 @@ export function drawProgress({ doing, done, of }) {
   at("doing").textContent = `${doing} the list …`;
 }
 
-/* That a line is no version. Its reason and place go into the last element, once the library gives them. */
-const sayNone = ({ line, text }, act) =>
-  element("li", "", button(`Line ${told(line)}`, act), " ", quoted(text), " is no version.", element("span", "why"));
+/* What keeps a text from being a version, and where; of a line without a version in a tag the library says nothing. */
+const sayWhy = ({ text, place, reason }) =>
+  reason === null ? "" : `: ${reason}${place === text.length ? "" : ` at character ${told(place + 1)}`}`;
+
+function sayNone(its, act) {
+  const why = element("span", "why", sayWhy(its));
+  return element("li", "", button(`Line ${told(its.line)}`, act), " ", quoted(its.text), " is no version", why, ".");
+}
 
 function drawNone(lines, others, isHeld) {
   const shown = lines.slice(0, NONE).map((its) => sayNone(its, () => select(its.line)));

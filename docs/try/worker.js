@@ -84,6 +84,12 @@ function read(its, make, Invalid) {
   }
 }
 
+/* How far a line could become a version, and why no further; null of both where versions are those in tags. */
+function flawOf(line, scheme, tags) {
+  const { place, reason } = tags ? { place: null, reason: null } : new versions.InvalidVersion(line, scheme);
+  return { place, reason };
+}
+
 /* Which versions a requirement or a set has: how many, and which of them is the newest. */
 async function hasOf(number, doing, it, { texts }, options) {
   if (it === null) return { has: [], hits: null, newest: null };
@@ -126,7 +132,7 @@ async function list({ list: typed, scheme, tags, wanted, set }) {
     order: sorted.order,
     count,
     others: lines.length - count,
-    none: none.map((place) => ({ line: numbers[place], text: lines[place] })),
+    none: none.map((place) => ({ line: numbers[place], text: lines[place], ...flawOf(lines[place], scheme, tags) })),
     like,
     wanted: requirement && {
       hits: matching.hits, newest: matching.newest, conflict: requirement.conflict, range: rangeOf(requirement, sorted),
