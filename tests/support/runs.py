@@ -116,6 +116,13 @@ NO_PARTS = "versions of this scheme have no parts, which ~, ^ and .* ask for"
 MORE = "\n\nFor more information, try '--help'.\n"
 OPERATORS = "[possible values: <, <=, =, >=, >, lt, le, eq, ge, gt]"
 STABILITIES = "[possible values: dev, alpha, beta, rc, stable]"
+def none(place, reason, text, what="not a version"):
+    """What a fault says of a text that is none, with a mark under a place that counts from 0."""
+    return f"versions: {what}: {reason}\n  {text}\n  {' ' * place}^\n"
+
+
+EMPTY_PART, BLANK, TOO_EARLY = "an empty part", "a blank", "an end too early"
+CONTROL, NOT_ASCII, OTHER = "a control character", "a character past ASCII", "a character that can't stand there"
 # Why the system refuses a file, by its number.
 REFUSED = {number: f"{os.strerror(number)} (os error {number})" for number in (2, 20, 21, 28)}
 PLACES = "[possible values: major, minor, patch, release, pre, a number from 0]"
@@ -177,19 +184,19 @@ VERSIONS = (
     Run("compare --scheme deb 1.0 1.0~rc1", "", ">\n"),
     Run("compare --explain 1.10 1.9", "", "1.10 > 1.9: the second number, 10 > 9\n"),
     Run("diff 1.2.3 1.2.3-rc.1", "", "tail\n"),
-    Run("sort", "1.1\nx y\n1.0\n", status=1, fault="versions: line 2 is not a version: x y\n"),
-    Run("sort", "1.2\t\n", status=1, fault="versions: line 1 is not a version: 1.2\\t\n"),
+    Run("sort", "1.1\nx y\n1.0\n", status=1, fault=none(1, BLANK, "x y", "line 2 is not a version")),
+    Run("sort", "1.2\t\n", status=1, fault=none(3, BLANK, "1.2\\t", "line 1 is not a version")),
     Run("show", "1.0\r\n", status=1, fault="versions: line 1 ends in a carriage return: --crlf\n"),
-    Run("key 1..2", status=1, fault="versions: not a version: 1..2\n"),
-    Run("key . 1.2.3 1..2", "", "000301310203013202030133020202\n", 1, "versions: not a version: .\nversions: not a version: 1..2\n"),
-    Run("compare 1 .", status=1, fault="versions: not a version: .\n"),
-    Run("sort --scheme semver", "1.0.0\n1.0\n", status=1, fault="versions: line 2 is not a version: 1.0\n"),
-    Run("compare --scheme deb 1 1_0", status=1, fault="versions: not a version: 1_0\n"),
+    Run("key 1..2", status=1, fault=none(2, EMPTY_PART, "1..2")),
+    Run("key . 1.2.3 1..2", "", "000301310203013202030133020202\n", 1, none(0, EMPTY_PART, ".") + none(2, EMPTY_PART, "1..2")),
+    Run("compare 1 .", status=1, fault=none(0, EMPTY_PART, ".")),
+    Run("sort --scheme semver", "1.0.0\n1.0\n", status=1, fault=none(3, TOO_EARLY, "1.0", "line 2 is not a version")),
+    Run("compare --scheme deb 1 1_0", status=1, fault=none(1, OTHER, "1_0")),
     Run("filter --scheme deb ^1.2", "1.2\n", status=1, fault=f"versions: not a set: ^1.2; at byte 2: {NO_PARTS}\n"),
     Run("compare --explain --scheme deb 1 2", status=2, fault=f"{WITH_SCHEME}{MORE}"),
     Run("sort --scheme-column 1 --scheme deb", status=2, fault=f"{WITH_SCHEME_COLUMN}{MORE}"),
     Run("filter >=1.0,", "1.0\n", status=1, fault=f"versions: not a set: >=1.0,; at byte 7: {NO_MEMBER}\n"),
-    Run("test 1 lt 'x y'", status=2, fault="versions: not a version: x y\n"),
+    Run("test 1 lt 'x y'", status=2, fault=none(1, BLANK, "x y")),
     Run("meets * 1.2", status=2, fault=f"versions: not a set: 1.2; at byte 1: {NO_OPERATOR}\n"),
     Run("next minor --word rc 1.2.3", status=2, fault=f"error: the argument '--word <W>' takes the place 'pre' alone{MORE}"),
     Run("next 3 1.2.3", status=1, fault="versions: no version comes next at that place: 1.2.3\n"),

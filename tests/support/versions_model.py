@@ -159,7 +159,20 @@ class Run:
         try:
             return versions.Version(self.spelled([word.encode()])[0] or "", scheme=self.scheme)
         except versions.InvalidVersion:
-            raise Ended(status, b"not a version: " + shown(word.encode())) from None
+            said, below = self.told(word.encode(), word.encode(), not NAMING & {*self.options})
+            raise Ended(status, b"not a version: " + said + below) from None
+
+    def told(self, text, line, is_whole):
+        """What is said of a text that is none: its line; or why it is none, and below the line with a mark."""
+        if not is_whole:
+            return shown(line), b""
+        try:
+            versions.Version(readable(text), scheme=self.scheme)
+        except versions.InvalidVersion as error:
+            before = text[: error.place]
+            marked = len(before) <= SHOWN and all(32 <= byte <= 126 for byte in before)
+            below = b"\n  " + shown(line) + (b"\n  " + b" " * len(before) + b"^" if marked else b"")
+            return error.reason.encode(), below
 
     def version_set(self, word, status=1):
         try:
@@ -180,10 +193,12 @@ class Run:
         bad = [place for place, text in enumerate(texts) if text is None]
         if bad and asked == "fail":
             line, number = lines[bad[0]], header + bad[0] + 1
-            text = b"line %d is not a version: %s" % (number, shown(line))
+            is_whole = not (NAMING | {"key", "scheme-column", "lists"}) & {*self.options}
+            said, below = self.told(self.column(line, None), line, is_whole)
+            text = b"line %d is not a version: %s" % (number, said)
             if "crlf" not in self.options and line.endswith(b"\r"):
-                text = b"line %d ends in a carriage return: --crlf" % number
-            raise Ended(1, text + (b" (and %d more)" % (len(bad) - 1) if len(bad) > 1 else b""))
+                text, below = b"line %d ends in a carriage return: --crlf" % number, b""
+            raise Ended(1, text + (b" (and %d more)" % (len(bad) - 1) if len(bad) > 1 else b"") + below)
         return [lines[place] for place in bad]
 
     def lines(self, files, default, arrange):
