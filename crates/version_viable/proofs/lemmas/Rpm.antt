@@ -310,10 +310,6 @@ module _ (text run rest : List ℕ) (run_is : run ≡ take_while is_of_rpm text)
 
 -- ---- what may follow a version
 
-pub no_hyphen : (text : List ℕ) → begins (λ b. b == hyphen) text ≡ false → IsLeft is_release_tail text text
-no_hyphen text none = stays is_release_tail text [] refl
-    (λ byte after e more. ap (λ (b : Bool). b && is_version more) (ap (begins (λ b. b == hyphen)) (sym e) ∙ none))
-
 pub after_hyphen : (text more run rest : List ℕ) → text ≡ hyphen ∷ more → run ≡ take_while is_of_rpm more
     → rest ≡ drop (prefix_len is_of_rpm more) more → IsLeft is_release_tail text rest
 after_hyphen text more run rest cut run_is rest_is =
