@@ -8,10 +8,10 @@ use Rattle.vers_words.specs.declared.faults.Fault.TheVariants.{Usage, Task}
 
 -- the text of the fault of a task: words stand there whole, and nothing more of a line than its number
 abbrev pub task_fault_text : commands.Fault → List ℕ
-task_fault_text (NotVersion word mark) = codes "not a version: " ++ word.now
+task_fault_text (NotVersion word remark) = codes "not a version: " ++ word.now
 task_fault_text (NotRequirement word) = codes "not a requirement: " ++ word.now
-task_fault_text (BadLine number text ends_in_return more mark) =
-    codes "line " ++ (decimal number ++ codes " is not a version")
+task_fault_text (BadLine bad) =
+    codes "line " ++ (decimal bad.number ++ codes " is not a version")
 task_fault_text (Read name) = codes "read failed"
 task_fault_text fault = task.fault_text fault
 

@@ -14,7 +14,7 @@ use Rattle.version_commands.specs.declared.options.Naming.TheVariants.{Bare}
 use Rattle.version_commands.specs.declared.options.Question.TheVariants.{Key}
 use Rattle.version_commands.specs.declared.options.Task as options
 use Rattle.version_commands.specs.declared.options.Task.TheVariants.{Compare, Each, Label, Lines, Match}
-use Rattle.version_lines.specs.Lines.{line_feed}
+use Rattle.version_lines.specs.Lines.{line_feed, plain_end}
 use Rattle.version_schemes.specs.declared.scheme.Scheme.TheVariants.{Mixed}
 use Rattle.version_tasks.specs.declared.stability.Stability.TheVariants.{Dev}
 
@@ -29,13 +29,16 @@ are_command (name ∷ first ∷ second ∷ third ∷ others) = false
 
 -- Lines are those of standard input, each of which has to be a version.
 pub record ArePlain (options : LineOptions) : Type 0 where
-  pub end_is : options.end ≡ line_feed
+  pub end_is : options.end ≡ plain_end line_feed
   pub crlf_is : options.place.crlf ≡ false
   pub column_is : options.place.column ≡ None
   pub naming_is : options.place.naming ≡ Bare
   pub scheme_is : options.place.scheme ≡ Mixed
   pub header_is : options.header ≡ 0
   pub scheme_column_is : options.scheme_column ≡ None
+  pub version_name_is : options.names.version ≡ None
+  pub group_name_is : options.names.group ≡ None
+  pub scheme_name_is : options.names.scheme ≡ None
   pub least_is : options.choice.least ≡ Dev
   pub wanted_is : options.choice.wanted ≡ None
   pub invalid_is : options.invalid ≡ Fail

@@ -57,7 +57,8 @@ fn write_fault<W: fmt::Write>(
     match fault {
         version_commands::Fault::NotVersion(word, _) => write!(f, "not a version: {word}"),
         version_commands::Fault::NotRequirement(word) => write!(f, "not a requirement: {word}"),
-        version_commands::Fault::BadLine { number, .. } => {
+        version_commands::Fault::BadLine(bad) => {
+            let number = bad.number;
             write!(f, "line {number} is not a version")
         }
         version_commands::Fault::Read(_) => write!(f, "read failed"),

@@ -4,9 +4,10 @@ ghost use Rattle.vers_words.specs.Words.{are_command, ArePlain, Means};
 
 use std::alloc::{AllocError, Global};
 use version_commands::{
-    Arrangement, Choice, EachOptions, Invalid, Labels, LineOptions, Naming, Question, Spelling,
-    Task, VersionPlace,
+    Arrangement, Choice, ColumnNames, EachOptions, Invalid, Labels, LineOptions, Naming, Question,
+    Spelling, Task, VersionPlace,
 };
+use version_lines::{Column, LineEnd, Separators};
 use version_schemes::Scheme;
 use version_tasks::Stability;
 
@@ -70,7 +71,10 @@ fn options<'w>(alloc: Global) -> LineOptions<'w>
     ensures { ArePlain result }
 {
     LineOptions {
-        end: b'\n',
+        end: LineEnd {
+            byte: b'\n',
+            csv: None,
+        },
         header: 0,
         place: VersionPlace {
             crlf: false,
@@ -79,6 +83,15 @@ fn options<'w>(alloc: Global) -> LineOptions<'w>
             scheme: Scheme::Mixed,
         },
         scheme_column: None,
+        names: ColumnNames {
+            first: Column {
+                number: 0,
+                separators: Separators::Blanks,
+            },
+            version: None,
+            group: None,
+            scheme: None,
+        },
         choice: Choice {
             least: Stability::Dev,
             wanted: None,

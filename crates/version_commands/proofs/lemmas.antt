@@ -4,6 +4,7 @@ pub mod Each
 pub mod Ends
 pub mod Fault
 pub mod Fields
+pub mod Header
 pub mod Inputs
 pub mod Lists
 pub mod Ordered

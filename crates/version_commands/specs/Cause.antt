@@ -1,19 +1,19 @@
 -- Why a task fails: what each of its faults comes of. Refused memory and a writer that takes no more
 -- can end any task.
-use Rattle.std.proofs.Common.{Global, String}
-use Rattle.std.specs.Prelude.{◌≡◌, ◌⊎◌, ⊤, ℕ, false, List, [], ◌∷◌, ◌++◌, codes, map, Option, string_bytes}
+use Rattle.std.proofs.Common.{Bor, Global, String}
+use Rattle.std.specs.Prelude.{◌≡◌, ◌⊎◌, ⊤, ℕ, false, List, [], ◌∷◌, ◌++◌, codes, map, Option, None, Some, string_bytes}
 use Rattle.std.specs.Io.KnownBytes.{Consumes, IsAtEnd}
 use Rattle.version_commands.specs.Arranged.{policy}
 use Rattle.version_commands.specs.Choice.{wrong_set}
-use Rattle.version_commands.specs.Each.{has_version, scheme_of, AreTexts, IsFirstWithoutNext, reads_by}
+use Rattle.version_commands.specs.Each.{has_version, place_of, spelling_of, AreTexts, IsFirstWithoutNext}
 use Rattle.version_commands.specs.Fault.{first_wrong, ComesOfLines, ComesOfMatching, ComesOfPut, ComesOfReading, ComesOfSets, ComesOfStandard, ComesOfTestOfSet, ComesOfTestOfSets, ComesOfTestOfTwo, ComesOfWords}
-use Rattle.version_commands.specs.Inputs.{joined, names_read, AreInputs, Reading}
+use Rattle.version_commands.specs.Inputs.{counts_before_last, joined, line_in, names_read, AreInputs, IsLineIn, Reading}
 use Rattle.version_commands.specs.Lists.{bad_lines_of, lines_of_list, names_of}
-use Rattle.version_commands.specs.Ordered.{body_of, scheme_of_line, versions_by}
-use Rattle.version_commands.specs.Mark.{IsMark}
+use Rattle.version_commands.specs.Ordered.{body_of, name_missing, options_in, versions_by}
 use Rattle.version_commands.specs.Picked.{Versions}
-use Rattle.version_commands.specs.Place.{plain_scheme, reads_of, scheme_of_lines, scheme_of_whole, spelled, spelled_mixed}
+use Rattle.version_commands.specs.Place.{mixed_spelling, reads_of, spelled, spelled_mixed}
 use Rattle.version_commands.specs.Quote.{quoted}
+use Rattle.version_commands.specs.Remark.{IsRemark}
 use Rattle.version_commands.specs.Sets.{IsWrongSet}
 use Rattle.version_commands.specs.declared.faults.Fault.{Fault}
 use Rattle.version_commands.specs.declared.faults.Fault.TheVariants as fault
@@ -28,20 +28,38 @@ use Rattle.version_commands.specs.declared.options.Task.{Task}
 use Rattle.version_commands.specs.declared.options.Task.TheVariants as task
 use Rattle.version_commands.specs.declared.options.Invalid.TheVariants.{Fail}
 use Rattle.version_commands.specs.declared.set.WrongSet.{WrongSet}
-use Rattle.version_lines.specs.Lines.{lines_of}
+use Rattle.version_lines.specs.Lines.{lines_of, plain_end}
 use Rattle.version_lines.specs.Sort.{version_in}
-use Rattle.version_schemes.specs.declared.scheme.Scheme.TheVariants.{Mixed}
 
 -- the faults of a run over the lines of an input: of the lines that have no version, or of the file
 -- for these
 abbrev pub ComesOfArranged : LineOptions → Versions → List ℕ → Fault → Type 0
 ComesOfArranged options versions input (fault.Write name) = ComesOfPut options (fault.Write name)
 ComesOfArranged options versions input other =
-    ComesOfLines (policy options) options.place.crlf (scheme_of_line options) options.header versions
+    ComesOfLines (policy options) options.place options.scheme_column None options.header versions
     (lines_of options.end input) other
 
--- the faults of `sort`, `newest` and `filter`: of a word that is no set, of an input, of the lines that
--- have no version, or of the file for these
+-- the same of an input with columns of numbers alone
+abbrev pub ComesOfArrangedOf : LineOptions → List ℕ → Fault → Type 0
+ComesOfArrangedOf options input =
+    ComesOfArranged options (versions_by options.place options.scheme_column) (body_of options input)
+
+-- those of an input: no column has a name that is asked for, or else those with the columns of the names
+abbrev pub ComesOfInput : LineOptions → List ℕ → Fault → Type 0
+ComesOfInput options input fault.Memory = ⊤
+ComesOfInput options input (fault.NoColumn name) = name_missing options input ≡ Some name
+ComesOfInput options input other = (name_missing options input ≡ None)
+    × ComesOfArrangedOf (options_in options input) input other
+
+-- the fault of a line is told by its file and its number there; each other stays
+abbrev pub IsInItsFile : List (List ℕ) → List ℕ → Fault → Fault → Type 0
+IsInItsFile names counts (fault.BadLine bad) (fault.BadLine told) =
+    IsLineIn (line_in names counts bad.number) bad.number told.file told.number × (told.text ≡ bad.text)
+    × (told.remark ≡ bad.remark) × (told.ends_in_return ≡ bad.ends_in_return) × (told.more ≡ bad.more)
+IsInItsFile names counts other told = told ≡ other
+
+-- the faults of `sort`, `newest` and `filter`: of a word that is no set, of an input, of a name that no column has, of
+-- the lines that have no version, or of the file for these
 abbrev pub ComesOfArranging : Arrangement → LineOptions → Reading → Option (List ℕ) → Fault → Type 0
 ComesOfArranging arrangement options files old (fault.NotSet wrong) =
     ComesOfSets options.place.scheme (wrong_set options.place.scheme options.choice arrangement) (fault.NotSet wrong)
@@ -49,10 +67,10 @@ ComesOfArranging arrangement options files old (fault.Read name) =
     ComesOfReading files (names_read (map (λ name. name.now) options.files.items)) (fault.Read name)
 ComesOfArranging arrangement options files old fault.Memory = ⊤
 ComesOfArranging arrangement options files old other =
-    (new : Option (List ℕ)) × (texts : List (List ℕ))
+    (new : Option (List ℕ)) × (texts : List (List ℕ)) × (found : Fault)
     × AreInputs files old new (names_read (map (λ name. name.now) options.files.items)) texts
-    × ComesOfArranged options (versions_by options.place options.scheme_column)
-    (body_of options (joined options.end texts)) other
+    × ComesOfInput options (joined options.end.byte texts) found
+    × IsInItsFile (map (λ name. name.now) options.files.items) (counts_before_last options.end texts) found other
 
 -- this is what is wrong with the question's word for its set
 abbrev pub HasWrongSet : Question → WrongSet → Type 0
@@ -79,14 +97,15 @@ ComesOfAnswering question naming end texts other = (other ≡ fault.Memory)
 -- the faults of `show`, `key`, `why` and `next`: of the last word if none is a version, or without words of
 -- standard input or a line of it, of a version that none comes next to, or of the set of `why`
 abbrev pub ComesOfAsking : Question → EachOptions → Option (List ℕ) → Fault → Type 0
-ComesOfAsking question options old (fault.NotVersion text mark) =
-    IsMark (scheme_of_whole options.naming (scheme_of question)) text.now mark × (has_version question options ≡ false) × (before : List (List ℕ))
-    × (map (λ word. word.now) options.versions.items ≡ before ++ text.now ∷ [])
-ComesOfAsking question options old (fault.BadLine number text ends more mark) =
+ComesOfAsking question options old (fault.NotVersion text remark) =
+    IsRemark (spelling_of question options.naming) text.now remark × (has_version question options ≡ false)
+    × (before : List (List ℕ)) × (map (λ word. word.now) options.versions.items ≡ before ++ text.now ∷ [])
+ComesOfAsking question options old (fault.BadLine bad) =
     (options.versions.items ≡ []) × (new : Option (List ℕ)) × (input : List ℕ)
     × Consumes old new input × IsAtEnd new
-    × ComesOfLines Fail options.crlf (scheme_of_whole options.naming (scheme_of question)) 0 (version_in (reads_by question options.naming options.crlf)) (lines_of options.end input)
-    (fault.BadLine number text ends more mark)
+    × ComesOfLines Fail (place_of question options.naming options.crlf) None None 0
+    (version_in (reads_of (place_of question options.naming options.crlf))) (lines_of (plain_end options.end) input)
+    (fault.BadLine bad)
 ComesOfAsking question options old (fault.Read name) =
     (options.versions.items ≡ []) × (name.now ≡ codes "-")
 ComesOfAsking question options old (fault.NoNext text) =
@@ -94,22 +113,23 @@ ComesOfAsking question options old (fault.NoNext text) =
     × QuotesFirstWithoutNext question options.naming options.end texts (string_bytes text)
 ComesOfAsking question options old other = ComesOfQuestion question other
 
--- the faults of the lines without a version of a list
-abbrev pub ComesOfOne : Lists → List ℕ → Fault → Type 0
-ComesOfOne lists input =
-    ComesOfLines lists.invalid lists.place.crlf (scheme_of_lines lists.place) 0 (version_in (reads_of lists.place)) (lines_of_list lists input)
+-- the faults of the lines without a version of a list, which the file of this name holds
+abbrev pub ComesOfOne : Lists → Bor (List ℕ) → List ℕ → Fault → Type 0
+ComesOfOne lists file input =
+    ComesOfLines lists.invalid lists.place None (Some file) 0 (version_in (reads_of lists.place))
+    (lines_of_list lists input)
 
 -- those of two lists: of the new one only where each line of the old one has a version
 abbrev pub ComesOfEither : Lists → List ℕ → List ℕ → Fault → Type 0
-ComesOfEither lists first second fault = ComesOfOne lists first fault
-    ⊎ ((bad_lines_of lists first ≡ []) × ComesOfOne lists second fault)
+ComesOfEither lists first second fault = ComesOfOne lists lists.old first fault
+    ⊎ ((bad_lines_of lists first ≡ []) × ComesOfOne lists lists.new second fault)
 
 -- the faults of `diff --lists`: of an input, or of the lines of a list that have no version
 abbrev pub ComesOfChanges : Lists → Reading → Option (List ℕ) → Fault → Type 0
-ComesOfChanges lists reads old (fault.BadLine number text ends more mark) =
+ComesOfChanges lists reads old (fault.BadLine bad) =
     (new : Option (List ℕ)) × (first second : List ℕ)
     × AreInputs reads old new (names_of lists) (first ∷ second ∷ [])
-    × ComesOfEither lists first second (fault.BadLine number text ends more mark)
+    × ComesOfEither lists first second (fault.BadLine bad)
 ComesOfChanges lists reads old other = ComesOfReading reads (names_of lists) other
 
 -- the faults of each task, but for a writer that takes no more
@@ -118,17 +138,17 @@ ComesOf (task.Lines arrangement options) reads old fault =
     ComesOfArranging arrangement options reads old fault
 ComesOf (task.Each question options) reads old fault = ComesOfAsking question options old fault
 ComesOf (task.TestTwo spelling a operator b) reads old fault =
-    ComesOfTestOfTwo (plain_scheme spelling) (first_wrong (spelled spelling) (a.now ∷ b.now ∷ [])) fault
+    ComesOfTestOfTwo spelling (first_wrong (spelled spelling) (a.now ∷ b.now ∷ [])) fault
 ComesOf (task.TestSet spelling version set) reads old fault =
     ComesOfTestOfSet spelling version.now set.now fault
 ComesOf (task.Implies scheme one other) reads old fault = ComesOfTestOfSets scheme one.now other.now fault
 ComesOf (task.Meets scheme one other) reads old fault = ComesOfTestOfSets scheme one.now other.now fault
 ComesOf (task.Compare spelling a b) reads old fault =
-    ComesOfWords (plain_scheme spelling) (first_wrong (spelled spelling) (a.now ∷ b.now ∷ [])) fault
+    ComesOfWords spelling (first_wrong (spelled spelling) (a.now ∷ b.now ∷ [])) fault
 ComesOf (task.Explain naming a b) reads old fault =
-    ComesOfWords (scheme_of_whole naming Mixed) (first_wrong (spelled_mixed naming) (a.now ∷ b.now ∷ [])) fault
+    ComesOfWords (mixed_spelling naming) (first_wrong (spelled_mixed naming) (a.now ∷ b.now ∷ [])) fault
 ComesOf (task.Difference naming a b) reads old fault =
-    ComesOfWords (scheme_of_whole naming Mixed) (first_wrong (spelled_mixed naming) (a.now ∷ b.now ∷ [])) fault
+    ComesOfWords (mixed_spelling naming) (first_wrong (spelled_mixed naming) (a.now ∷ b.now ∷ [])) fault
 ComesOf (task.Lists lists) reads old fault = ComesOfChanges lists reads old fault
 ComesOf (task.Match list) reads old fault = ComesOfMatching list.now fault
 ComesOf (task.Label labels) reads old fault = ComesOfStandard fault

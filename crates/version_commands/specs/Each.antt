@@ -1,13 +1,13 @@
 -- What `show`, `key`, `why` and `next` write.
 use Rattle.std.proofs.Common.{Bor}
-use Rattle.std.specs.Prelude.{◌≡◌, ⊤, ℕ, Bool, true, List, [], ◌∷◌, ◌++◌, map, Option, None, Some, is_some, IsSomeAnd}
+use Rattle.std.specs.Prelude.{◌≡◌, ◌⊎◌, ⊤, ℕ, Bool, true, List, [], ◌∷◌, ◌++◌, map, Option, None, Some, is_some, IsSomeAnd}
 use Rattle.std.specs.List.{filter, list_all, list_any}
 use Rattle.std.specs.Io.KnownBytes.{Consumes, IsAtEnd}
 use Rattle.version_commands.specs.Json.{json_line}
 use Rattle.version_commands.specs.Key.{key_line}
 use Rattle.version_commands.specs.Next.{NoNextBy, WritesNext}
 use Rattle.version_commands.specs.Pieces.{Adds}
-use Rattle.version_commands.specs.Place.{before_named, line_text, named_text}
+use Rattle.version_commands.specs.Place.{before_named, line_text, spelled}
 use Rattle.version_commands.specs.Sets.{keys_of}
 use Rattle.version_commands.specs.Show.{show_text}
 use Rattle.version_commands.specs.Why.{IsWhyHead, IsWhyLine}
@@ -16,9 +16,10 @@ use Rattle.version_commands.specs.declared.options.EachOptions.{EachOptions}
 use Rattle.version_commands.specs.declared.options.Naming.{Naming}
 use Rattle.version_commands.specs.declared.options.Question.{Question}
 use Rattle.version_commands.specs.declared.options.Question.TheVariants.{Show, Json, Key, Why, Next}
-use Rattle.version_lines.specs.Lines.{lines_of}
-use Rattle.version_lines.specs.Sort.{Reads}
-use Rattle.version_schemes.specs.any.Order.{PlainAny, any_of}
+use Rattle.version_commands.specs.declared.options.Spelling.{Spelling}
+use Rattle.version_commands.specs.declared.options.VersionPlace.{VersionPlace}
+use Rattle.version_lines.specs.Lines.{lines_of, plain_end}
+use Rattle.version_schemes.specs.any.Order.{PlainAny}
 use Rattle.version_schemes.specs.declared.scheme.Scheme.{Scheme}
 use Rattle.version_schemes.specs.declared.scheme.Scheme.TheVariants.{Mixed}
 use Rattle.version_sets.specs.Ends.{has}
@@ -32,14 +33,18 @@ scheme_of (Key scheme) = scheme
 scheme_of (Why scheme set) = scheme
 scheme_of (Next step) = Mixed
 
+-- how a text spells a version to it
+abbrev pub spelling_of : Question → Naming → Spelling
+spelling_of question naming = record { naming = naming; scheme = scheme_of question }
+
 -- the version that a text is to it
 abbrev pub version_asked : Question → Naming → List ℕ → Option PlainAny
-version_asked question naming text = any_of (scheme_of question) (named_text naming text)
+version_asked question naming = spelled (spelling_of question naming)
 
--- how lines are read
-abbrev pub reads_by : Question → Naming → Bool → Reads
-reads_by question naming crlf =
-    record { scheme = scheme_of question; text_of = λ line. named_text naming (line_text crlf line) }
+-- where the version of a line stands: the whole line spells it
+abbrev pub place_of : Question → Naming → Bool → VersionPlace
+place_of question naming crlf =
+    record { crlf = crlf; column = None; naming = naming; scheme = scheme_of question }
 
 -- something holds of the version of the scheme mixed that a version is
 abbrev pub OfMixed : PlainAny → (PlainVersioning → Type 0) → Type 0
@@ -111,7 +116,7 @@ IsHead (Next step) end head = head ≡ []
 abbrev pub AreLineTexts : EachOptions → Option (List ℕ) → Option (List ℕ) → List (List ℕ) → Type 0
 AreLineTexts options old new texts =
     (input : List ℕ) × Consumes old new input × IsAtEnd new
-    × (texts ≡ map (line_text options.crlf) (lines_of options.end input))
+    × (texts ≡ map (line_text options.crlf) (lines_of (plain_end options.end) input))
 
 -- whether a text is a version to a question, those of some texts that are, and whether all words are
 abbrev pub is_version : Question → Naming → List ℕ → Bool
@@ -128,6 +133,10 @@ are_versions question options =
 abbrev pub has_version : Question → EachOptions → Bool
 has_version question options =
     list_any (λ word. is_version question options.naming word.now) options.versions.items
+
+-- a version is asked: there are no words, or one of them is a version
+abbrev pub IsAsked : Question → EachOptions → Type 0
+IsAsked question options = (options.versions.items ≡ []) ⊎ (has_version question options ≡ true)
 
 -- those of the words that are versions; or without any words those of the lines
 abbrev pub AreTextsOf : Question → EachOptions → Option (List ℕ) → Option (List ℕ) → List (List ℕ)

@@ -15,10 +15,10 @@ UnlessLate Kept result = IfErr result (λ fault. is_late fault ≡ false → Kep
 
 -- whether a fault is of a word
 abbrev pub is_of_word : Fault → Bool
-is_of_word (NotVersion text mark) = true
+is_of_word (NotVersion text remark) = true
 is_of_word (NotRequirement text) = true
 is_of_word (NotSet wrong) = true
-is_of_word (NotTested text mark) = true
+is_of_word (NotTested text remark) = true
 is_of_word (NotTestedSet wrong) = true
 is_of_word other = false
 

@@ -1,6 +1,6 @@
 -- The faults of a task: what a message says of them, and what they come of.
 use Rattle.std.proofs.Common.{Bor}
-use Rattle.std.specs.Prelude.{◌≡◌, ◌⊎◌, ◌+◌, ◌-◌, ◌^◌, min, ⊤, ℕ, List, [], ◌∷◌, Option, None, Some, IsSome, IsSomeAnd, Bool, false, codes, map, true, zero, string_bytes, ◌++◌}
+use Rattle.std.specs.Prelude.{◌≡◌, ◌⊎◌, ◌+◌, ◌-◌, ◌^◌, min, ⊤, ℕ, List, [], ◌∷◌, Option, None, Some, IsSome, IsSomeAnd, codes, if◌then◌else◌, map, string_bytes, ◌++◌}
 use Rattle.std.specs.Fmt.{decimal}
 use Rattle.std.specs.Option.{option_map_or, option_or}
 use Rattle.version_commands.specs.declared.options.Invalid.{Invalid}
@@ -14,41 +14,48 @@ use Rattle.version_lines.specs.declared.input.Trouble.TheVariants as trouble
 use Rattle.version_commands.specs.Bad.{Reports}
 use Rattle.version_commands.specs.Inputs.{IsRefused, Reading}
 use Rattle.version_commands.specs.Picked.{bad_lines, good_before, Versions}
-use Rattle.version_commands.specs.Mark.{no_version_text, IsMark}
-use Rattle.version_commands.specs.Place.{line_text, plain_scheme, spelled}
-use Rattle.version_commands.specs.declared.mark.Mark.{Mark}
+use Rattle.version_commands.specs.Place.{spelled}
+use Rattle.version_commands.specs.Remark.{no_version_text, others_text, IsRemark}
+use Rattle.version_commands.specs.declared.bad.Blamed.{Blamed}
+use Rattle.version_commands.specs.declared.options.VersionPlace.{VersionPlace}
+use Rattle.version_commands.specs.declared.remark.Remark.{Remark}
+use Rattle.version_lines.specs.declared.column.Column.{Column}
 use Rattle.version_commands.specs.Quote.{quoted}
 use Rattle.version_commands.specs.Sets.{IsWrongSet, keys_of}
 use Rattle.version_rules.specs.requirement.Requirements.{requirements_of}
 use Rattle.version_sets.specs.Reason.{reason_text}
 use Rattle.version_schemes.specs.declared.scheme.Scheme.{Scheme}
 use Rattle.version_commands.specs.declared.faults.Fault.{Fault}
-use Rattle.version_commands.specs.declared.faults.Fault.TheVariants.{NotVersion, NotRequirement, NotSet, NotTested, NotTestedSet, BadLine, NoNext, Memory, Read, Write}
+use Rattle.version_commands.specs.declared.faults.Fault.TheVariants.{NotVersion, NotRequirement, NotSet, NotTested, NotTestedSet, BadLine, NoNext, NoColumn, Memory, Read, Write}
 
 -- the status that a fault ends the program with
 abbrev pub status_of : Fault → ℕ
-status_of (NotVersion text mark) = 1
+status_of (NotVersion text remark) = 1
 status_of (NotRequirement text) = 1
 status_of (NotSet wrong) = 1
-status_of (NotTested text mark) = 2
+status_of (NotTested text remark) = 2
 status_of (NotTestedSet wrong) = 2
-status_of (BadLine number text ends more mark) = 1
+status_of (BadLine bad) = 1
 status_of (NoNext text) = 1
+status_of (NoColumn name) = 1
 status_of Memory = 3
 status_of (Read name) = 3
 status_of (Write name) = 3
 
--- what a message says of so many other lines that have no version
-abbrev pub others_text : ℕ → List ℕ
-others_text zero = []
-others_text more = codes " (and " ++ (decimal more ++ codes " more)")
+-- of which file
+abbrev pub file_text : Option (Bor (List ℕ)) → List ℕ
+file_text None = []
+file_text (Some name) = codes " of " ++ quoted name.now
 
 -- what a message says of the first line that has no version, and of how many more have none
-abbrev pub bad_line_text : ℕ → List ℕ → Bool → ℕ → Option Mark → List ℕ
-bad_line_text number text true more mark =
-    codes "line " ++ (decimal number ++ (codes " ends in a carriage return: --crlf" ++ others_text more))
-bad_line_text number text false more mark =
-    codes "line " ++ (decimal number ++ (codes " is not a version: " ++ no_version_text mark text (others_text more)))
+abbrev pub bad_line_text : Blamed → List ℕ
+bad_line_text bad = codes "line " ++ (decimal bad.number ++ (file_text bad.file ++ (if bad.ends_in_return
+    then codes " ends in a carriage return: --crlf" ++ others_text bad.more
+    else codes " is not a version: " ++ no_version_text bad.remark (string_bytes bad.text) (others_text bad.more))))
+
+-- what a message says of a word that is no version
+abbrev pub no_version_word : List ℕ → Option Remark → List ℕ
+no_version_word word remark = codes "not a version: " ++ no_version_text remark word []
 
 -- what a message says of a word that is no set; places count from 1
 abbrev pub wrong_set_text : WrongSet → List ℕ
@@ -58,14 +65,14 @@ wrong_set_text wrong =
 
 -- what a message says of a fault
 abbrev pub fault_text : Fault → List ℕ
-fault_text (NotVersion word mark) = codes "not a version: " ++ no_version_text mark (quoted word.now) []
+fault_text (NotVersion word remark) = no_version_word word.now remark
 fault_text (NotRequirement word) = codes "not a requirement: " ++ quoted word.now
 fault_text (NotSet wrong) = wrong_set_text wrong
-fault_text (NotTested word mark) = codes "not a version: " ++ no_version_text mark (quoted word.now) []
+fault_text (NotTested word remark) = no_version_word word.now remark
 fault_text (NotTestedSet wrong) = wrong_set_text wrong
-fault_text (BadLine number text ends_in_return more mark) =
-    bad_line_text number (string_bytes text) ends_in_return more mark
+fault_text (BadLine bad) = bad_line_text bad
 fault_text (NoNext text) = codes "no version comes next at that place: " ++ string_bytes text
+fault_text (NoColumn name) = codes "no column is named " ++ quoted name.now
 fault_text Memory = codes "no memory"
 fault_text (Read name) = codes "cannot be read: " ++ quoted name.now
 fault_text (Write (Some name)) = codes "cannot be written: " ++ quoted name.now
@@ -89,28 +96,25 @@ ComesOfReading reads names (Read shown) =
     IsRefused reads names shown.now
 ComesOfReading reads names fault = ⊥
 
--- the mark of the first of some lines, if they are read by a scheme as they stand
-abbrev pub MarksFirst : Option Scheme → Bool → List (List ℕ) → Option Mark → Type 0
-MarksFirst scheme crlf [] mark = ⊥
-MarksFirst scheme crlf (first ∷ others) mark = IsMark scheme (line_text crlf first) mark
-
--- the faults that lines without a version can end in, before the first of which come so many with one
-abbrev pub ComesOfBadAfter : Invalid → Bool → Option Scheme → ℕ → List (List ℕ) → Fault → Type 0
-ComesOfBadAfter policy crlf scheme before bad Memory = ⊤
-ComesOfBadAfter policy crlf scheme before bad (BadLine number text ends more mark) =
-    (policy ≡ invalid.Fail) × (number ≡ min (before + 1) (2 ^ 64 - 1))
-    × Reports crlf bad (string_bytes text) ends more × MarksFirst scheme crlf bad mark
-ComesOfBadAfter policy crlf scheme before bad fault = ⊥
+-- the faults that lines without a version can end in, of a file, before the first of which come so many with one
+abbrev pub ComesOfBadAfter : Invalid → VersionPlace → Option Column → Option (Bor (List ℕ)) → ℕ → List (List ℕ) → Fault
+    → Type 0
+ComesOfBadAfter policy place schemes file before lines Memory = ⊤
+ComesOfBadAfter policy place schemes file before lines (BadLine bad) =
+    (policy ≡ invalid.Fail) × (bad.number ≡ min (before + 1) (2 ^ 64 - 1)) × (bad.file ≡ file)
+    × Reports place schemes lines bad
+ComesOfBadAfter policy place schemes file before lines fault = ⊥
 
 -- those of the lines without a version that were found, behind a header of so many lines
-abbrev pub ComesOfBad : Invalid → Bool → Option Scheme → ℕ → BadLines → Fault → Type 0
-ComesOfBad policy crlf scheme header bad =
-    ComesOfBadAfter policy crlf scheme (header + bad.before) (map (λ line. line.now) bad.lines.items)
+abbrev pub ComesOfBad : Invalid → VersionPlace → Option Column → Option (Bor (List ℕ)) → ℕ → BadLines → Fault → Type 0
+ComesOfBad policy place schemes file header bad =
+    ComesOfBadAfter policy place schemes file (header + bad.before) (map (λ line. line.now) bad.lines.items)
 
 -- those of some lines
-abbrev pub ComesOfLines : Invalid → Bool → Option Scheme → ℕ → Versions → List (List ℕ) → Fault → Type 0
-ComesOfLines policy crlf scheme header versions lines =
-    ComesOfBadAfter policy crlf scheme (header + good_before versions lines) (bad_lines versions lines)
+abbrev pub ComesOfLines : Invalid → VersionPlace → Option Column → Option (Bor (List ℕ)) → ℕ → Versions → List (List ℕ)
+    → Fault → Type 0
+ComesOfLines policy place schemes file header versions lines =
+    ComesOfBadAfter policy place schemes file (header + good_before versions lines) (bad_lines versions lines)
 
 -- the faults of `match` of `vers`, by the word of its list
 abbrev pub ComesOfMatching : List ℕ → Fault → Type 0
@@ -138,19 +142,18 @@ abbrev pub first_wrong : {V : Type 0} → (List ℕ → Option V) → List (List
 first_wrong read [] = None
 first_wrong read (word ∷ words) = option_or (unless_version read word) (first_wrong read words)
 
--- the faults that words which should be versions can end in, if this is the first that is none, and they are read by a
--- scheme as they stand
-abbrev pub ComesOfWords : Option Scheme → Option (List ℕ) → Fault → Type 0
-ComesOfWords scheme wrong Memory = ⊤
-ComesOfWords scheme wrong (NotVersion text mark) = (wrong ≡ Some text.now) × IsMark scheme text.now mark
-ComesOfWords scheme wrong fault = ⊥
+-- the faults that words which should be versions can end in, if this is the first that is none
+abbrev pub ComesOfWords : Spelling → Option (List ℕ) → Fault → Type 0
+ComesOfWords spelling wrong Memory = ⊤
+ComesOfWords spelling wrong (NotVersion text remark) = (wrong ≡ Some text.now) × IsRemark spelling text.now remark
+ComesOfWords spelling wrong fault = ⊥
 
 -- ---- of tasks that answer by their status
 
 -- those of words which should be versions, if this is the first that is none
-abbrev pub ComesOfTestOfTwo : Option Scheme → Option (List ℕ) → Fault → Type 0
-ComesOfTestOfTwo scheme wrong (NotTested text mark) = (wrong ≡ Some text.now) × IsMark scheme text.now mark
-ComesOfTestOfTwo scheme wrong fault = ⊥
+abbrev pub ComesOfTestOfTwo : Spelling → Option (List ℕ) → Fault → Type 0
+ComesOfTestOfTwo spelling wrong (NotTested text remark) = (wrong ≡ Some text.now) × IsRemark spelling text.now remark
+ComesOfTestOfTwo spelling wrong fault = ⊥
 
 -- those of a word that should be a set
 abbrev pub ComesOfTestedSet : Scheme → List ℕ → Fault → Type 0
@@ -161,8 +164,8 @@ ComesOfTestedSet scheme word fault = ⊥
 -- those of a version and a set, of which the version comes first
 abbrev pub ComesOfTestOfSet : Spelling → List ℕ → List ℕ → Fault → Type 0
 ComesOfTestOfSet spelling version set Memory = ⊤
-ComesOfTestOfSet spelling version set (NotTested text mark) =
-    (text.now ≡ version) × (spelled spelling version ≡ None) × IsMark (plain_scheme spelling) version mark
+ComesOfTestOfSet spelling version set (NotTested text remark) =
+    (text.now ≡ version) × (spelled spelling version ≡ None) × IsRemark spelling version remark
 ComesOfTestOfSet spelling version set (NotTestedSet wrong) =
     IsSome (spelled spelling version) × IsWrongSet spelling.scheme set wrong
 ComesOfTestOfSet spelling version set fault = ⊥

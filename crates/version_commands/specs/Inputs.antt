@@ -1,8 +1,12 @@
 -- The inputs of a run, which are read in turn.
-use Rattle.std.specs.Prelude.{◌≡◌, ◌==◌, ℕ, Bool, true, false, List, [], ◌∷◌, ◌++◌, Option, None, Some, codes, if◌then◌else◌, zero, suc, ◌-◌, length, take}
+use Rattle.std.proofs.Common.{Bor}
+use Rattle.std.specs.Prelude.{◌≡◌, ◌==◌, ℕ, Bool, true, false, List, [], ◌∷◌, ◌++◌, Option, None, Some, codes, if◌then◌else◌, ◌-◌, length, map, nat_le, take, IsSomeAnd}
 use Rattle.std.specs.Io.KnownBytes.{Consumes, IsAtEnd}
 use Rattle.std.specs.List.{flat_map, list_any, Contains}
 use Rattle.std.specs.Str.{bytes_eq}
+use Rattle.version_commands.specs.declared.inputs.Inputs.{Inputs}
+use Rattle.version_lines.specs.Lines.{lines_of}
+use Rattle.version_lines.specs.declared.lines.LineEnd.{LineEnd}
 
 -- whether some bytes end where a line ends: they are none, or the last of them ends a line
 abbrev pub ends_line : ℕ → List ℕ → Bool
@@ -18,16 +22,31 @@ ended end bytes = if ends_line end bytes then bytes else bytes ++ end ∷ []
 abbrev pub joined : ℕ → List (List ℕ) → List ℕ
 joined end texts = flat_map (ended end) texts
 
--- what follows so many lines of an input
-abbrev pub after_lines : ℕ → ℕ → List ℕ → List ℕ
-after_lines end zero input = input
-after_lines end (suc more) [] = []
-after_lines end (suc more) (byte ∷ input) =
-    if byte == end then after_lines end more input else after_lines end (suc more) input
+-- how many lines a text has among others
+abbrev pub line_count : LineEnd → List ℕ → ℕ
+line_count end text = length (lines_of end (ended end.byte text))
 
--- these lines
-abbrev pub first_lines : ℕ → ℕ → List ℕ → List ℕ
-first_lines end count input = take (length input - length (after_lines end count input)) input
+-- the same of several texts but the last
+abbrev pub counts_before_last : LineEnd → List (List ℕ) → List ℕ
+counts_before_last end texts = map (line_count end) (take (length texts - 1) texts)
+
+-- several texts as one, as they are held
+pub record AreJoined (end : LineEnd) (texts : List (List ℕ)) (inputs : Inputs) : Type 0 where
+  pub text_is : inputs.text.items ≡ joined end.byte texts
+  pub counts_are : inputs.counts.items ≡ counts_before_last end texts
+
+-- which of several inputs has the line of this number, of which each but the last has so many lines: its name, and the
+-- number of the line there
+abbrev pub line_in : List (List ℕ) → List ℕ → ℕ → Option (List ℕ × ℕ)
+line_in [] counts number = None
+line_in (name ∷ names) [] number = Some (name, number)
+line_in (name ∷ names) (count ∷ counts) number =
+    if nat_le number count then Some (name, number) else line_in names counts (number - count)
+
+-- the name of a file and the number of a line are those found, or there is no name, and the number is that of all
+abbrev pub IsLineIn : Option (List ℕ × ℕ) → ℕ → Option (Bor (List ℕ)) → ℕ → Type 0
+IsLineIn None number file there = (file ≡ None) × (there ≡ number)
+IsLineIn (Some (name, found)) number file there = IsSomeAnd file (λ file. file.now ≡ name) × (there ≡ found)
 
 -- what reading the file of a name may give, or that it may fail
 abbrev pub Reading : Type 1

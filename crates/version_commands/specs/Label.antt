@@ -4,7 +4,7 @@ use Rattle.std.specs.Io.KnownBytes.{Consumes, IsAtEnd}
 use Rattle.version_commands.specs.Show.{kind_name}
 use Rattle.version_commands.specs.declared.options.Labels.{Labels}
 use Rattle.version_commands.specs.declared.options.Labels.TheVariants.{Strict, Every}
-use Rattle.version_lines.specs.Lines.{labelled_line, line_feed, output_by, whole_line}
+use Rattle.version_lines.specs.Lines.{labelled_line, line_feed, output_by, plain_end, whole_line}
 use Rattle.version_rules.specs.grammar.Kind.{versioning_kind}
 use Rattle.version_rules.specs.grammar.SemVer.{semver_of}
 use Rattle.version_rules.specs.grammar.Versioning.{versioning_of}
@@ -31,4 +31,4 @@ label_line labels end line = labelled (label_of labels line) end line
 abbrev pub AreLabelled : Labels → Option (List ℕ) → Option (List ℕ) → List ℕ → Type 0
 AreLabelled labels old new output =
     (input : List ℕ) × Consumes old new input × IsAtEnd new
-    × (output ≡ output_by line_feed (label_line labels line_feed) input)
+    × (output ≡ output_by (plain_end line_feed) (label_line labels line_feed) input)

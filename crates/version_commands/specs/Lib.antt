@@ -11,12 +11,12 @@ pub mod Ends
 pub mod Explain
 pub mod Fault
 pub mod Files
+pub mod Header
 pub mod Inputs
 pub mod Json
 pub mod Key
 pub mod Label
 pub mod Lists
-pub mod Mark
 pub mod Matched
 pub mod Next
 pub mod Ordered
@@ -25,6 +25,7 @@ pub mod Picked
 pub mod Pieces
 pub mod Place
 pub mod Quote
+pub mod Remark
 pub mod Run
 pub mod Sets
 pub mod Show

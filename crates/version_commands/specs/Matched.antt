@@ -3,7 +3,7 @@ use Rattle.std.specs.Prelude.{◌≡◌, ◌⊎◌, ℕ, Bool, true, false, List
 use Rattle.std.proofs.Common.{inl, inr}
 use Rattle.std.specs.Option.{option_map_or}
 use Rattle.std.specs.Io.KnownBytes.{Consumes, IsAtEnd}
-use Rattle.version_lines.specs.Lines.{line_feed, output_by, whole_line}
+use Rattle.version_lines.specs.Lines.{line_feed, output_by, plain_end, whole_line}
 use Rattle.version_rules.specs.grammar.Versioning.{PlainVersioning, versioning_of}
 use Rattle.version_rules.specs.laws.Matching.{matches_all_or_not}
 use Rattle.version_rules.specs.requirement.Requirement.{PlainRequirement}
@@ -28,4 +28,4 @@ abbrev pub AreMatched : List ℕ → Option (List ℕ) → Option (List ℕ) →
 AreMatched word old new output =
     (wanted : List PlainRequirement) × (requirements_of word ≡ Some wanted)
     × (input : List ℕ) × Consumes old new input × IsAtEnd new
-    × (output ≡ output_by line_feed (matched_line wanted line_feed) input)
+    × (output ≡ output_by (plain_end line_feed) (matched_line wanted line_feed) input)

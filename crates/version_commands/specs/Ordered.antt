@@ -1,18 +1,19 @@
 -- What `sort`, `newest` and `filter` write.
-use Rattle.std.specs.Prelude.{◌≡◌, ◌++◌, ℕ, Bool, List, [], map, Option, None, Some, if◌then◌else◌}
+use Rattle.std.proofs.Common.{Bor}
+use Rattle.std.specs.Prelude.{◌≡◌, ◌++◌, ◌∷◌, ℕ, Bool, List, [], map, Option, None, Some, if◌then◌else◌}
 use Rattle.version_commands.specs.Arranged.{arranged, placed, policy}
 use Rattle.version_commands.specs.BySchemes.{arranged_by_schemes, version_by}
 use Rattle.version_commands.specs.Choice.{keeps_of}
-use Rattle.std.specs.Option.{option_map, option_map_or}
-use Rattle.version_commands.specs.Inputs.{after_lines, first_lines, joined, names_read, AreInputs, Reading}
+use Rattle.version_commands.specs.Header.{arrangement_by, first_unnamed, last_of, options_by}
+use Rattle.std.specs.Option.{option_map}
+use Rattle.version_commands.specs.Inputs.{joined, names_read, AreInputs, Reading}
 use Rattle.version_commands.specs.Picked.{Versions, bad_lines, has, kept_lines}
-use Rattle.version_commands.specs.Place.{group_text, reads_of, scheme_of_lines}
+use Rattle.version_commands.specs.Place.{group_text, line_text, reads_of}
 use Rattle.version_commands.specs.declared.options.Arrangement.{Arrangement}
 use Rattle.version_commands.specs.declared.options.Invalid.TheVariants.{Fail}
 use Rattle.version_commands.specs.declared.options.LineOptions.{LineOptions}
 use Rattle.version_commands.specs.declared.options.VersionPlace.{VersionPlace}
-use Rattle.version_schemes.specs.declared.scheme.Scheme.{Scheme}
-use Rattle.version_lines.specs.Lines.{lines_of, lines_output, whole_line}
+use Rattle.version_lines.specs.Lines.{after_lines, first_lines, lines_of, lines_output, whole_line}
 use Rattle.version_lines.specs.Sort.{Reads, version_in}
 use Rattle.version_lines.specs.declared.column.Column.{Column}
 use Rattle.version_schemes.specs.any.Order.{PlainAny}
@@ -37,11 +38,6 @@ abbrev pub versions_by : VersionPlace → Option Column → Versions
 versions_by place None = version_in (reads_of place)
 versions_by place (Some column) = version_by place column
 
--- the scheme by which whole lines are read as they stand, if they are
-abbrev pub scheme_of_line : LineOptions → Option Scheme
-scheme_of_line options =
-    option_map_or (λ column. None) options.scheme_column (scheme_of_lines options.place)
-
 -- the lines that are kept, arranged: those of each scheme, where a column names it
 abbrev pub ordered_by : Option Column → (PlainAny → Bool) → Arrangement → LineOptions → List ℕ → List (List ℕ)
 ordered_by None keeps arrangement options input =
@@ -57,6 +53,23 @@ head_of options input = first_lines options.end options.header input
 abbrev pub body_of : LineOptions → List ℕ → List ℕ
 body_of options input = after_lines options.end options.header input
 
+-- the line that names the columns of an input: the last one of its header, above the data
+abbrev pub names_line : LineOptions → List ℕ → List ℕ
+names_line options input =
+    line_text options.place.crlf (last_of [] (lines_of options.end (head_of options input)))
+
+-- the first name that columns are asked for by and that an input has not; an input without lines has all
+abbrev pub name_missing : LineOptions → List ℕ → Option (Bor (List ℕ))
+name_missing options [] = None
+name_missing options (byte ∷ input) = first_unnamed options.names (names_line options (byte ∷ input))
+
+-- the options with the columns of the names in an input
+abbrev pub options_in : LineOptions → List ℕ → LineOptions
+options_in options input = options_by (names_line options input) options
+
+abbrev pub arrangement_in : Arrangement → LineOptions → List ℕ → Arrangement
+arrangement_in arrangement options input = arrangement_by (names_line options input) options.names arrangement
+
 -- the name of the file for lines without a version, if there is one
 abbrev pub bad_file : LineOptions → Option (List ℕ)
 bad_file options = option_map (λ name. name.now) options.invalid_to
@@ -65,13 +78,13 @@ bad_file options = option_map (λ name. name.now) options.invalid_to
 -- these lines
 abbrev pub put_of : LineOptions → List (List ℕ) → Option (List ℕ × List ℕ)
 put_of options bad =
-    option_map (λ name. (name, lines_output (whole_line options.end) bad)) (bad_file options)
+    option_map (λ name. (name, lines_output (whole_line options.end.byte) bad)) (bad_file options)
 
 -- lines are written behind a head, with those that have no version before or after them or in their file
 pub record IsPlaced (options : LineOptions) (head : List ℕ) (bad lines : List (List ℕ))
     (leaves : Option (List ℕ × List ℕ) → Type 0) (output : List ℕ) : Type 0 where
   pub put : leaves (put_of options bad)
-  pub output_is : output ≡ head ++ lines_output (whole_line options.end) (placed (policy options) bad lines)
+  pub output_is : output ≡ head ++ lines_output (whole_line options.end.byte) (placed (policy options) bad lines)
 
 -- the same with the lines of an input that have no version; there are none if the options want none
 pub record IsArranged (versions : Versions) (options : LineOptions) (head input : List ℕ)
@@ -79,6 +92,21 @@ pub record IsArranged (versions : Versions) (options : LineOptions) (head input 
     (output : List ℕ) : Type 0 where
   pub good : policy options ≡ Fail → bad_lines versions (lines_of options.end input) ≡ []
   pub is_placed : IsPlaced options head (bad_lines versions (lines_of options.end input)) lines leaves output
+
+-- the same of the lines that are kept of an input, arranged by columns of numbers alone
+abbrev pub IsArrangedOf : Arrangement → LineOptions → (PlainAny → Bool) → List ℕ
+    → (Option (List ℕ × List ℕ) → Type 0) → List ℕ → Type 0
+IsArrangedOf arrangement options keeps input leaves output =
+    IsArranged (versions_by options.place options.scheme_column) options (head_of options input)
+    (body_of options input) (ordered_by options.scheme_column keeps arrangement options (body_of options input))
+    leaves output
+
+-- the same by the columns of the names in the input, none of which is missing
+pub record IsArrangedIn (arrangement : Arrangement) (options : LineOptions) (keeps : PlainAny → Bool)
+    (input : List ℕ) (leaves : Option (List ℕ × List ℕ) → Type 0) (output : List ℕ) : Type 0 where
+  pub has_names : name_missing options input ≡ None
+  pub is_arranged : IsArrangedOf (arrangement_in arrangement options input) (options_in options input) keeps input
+      leaves output
 
 -- the same of a run whose inputs were read in turn
 pub record IsOrdered (arrangement : Arrangement) (options : LineOptions) (files : Reading)
@@ -89,7 +117,4 @@ pub record IsOrdered (arrangement : Arrangement) (options : LineOptions) (files 
   pub texts_are : AreInputs files old new (names_read (map (λ name. name.now) options.files.items))
       texts
   pub keeps_are : keeps_of options.place.scheme options.choice arrangement ≡ Some keeps
-  pub is_arranged : IsArranged (versions_by options.place options.scheme_column) options
-      (head_of options (joined options.end texts)) (body_of options (joined options.end texts))
-      (ordered_by options.scheme_column keeps arrangement options (body_of options (joined options.end texts)))
-      leaves output
+  pub is_arranged : IsArrangedIn arrangement options keeps (joined options.end.byte texts) leaves output

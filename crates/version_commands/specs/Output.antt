@@ -2,9 +2,9 @@
 use Rattle.std.specs.Prelude.{◌≡◌, ◌==◌, ℕ, Bool, false, true, List, [], ◌∷◌, length, map, Option, None, Some, string_bytes}
 use Rattle.version_commands.specs.Compare.{comparison_line}
 use Rattle.version_commands.specs.Difference.{difference_line}
-use Rattle.version_commands.specs.Each.{are_versions, IsAnswered}
+use Rattle.version_commands.specs.Each.{are_versions, IsAnswered, IsAsked}
 use Rattle.version_commands.specs.Explain.{explained_line}
-use Rattle.version_commands.specs.Inputs.{joined, names_read, reads_standard, AreInputs, Reading}
+use Rattle.version_commands.specs.Inputs.{ended, names_read, reads_standard, AreInputs, Reading}
 use Rattle.version_commands.specs.Label.{AreLabelled}
 use Rattle.version_commands.specs.Lists.{bad_lines_of, difference_text, names_of, rows_of}
 use Rattle.version_commands.specs.Ordered.{bad_file, IsOrdered}
@@ -36,9 +36,8 @@ pub record AreChanges (lists : Lists) (reads : Reading) (old new : Option (List 
   pub second : List ℕ
   pub texts_are : AreInputs reads old new (names_of lists) (first ∷ second ∷ [])
   pub good_are : lists.invalid ≡ Fail → (bad_lines_of lists first ≡ []) × (bad_lines_of lists second ≡ [])
-  pub output_is : output ≡ difference_text lists.end
-      (rows_of lists (joined lists.end (first ∷ [])))
-      (rows_of lists (joined lists.end (second ∷ [])))
+  pub output_is : output ≡ difference_text lists.end.byte
+      (rows_of lists (ended lists.end.byte first)) (rows_of lists (ended lists.end.byte second))
 
 -- the line for the answer about two sets
 abbrev pub IsLineOfSets : Scheme → (Bool → (List ℕ → Bool) → (List ℕ → Bool) → Type 0) → List ℕ → List ℕ
@@ -52,7 +51,7 @@ Answers (task.TestTwo spelling a operator b) answer = answer_of_two spelling ope
 Answers (task.TestSet spelling version set) answer = answer_of_set spelling version.now set.now ≡ Some answer
 Answers (task.Implies scheme one other) answer = AreSetsSo scheme (IsPart answer) one.now other.now
 Answers (task.Meets scheme one other) answer = AreSetsSo scheme (Meet answer) one.now other.now
-Answers (task.Each question options) answer = answer ≡ are_versions question options
+Answers (task.Each question options) answer = (answer ≡ are_versions question options) × IsAsked question options
 Answers other answer = answer ≡ true
 
 -- What a task that ends well writes, by what its files give and what standard input had before and

@@ -1,6 +1,6 @@
 -- Where the version of a line stands.
 use Rattle.std.specs.Prelude.{ℕ, ◌-◌, Bool, List, [], Option, Some, None, if◌then◌else◌, length, take}
-use Rattle.std.specs.Option.{option_map_or, unwrap_or}
+use Rattle.std.specs.Option.{unwrap_or}
 use Rattle.std.specs.Str.Lines.{strip_carriage_return}
 use Rattle.version_lines.specs.Column.{column_of}
 use Rattle.version_lines.specs.declared.column.Column.{Column}
@@ -12,27 +12,36 @@ use Rattle.version_lines.specs.Sort.{Reads}
 use Rattle.version_rules.specs.grammar.Versioning.{PlainVersioning, versioning_of}
 use Rattle.version_schemes.specs.any.Order.{PlainAny, any_of}
 use Rattle.version_schemes.specs.declared.scheme.Scheme.{Scheme}
+use Rattle.version_schemes.specs.declared.scheme.Scheme.TheVariants.{Mixed}
 use Rattle.version_tasks.specs.Tag.{text_after_prefix, text_in_tag}
 
 -- a line without the carriage return that it may end in, if that belongs to its end
 abbrev pub line_text : Bool → List ℕ → List ℕ
 line_text crlf line = if crlf then strip_carriage_return line else line
 
--- the text of a column, or of the whole line; empty where the line has no such column
+-- the text of a column, or of the whole line, if the line has such a column
+abbrev pub column_in : Option Column → List ℕ → Option (List ℕ)
+column_in None line = Some line
+column_in (Some column) line = column_of column line
+
+-- the same, empty where the line has no such column
 abbrev pub column_text : Option Column → List ℕ → List ℕ
-column_text None line = line
-column_text (Some column) line = unwrap_or (column_of column line) []
+column_text column line = unwrap_or (column_in column line) []
 
 -- the text that names the version of a line
 abbrev pub place_text : VersionPlace → List ℕ → List ℕ
 place_text place line = column_text place.column (line_text place.crlf line)
 
--- the text of the version in a text: all of it, or the rest of a tag from where its version begins; empty where
--- none begins
+-- the text of the version in a text: all of it, or the rest of a tag from where its version begins; none where none
+-- begins
+abbrev pub found_text : Naming → List ℕ → Option (List ℕ)
+found_text Bare text = Some text
+found_text Tag text = text_in_tag text
+found_text (Prefix prefix) text = text_after_prefix prefix.now text
+
+-- the same as a text, which is empty where none begins
 abbrev pub named_text : Naming → List ℕ → List ℕ
-named_text Bare text = text
-named_text Tag text = unwrap_or (text_in_tag text) []
-named_text (Prefix prefix) text = unwrap_or (text_after_prefix prefix.now text) []
+named_text naming text = unwrap_or (found_text naming text) []
 
 -- what stands before it
 abbrev pub before_named : Naming → List ℕ → List ℕ
@@ -42,17 +51,9 @@ before_named naming text = take (length text - length (named_text naming text)) 
 abbrev pub spelled : Spelling → List ℕ → Option PlainAny
 spelled spelling text = any_of spelling.scheme (named_text spelling.naming text)
 
--- the scheme by which texts are read as they stand, and not what a tag or a prefix leaves of them
-abbrev pub scheme_of_whole : Naming → Scheme → Option Scheme
-scheme_of_whole Bare scheme = Some scheme
-scheme_of_whole naming scheme = None
-
-abbrev pub plain_scheme : Spelling → Option Scheme
-plain_scheme spelling = scheme_of_whole spelling.naming spelling.scheme
-
--- the same of whole lines
-abbrev pub scheme_of_lines : VersionPlace → Option Scheme
-scheme_of_lines place = option_map_or (λ column. None) place.column (scheme_of_whole place.naming place.scheme)
+-- how a text spells a version of the scheme mixed
+abbrev pub mixed_spelling : Naming → Spelling
+mixed_spelling naming = record { naming = naming; scheme = Mixed }
 
 -- the version that a text spells, by the scheme mixed
 abbrev pub spelled_mixed : Naming → List ℕ → Option PlainVersioning

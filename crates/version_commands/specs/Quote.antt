@@ -14,6 +14,10 @@ text_in_front bytes = take (utf8_valid_len bytes) bytes
 abbrev pub quoted_character : ℕ → List ℕ
 quoted_character c = if is_control c then encode_utf8_all (escape_default c) else encode_utf8 c
 
--- a text as a message shows it: what is UTF-8 in front of its first sixty bytes
+-- as much of a text as a message shows: what is UTF-8 in front of its first sixty bytes
+abbrev pub shown_front : List ℕ → List ℕ
+shown_front text = text_in_front (take 60 text)
+
+-- a text as a message shows it
 abbrev pub quoted : List ℕ → List ℕ
-quoted text = flat_map quoted_character (chars (text_in_front (take 60 text)))
+quoted text = flat_map quoted_character (chars (shown_front text))

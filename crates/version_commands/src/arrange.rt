@@ -1,34 +1,37 @@
 //! The commands over lines: `sort`, `newest` and `filter`.
-ghost use Rattle.std.specs.Prelude.{◌≡◌, [], ℕ, List, if◌then◌else◌, false, map, None, Some, IfErr, IfOk, IsTrue, OnOk};
+ghost use Rattle.std.specs.Prelude.{◌≡◌, ◌<◌, ◌+◌, [], ℕ, List, length, if◌then◌else◌, false, map, None, Some, IfErr, IfOk, IsTrue, OnOk};
 ghost use Rattle.version_commands.specs.Arranged.{arranged, is_reversed};
 ghost use Rattle.version_commands.specs.BySchemes.{arranged_by_schemes, version_by};
-ghost use Rattle.version_commands.specs.Cause.{ComesOfArranged, ComesOfArranging};
+ghost use Rattle.version_commands.specs.Cause.{ComesOfArranged, ComesOfArranging, ComesOfInput, IsInItsFile};
 ghost use Rattle.version_commands.specs.Choice.{is_kept};
 ghost use Rattle.version_commands.specs.Early.{IfOfWord, UnlessLate};
 ghost use Rattle.version_commands.specs.Ends.{Ends};
 ghost use Rattle.version_commands.specs.Files.{AltersAtMost, Leaves};
 ghost use Rattle.version_commands.specs.Inputs.{names_read, reads_standard};
-ghost use Rattle.version_commands.specs.Ordered.{bad_file, body_of, head_of, arranged_in, kept_in, kept_line, ordered_by, versions_by, IsArranged, IsOrdered};
+ghost use Rattle.version_commands.specs.Ordered.{bad_file, body_of, head_of, arranged_in, kept_in, kept_line, ordered_by, versions_by, IsArranged, IsArrangedIn, IsOrdered};
 ghost use Rattle.version_commands.specs.Place.{group_text, reads_of};
 ghost use Rattle.version_lines.specs.KeyedLines.{lines_in, AreRead};
 ghost use Rattle.version_lines.specs.Lines.{output_by, whole_line};
 ghost use Rattle.version_lines.specs.NewestLine.{newest_alone};
 ghost use Rattle.version_lines.specs.Sort.{version_in};
 
-use crate::bad::refuse_bad;
+use crate::bad::{Blamed, refuse_bad};
 use crate::by_schemes::{LinesOfSchemes, arrange_by_schemes};
 use crate::choice::Chooser;
 use crate::faults::Fault;
 use crate::files::{Files, Stage};
+use crate::header::{arrangement_by, names_line, options_by};
 use crate::hint::tell_hints;
-use crate::inputs::{after_lines, read_inputs};
+use crate::inputs::{line_in, read_inputs};
 use crate::options::{Arrangement, Choice, Invalid, LineOptions, VersionPlace};
 use crate::pick::{Chooses, EveryVersion, Takes, pick};
 use crate::place::{ByColumn, ByVersion};
 use crate::write::{whole_if, write_answers, write_lines};
 use std::alloc::{AllocError, Global};
 use std::io::{Read, Write};
-use version_lines::{Answer, Column, KeyedLines, LineCommand, NewestLine, SortBy, WholeLines};
+use version_lines::{
+    Answer, Column, KeyedLines, LineCommand, NewestLine, SortBy, WholeLines, after_lines,
+};
 use version_schemes::AnyVersion;
 
 /// Reads the inputs, and writes those of their lines that the arrangement asks for.
@@ -51,12 +54,86 @@ pub fn serve_lines<'w, F: Files, R: Read, W: Write>(
     ensures early { IfOfWord (reader.new ≡ reader.old) result }
 {
     let chooser = Chooser::new(alloc, options.place.scheme, &options.choice, &arrangement)?;
-    let input = read_inputs(alloc, options.files.as_slice(), options.end, files, reader)?;
-    tell(options, files, Stage::Read(input.len()));
-    let input = split_head(options, input.as_slice());
-    let written = write_input(alloc, arrangement, options, &chooser, &input, files, writer);
+    let inputs = read_inputs(alloc, options.files.as_slice(), options.end, files, reader)?;
+    tell(options, files, Stage::Read(inputs.text.len()));
+    let input = split_head(options, inputs.text.as_slice());
+    match write_asked(alloc, arrangement, options, &chooser, &input, files, writer) {
+        Ok(()) => Ok(()),
+        Err(fault) => {
+            let (names, counts) = (options.files.as_slice(), inputs.counts.as_slice());
+            Err(in_its_file(names, counts, fault))
+        }
+    }
+}
+
+// Returns the fault of a line by its file and its number there.
+fn in_its_file<'w>(names: &[&'w str], counts: &[usize], fault: Fault<'w>) -> Fault<'w>
+    ensures { IsInItsFile (map (λ name. name.now) names.now) counts.now fault.entry result }
+{
+    match fault {
+        Fault::BadLine(bad) => {
+            let (file, number) = line_in(names, counts, bad.number);
+            Fault::BadLine(Blamed {
+                number,
+                file,
+                ..bad
+            })
+        }
+        other => other,
+    }
+}
+
+// Writes those of the lines of an input that the arrangement asks for, by the columns of names in its header.
+fn write_asked<'w, F: Files, W: Write>(
+    alloc: Global,
+    arrangement: Arrangement<'_>,
+    options: &LineOptions<'w>,
+    chooser: &Chooser,
+    input: &Input<'_>,
+    files: &mut F,
+    writer: &mut W,
+) -> Result<(), Fault<'w>>
+    ensures ends { (whole : List ℕ) → input.now.head.now ≡ head_of options.now whole
+        → input.now.body.now ≡ body_of options.now whole
+        → Ends (IsArrangedIn arrangement.entry options.now (is_kept chooser.now) whole
+        (Leaves F.puts files.old files.new)) (ComesOfInput options.now whole)
+        (W.contents writer.old) (W.contents writer.new) result }
+    ensures files { AltersAtMost F.alters (bad_file options.now) files.old files.new }
+    ensures kept { UnlessLate (files.new ≡ files.old) result }
+{
+    if options.names.are_none() {
+        return write_told(alloc, arrangement, options, chooser, input, files, writer);
+    }
+    let header = names_line(options, input.head);
+    if !input.is_empty() {
+        options.names.refuse_unnamed(header)?;
+    }
+    let arrangement = arrangement_by(header, &options.names, arrangement);
+    let options = options_by(alloc, header, options)?;
+    write_told(alloc, arrangement, &options, chooser, input, files, writer)
+}
+
+// Writes those of the lines of an input that the arrangement asks for, and tells hints.
+fn write_told<'w, F: Files, W: Write>(
+    alloc: Global,
+    arrangement: Arrangement<'_>,
+    options: &LineOptions<'w>,
+    chooser: &Chooser,
+    input: &Input<'_>,
+    files: &mut F,
+    writer: &mut W,
+) -> Result<(), Fault<'w>>
+    ensures ends { Ends (IsArranged (versions_by options.now.place options.now.scheme_column) options.now
+        input.now.head.now input.now.body.now (ordered_by options.now.scheme_column (is_kept chooser.now)
+        arrangement.entry options.now input.now.body.now) (Leaves F.puts files.old files.new))
+        (ComesOfArranged options.now (versions_by options.now.place options.now.scheme_column) input.now.body.now)
+        (W.contents writer.old) (W.contents writer.new) result }
+    ensures files { AltersAtMost F.alters (bad_file options.now) files.old files.new }
+    ensures kept { UnlessLate (files.new ≡ files.old) result }
+{
+    let written = write_input(alloc, arrangement, options, chooser, input, files, writer);
     if written.is_ok() {
-        tell_hints(&arrangement, options, &chooser, &input, files);
+        tell_hints(&arrangement, options, chooser, input, files);
     }
     written
 }
@@ -99,6 +176,16 @@ fn write_input<'w, F: Files, W: Write>(
 pub struct Input<'a> {
     pub head: &'a [u8],
     pub body: &'a [u8],
+}
+
+impl Input<'_> {
+    // Whether it has no line.
+    fn is_empty(&self) -> bool
+        ensures none { IsTrue result → (self.now.head.now ≡ []) × (self.now.body.now ≡ []) }
+        ensures some { result ≡ false → 0 < length self.now.head.now + length self.now.body.now }
+    {
+        self.head.is_empty() && self.body.is_empty()
+    }
 }
 
 // Returns an input by its parts.
@@ -206,17 +293,17 @@ fn write_by_schemes<'w, F: Files, W: Write>(
     alloc: Global,
     arrangement: Arrangement<'_>,
     options: &LineOptions<'w>,
-    column: Column,
+    column: Column<'_>,
     chooser: &Chooser,
     input: &Input<'_>,
     files: &mut F,
     writer: &mut W,
 ) -> Result<(), Fault<'w>>
-    ensures ends { Ends (IsArranged (version_by options.now.place column) options.now input.now.head.now
-        input.now.body.now (arranged_by_schemes options.now.place column arrangement.entry
-        (kept_in (version_by options.now.place column) (is_kept chooser.now) options.now input.now.body.now))
+    ensures ends { Ends (IsArranged (version_by options.now.place column.entry) options.now input.now.head.now
+        input.now.body.now (arranged_by_schemes options.now.place column.entry arrangement.entry
+        (kept_in (version_by options.now.place column.entry) (is_kept chooser.now) options.now input.now.body.now))
         (Leaves F.puts files.old files.new))
-        (ComesOfArranged options.now (version_by options.now.place column) input.now.body.now)
+        (ComesOfArranged options.now (version_by options.now.place column.entry) input.now.body.now)
         (W.contents writer.old) (W.contents writer.new) result }
     ensures files { AltersAtMost F.alters (bad_file options.now) files.old files.new }
     ensures kept { UnlessLate (files.new ≡ files.old) result }
@@ -372,7 +459,7 @@ fn write_at_once<'w, W: Write>(
     writer: &mut W,
 ) -> Result<(), Fault<'w>>
     ensures { Ends (λ output. output ≡ output_by options.now.end
-        (kept_line (version_in (reads_of options.now.place)) (is_kept chooser.now) options.now.end) input.now)
+        (kept_line (version_in (reads_of options.now.place)) (is_kept chooser.now) options.now.end.byte) input.now)
         (λ fault. fault ≡ Fault.Memory) (W.contents writer.old) (W.contents writer.new) result }
 {
     let chosen = Chosen {

@@ -21,7 +21,7 @@ use version_schemes::{AnyVersion, Scheme};
 pub struct LinesOfSchemes<'w, 'a> {
     pub place: VersionPlace<'w>,
     /// The column that names the scheme of a line.
-    pub column: Column,
+    pub column: Column<'w>,
     pub lines: Vec<&'a [u8]>,
 }
 
@@ -51,11 +51,11 @@ pub fn arrange_by_schemes<'a>(
     alloc: Global,
     arrangement: Arrangement<'_>,
     place: &VersionPlace<'_>,
-    column: Column,
+    column: Column<'_>,
     lines: &[&'a [u8]],
 ) -> Result<Vec<&'a [u8]>, AllocError>
     ensures { IfOk result (λ arranged. map (λ line. line.now) arranged.items
-        ≡ arranged_by_schemes place.now column arrangement.entry (map (λ line. line.now) lines.now)) }
+        ≡ arranged_by_schemes place.now column.entry arrangement.entry (map (λ line. line.now) lines.now)) }
 {
     let schemes = schemes_in(alloc, place, column, lines)?;
     let mut arranged = Vec::with_capacity(alloc, lines.len())?;
@@ -77,11 +77,11 @@ pub fn arrange_by_schemes<'a>(
 fn schemes_in(
     alloc: Global,
     place: &VersionPlace<'_>,
-    column: Column,
+    column: Column<'_>,
     lines: &[&[u8]],
 ) -> Result<Vec<Scheme>, AllocError>
     ensures { IfOk result (λ schemes. schemes.items
-        ≡ schemes_after place.now column [] (map (λ line. line.now) lines.now)) }
+        ≡ schemes_after place.now column.entry [] (map (λ line. line.now) lines.now)) }
 {
     let mut schemes = Vec::new(alloc);
     for line in lines {
@@ -93,11 +93,11 @@ fn schemes_in(
 // Adds the scheme of a line to others, unless it is one of them.
 fn add_scheme_of(
     place: &VersionPlace<'_>,
-    column: Column,
+    column: Column<'_>,
     line: &[u8],
     schemes: &mut Vec<Scheme>,
 ) -> Result<(), AllocError>
-    ensures { OnOk result (schemes.new.items ≡ with_scheme schemes.old.items (scheme_in place.now column line.now)) }
+    ensures { OnOk result (schemes.new.items ≡ with_scheme schemes.old.items (scheme_in place.now column.entry line.now)) }
 {
     let Some(scheme) = scheme_in(place, column, line) else {
         return Ok(());
@@ -122,14 +122,14 @@ fn add_scheme<'a>(
     alloc: Global,
     arrangement: Arrangement<'_>,
     place: &VersionPlace<'_>,
-    column: Column,
+    column: Column<'_>,
     scheme: Scheme,
     lines: &[&'a [u8]],
     arranged: &mut Vec<&'a [u8]>,
 ) -> Result<(), AllocError>
     ensures { OnOk result (map (λ line. line.now) arranged.new.items
         ≡ map (λ line. line.now) arranged.old.items
-        ++ arranged_as place.now column arrangement.entry (map (λ line. line.now) lines.now) scheme) }
+        ++ arranged_as place.now column.entry arrangement.entry (map (λ line. line.now) lines.now) scheme) }
 {
     let by = ByVersion {
         place: VersionPlace { scheme, ..*place },
@@ -147,13 +147,13 @@ fn add_scheme<'a>(
 fn lines_of_scheme<'w, 'a>(
     alloc: Global,
     by: ByVersion<'w>,
-    column: Column,
+    column: Column<'_>,
     lines: &[&'a [u8]],
 ) -> Result<KeyedLines<'a, ByVersion<'w>>, AllocError>
     ensures read { IfOk result (AreRead (λ by. reads_of by.place)) }
     ensures by { IfOk result (λ of_scheme. of_scheme.by ≡ by.entry) }
     ensures lines { IfOk result (λ of_scheme. lines_in of_scheme
-        ≡ kept_lines (version_as by.entry.place column by.entry.place.scheme) (λ v. true)
+        ≡ kept_lines (version_as by.entry.place column.entry by.entry.place.scheme) (λ v. true)
         (map (λ line. line.now) lines.now)) }
 {
     let mut of_scheme = KeyedLines::new(alloc, by, 0)?;
@@ -166,8 +166,8 @@ fn lines_of_scheme<'w, 'a>(
 }
 
 // Returns the version of a line whose column names the scheme.
-fn version_as<'a>(by: &ByVersion<'_>, column: Column, line: &'a [u8]) -> Option<AnyVersion<'a>>
-    ensures { option_map plain_any result ≡ version_as by.now.place column by.now.place.scheme line.now }
+fn version_as<'a>(by: &ByVersion<'_>, column: Column<'_>, line: &'a [u8]) -> Option<AnyVersion<'a>>
+    ensures { option_map plain_any result ≡ version_as by.now.place column.entry by.now.place.scheme line.now }
 {
     let named = scheme_in(&by.place, column, line)?;
     if named.number() == by.place.scheme.number() {
@@ -177,9 +177,9 @@ fn version_as<'a>(by: &ByVersion<'_>, column: Column, line: &'a [u8]) -> Option<
     }
 }
 
-// Returns the scheme of a line, if its column names one.
-fn scheme_in(place: &VersionPlace<'_>, column: Column, line: &[u8]) -> Option<Scheme>
-    ensures { result ≡ scheme_in place.now column line.now }
+/// Returns the scheme of a line, if its column names one.
+pub fn scheme_in(place: &VersionPlace<'_>, column: Column<'_>, line: &[u8]) -> Option<Scheme>
+    ensures { result ≡ scheme_in place.now column.entry line.now }
 {
     Scheme::of_name(column_text(Some(column), line_text(place.crlf, line)))
 }

@@ -4,10 +4,10 @@ ghost use Rattle.std.specs.Io.KnownBytes.{Consumes, IsAtEnd};
 ghost use Rattle.version_commands.specs.Cause.{ComesOfAnswering, ComesOfAsking, ComesOfQuestion};
 ghost use Rattle.version_commands.specs.declared.each.Answers.{Answers};
 ghost use Rattle.version_commands.specs.Early.{IfOfWord};
-ghost use Rattle.version_commands.specs.Each.{has_version, scheme_of, version_asked, versions_among, AreAnswered, HasSet, HaveAnswered, IsAnswer, IsAnswered, IsHead};
+ghost use Rattle.version_commands.specs.Each.{has_version, place_of, scheme_of, spelling_of, version_asked, versions_among, AreAnswered, HasSet, HaveAnswered, IsAnswer, IsAnswered, IsAsked, IsHead};
 ghost use Rattle.version_commands.specs.Pieces.{Adds};
 ghost use Rattle.version_commands.specs.Place.{line_text};
-ghost use Rattle.version_lines.specs.Lines.{lines_of};
+ghost use Rattle.version_lines.specs.Lines.{lines_of, plain_end};
 ghost use Rattle.version_schemes.specs.any.AnyVersion.{plain_any};
 
 use crate::bad::refuse_first;
@@ -16,7 +16,7 @@ use crate::inputs::read_standard;
 use crate::json::add_json;
 use crate::key::add_key_line;
 use crate::next::add_next;
-use crate::options::{EachOptions, Naming, Question, Spelling};
+use crate::options::{EachOptions, Naming, Question, Spelling, VersionPlace};
 use crate::pick::{EveryVersion, Takes, pick};
 use crate::place::line_text;
 use crate::quote::quoted;
@@ -26,6 +26,7 @@ use crate::why::{add_head, add_why};
 use crate::word::set_of_word;
 use std::alloc::{AllocError, Global};
 use std::io::Read;
+use version_lines::LineEnd;
 use version_schemes::{AnyVersion, Scheme};
 
 /// Answers the question for each version: of the words, or without any of the lines of the reader. Words that are none
@@ -40,6 +41,7 @@ pub fn answer_each<'w, R: Read>(
         (R.remaining reader.old) (R.remaining reader.new) output.items) }
     ensures unread { length options.now.versions.items == 0 ≡ false → reader.new ≡ reader.old }
     ensures early { IfOfWord (reader.new ≡ reader.old) result }
+    ensures asked { OnOk result (IsAsked question.entry options.now) }
     ensures faults { IfErr result (ComesOfAsking question.entry options.now (R.remaining reader.old)) }
 {
     let asked = ask(alloc, question, options.end)?;
@@ -96,6 +98,7 @@ fn answer_words<'w>(
     ensures answers { IfOk result (λ output. Adds (AreAnswered question.entry options.now.naming options.now.end
         (versions_among question.entry options.now.naming (map (λ word. word.now) words.now)))
         asked.head.items output.items) }
+    ensures asked { OnOk result (IsAsked question.entry options.now) }
     ensures faults { (old : Option (List ℕ)) → IfErr result (ComesOfAsking question.entry options.now old) }
 {
     refuse_none(question, options)?;
@@ -110,10 +113,7 @@ fn answer_words<'w>(
         output: asked.head,
         unanswered: None,
     };
-    let spelling = Spelling {
-        naming: options.naming,
-        scheme: question.scheme(),
-    };
+    let spelling = question.spelling(options.naming);
     for word in words {
         if let Some(version) = spelling.version(word.as_bytes()) {
             answers.add(word.as_bytes(), &version)?;
@@ -124,28 +124,23 @@ fn answer_words<'w>(
 
 // Fails with the last word if none is a version.
 fn refuse_none<'w>(question: Question<'_>, options: &EachOptions<'w>) -> Result<(), Fault<'w>>
-    ensures { (old : Option (List ℕ)) → IfErr result (ComesOfAsking question.entry options.now old) }
+    ensures asked { OnOk result (IsAsked question.entry options.now) }
+    ensures faults { (old : Option (List ℕ)) → IfErr result (ComesOfAsking question.entry options.now old) }
 {
     match options.versions.as_slice() {
-        [_before @ .., last] if !has_version(&question, options) => {
-            let spelling = Spelling {
-                naming: options.naming,
-                scheme: question.scheme(),
-            };
-            Err(Fault::NotVersion(last, spelling.mark(last.as_bytes())))
+        [_before @ .., last] if !has_version(question, options) => {
+            let remark = question.spelling(options.naming).remark(last.as_bytes());
+            Err(Fault::NotVersion(last, remark))
         }
         _ => Ok(()),
     }
 }
 
 // Whether any of the words is a version.
-fn has_version(question: &Question<'_>, options: &EachOptions<'_>) -> bool
-    ensures { result ≡ has_version question.now options.now }
+fn has_version(question: Question<'_>, options: &EachOptions<'_>) -> bool
+    ensures { result ≡ has_version question.entry options.now }
 {
-    let spelling = Spelling {
-        naming: options.naming,
-        scheme: question.scheme(),
-    };
+    let spelling = question.spelling(options.naming);
     options
         .versions
         .iter()
@@ -163,7 +158,7 @@ fn answer_lines<'w>(
     requires set { HasSet question asked.set }
     requires words { options.now.versions.items ≡ [] }
     ensures answers { IfOk result (λ output. Adds (AreAnswered question.entry options.now.naming options.now.end
-        (map (line_text options.now.crlf) (lines_of options.now.end input.now)))
+        (map (line_text options.now.crlf) (lines_of (plain_end options.now.end) input.now)))
         asked.head.items output.items) }
     ensures faults { (old new : Option (List ℕ)) → Consumes old new input.now → IsAtEnd new
         → IfErr result (ComesOfAsking question.entry options.now old) }
@@ -179,9 +174,13 @@ fn answer_lines<'w>(
         output: asked.head,
         unanswered: None,
     };
-    let bad = pick(alloc, &mut answers, &EveryVersion, options.end, input)?;
-    let scheme = options.naming.scheme_of_whole(question.scheme());
-    refuse_first(alloc, options.crlf, scheme, 0, &bad)?;
+    let end = LineEnd {
+        byte: options.end,
+        csv: None,
+    };
+    let bad = pick(alloc, &mut answers, &EveryVersion, end, input)?;
+    let place = question.place(options.naming, options.crlf);
+    refuse_first(alloc, &place, None, None, 0, &bad)?;
     answers.finish()
 }
 
@@ -249,11 +248,11 @@ impl<'a> Answers<'_, 'a> {
 
 impl<'a> Takes<'a> for Answers<'_, 'a> {
     ghost use Rattle.std.specs.Prelude.{◌≡◌, ⊤, map};
-    ghost use Rattle.version_commands.specs.Each.{reads_by, HasSet, HaveAnswered};
-    ghost use Rattle.version_commands.specs.Place.{line_text};
+    ghost use Rattle.version_commands.specs.Each.{place_of, HasSet, HaveAnswered};
+    ghost use Rattle.version_commands.specs.Place.{line_text, reads_of};
     ghost use Rattle.version_lines.specs.Sort.{version_in};
 
-    ghost versions = { λ answers. version_in (reads_by answers.question answers.naming answers.crlf) };
+    ghost versions = { λ answers. version_in (reads_of (place_of answers.question answers.naming answers.crlf)) };
 
     ghost IsReady = { λ answers. HasSet answers.question answers.set };
 
@@ -261,8 +260,7 @@ impl<'a> Takes<'a> for Answers<'_, 'a> {
         HaveAnswered first now (map (line_text first.crlf) lines) };
 
     fn version(&self, line: &'a [u8]) -> Option<AnyVersion<'a>> {
-        let text = self.naming.text(line_text(self.crlf, line));
-        AnyVersion::read(self.question.scheme(), text)
+        self.question.place(self.naming, self.crlf).version(line)
     }
 
     fn take(&mut self, version: &AnyVersion<'a>, line: &'a [u8]) -> Result<(), AllocError> {
@@ -308,9 +306,31 @@ fn add_answer(
     Ok(true)
 }
 
-impl Question<'_> {
-    /// Returns the scheme by which it reads versions.
-    pub fn scheme(self) -> Scheme
+impl<'w> Question<'w> {
+    /// Returns how a text spells a version to it.
+    pub fn spelling(self, naming: Naming<'w>) -> Spelling<'w>
+        ensures { result ≡ spelling_of self.entry naming.entry }
+    {
+        Spelling {
+            naming,
+            scheme: self.scheme(),
+        }
+    }
+
+    // Returns where the version of a line stands: the whole line spells it.
+    fn place(self, naming: Naming<'w>, crlf: bool) -> VersionPlace<'w>
+        ensures { result ≡ place_of self.entry naming.entry crlf }
+    {
+        VersionPlace {
+            crlf,
+            column: None,
+            naming,
+            scheme: self.scheme(),
+        }
+    }
+
+    // Returns the scheme by which it reads versions.
+    fn scheme(self) -> Scheme
         ensures { result ≡ scheme_of self.entry }
     {
         match self {

@@ -16,7 +16,7 @@ use crate::show::field_of;
 use itoa::Buffer;
 use std::alloc::AllocError;
 use std::cmp::Ordering;
-use version_lines::Column;
+use version_lines::{Column, Separators};
 use version_rules::{Class, Kind, split_run};
 use version_texts::{Difference, Field, VersioningRef, is_digits};
 
@@ -234,7 +234,7 @@ fn part_at<'a>(version: &VersioningRef<'a>, place: usize) -> Option<&'a [u8]>
     let (parts, _) = split_run(behind_epoch(version), Class::NotSign);
     let column = Column {
         number: place,
-        separator: Some(b'.'),
+        separators: Separators::Bytes(b"."),
     };
     column.of(parts)
 }

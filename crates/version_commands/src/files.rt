@@ -2,7 +2,7 @@
 
 ghost use Rattle.std.specs.Prelude.{◌≡◌, ℕ, List, Option, None, Some, ◌++◌, IfErr, OnOk};
 
-use crate::mark::Mark;
+use crate::remark::Remark;
 use version_lines::Trouble;
 
 /// How far a run is.
@@ -20,8 +20,8 @@ pub enum Stage {
 #[derive(Clone, Copy, Debug)]
 pub enum Hint<'w> {
     /// This word is no version, and was left out.
-    NotVersion(&'w str, Option<Mark>),
-    /// This word of `filter` is a version, and there is no file of that name.
+    NotVersion(&'w str, Option<Remark>),
+    /// This word of `filter` looks like a version, and there is no file of that name.
     NoFile(&'w str),
     /// Each version begins with a `v` and a digit, and was compared as a whole.
     Tags,

@@ -11,7 +11,7 @@ use crate::files::{Files, Hint};
 use crate::options::{
     Arrangement, EachOptions, LineOptions, Naming, Question, Spelling, VersionPlace,
 };
-use version_lines::split_line;
+use version_lines::{LineEnd, split_line};
 use version_schemes::{AnyVersion, Scheme};
 
 /// Tells where all versions look like tags and were compared as a whole, and where no line was kept by `filter`.
@@ -35,7 +35,7 @@ pub fn tell_hints<F: Files>(
 }
 
 // Whether there are versions in the lines, and each begins with a `v` that nothing was asked to cut off.
-fn look_like_tags(place: &VersionPlace<'_>, end: u8, input: &[u8]) -> bool {
+fn look_like_tags(place: &VersionPlace<'_>, end: LineEnd, input: &[u8]) -> bool {
     if !is_whole(place.naming, place.scheme) {
         return false;
     }
@@ -70,7 +70,8 @@ pub fn tell_of_two<F: Files>(
     }
 }
 
-/// Tells where `filter` was given a version in the place of a file, as `test` takes it.
+/// Tells where `filter` was given a version in the place of a file, as `test` takes it. A name without a number is a
+/// version too, and most often of a file.
 pub fn tell_of_fault<F: Files>(
     arrangement: &Arrangement<'_>,
     place: &VersionPlace<'_>,
@@ -78,24 +79,19 @@ pub fn tell_of_fault<F: Files>(
     files: &F,
 ) {
     if let (Arrangement::Filter { .. }, Err(Fault::Read(name))) = (arrangement, served) {
-        if AnyVersion::read(place.scheme, name.as_bytes()).is_some() {
+        if begins_with_number(name.as_bytes())
+            && AnyVersion::read(place.scheme, name.as_bytes()).is_some()
+        {
             files.hint(Hint::NoFile(name));
         }
     }
 }
 
 /// Tells which words are no versions, and returns whether all are.
-pub fn tell_of_words<F: Files>(
-    question: &Question<'_>,
-    options: &EachOptions<'_>,
-    files: &F,
-) -> bool
-    ensures { result ≡ are_versions question.now options.now }
+pub fn tell_of_words<F: Files>(question: Question<'_>, options: &EachOptions<'_>, files: &F) -> bool
+    ensures { result ≡ are_versions question.entry options.now }
 {
-    let spelling = Spelling {
-        naming: options.naming,
-        scheme: question.scheme(),
-    };
+    let spelling = question.spelling(options.naming);
     let all = options
         .versions
         .iter()
@@ -108,7 +104,7 @@ pub fn tell_of_words<F: Files>(
 
 /// Tells which words but the last are no versions, if that one is the fault.
 pub fn tell_before_last<F: Files>(
-    question: &Question<'_>,
+    question: Question<'_>,
     options: &EachOptions<'_>,
     answered: &Result<Vec<u8>, Fault<'_>>,
     files: &F,
@@ -117,11 +113,7 @@ pub fn tell_before_last<F: Files>(
         answered,
         options.versions.as_slice(),
     ) {
-        let spelling = Spelling {
-            naming: options.naming,
-            scheme: question.scheme(),
-        };
-        tell_others(&spelling, before, files);
+        tell_others(&question.spelling(options.naming), before, files);
     }
 }
 
@@ -129,7 +121,7 @@ pub fn tell_before_last<F: Files>(
 fn tell_others<F: Files>(spelling: &Spelling<'_>, words: &[&str], files: &F) {
     for word in words {
         if spelling.version(word.as_bytes()).is_none() {
-            files.hint(Hint::NotVersion(word, spelling.mark(word.as_bytes())));
+            files.hint(Hint::NotVersion(word, spelling.remark(word.as_bytes())));
         }
     }
 }
@@ -142,6 +134,11 @@ fn is_whole(naming: Naming<'_>, scheme: Scheme) -> bool {
 // Whether a text begins with a `v` and a digit.
 fn begins_with_v(text: &[u8]) -> bool {
     matches!(text, [b'v' | b'V', b'0'..=b'9', ..])
+}
+
+// Whether a text begins with a number, perhaps behind a `v`.
+fn begins_with_number(text: &[u8]) -> bool {
+    matches!(text, [b'0'..=b'9', ..]) || begins_with_v(text)
 }
 
 // Whether there are lines, and no version is kept of them.

@@ -1,61 +1,126 @@
 //! Reading the inputs in turn.
-ghost use Rattle.std.specs.Prelude.{◌≡◌, ◌++◌, ◌∷◌, [], ℕ, List, false, map, IfErr, IfOk, OnOk};
+ghost use Rattle.std.specs.Prelude.{◌≡◌, ◌++◌, ◌∷◌, [], ℕ, List, false, length, map, IfErr, IfOk, OnOk};
 ghost use Rattle.std.specs.Io.KnownBytes.{Consumes, IsAtEnd};
 ghost use Rattle.version_commands.specs.Fault.{not_read, ComesOfReading, ComesOfStandard};
-ghost use Rattle.version_commands.specs.Inputs.{after_lines, ended, ends_line, is_standard, joined, names_read, reads_standard, AreInputs, IsInput};
+ghost use Rattle.version_commands.specs.Inputs.{ended, ends_line, is_standard, line_in, names_read, reads_standard, AreInputs, AreJoined, IsInput, IsLineIn};
+ghost use Rattle.version_lines.specs.Lines.{lines_of};
 
 use crate::faults::Fault;
 use crate::files::Files;
 use std::alloc::{AllocError, Global};
 use std::io::Read;
-use version_lines::{Trouble, read_all, read_onto};
+use version_lines::{LineEnd, Trouble, read_all, read_onto, split_line};
+
+/// The inputs of a run, one behind another.
+#[derive(Drop)]
+pub struct Inputs {
+    pub text: Vec<u8>,
+    /// How many lines each of them has, but the last.
+    pub counts: Vec<usize>,
+}
 
 /// Reads the files in turn, each to its end; `-` is the reader, and so is no name at all. An input that does not end
 /// where a line ends gets the byte that ends one.
 pub fn read_inputs<'w, F: Files, R: Read>(
     alloc: Global,
     names: &[&'w str],
-    end: u8,
+    end: LineEnd,
     files: &F,
     reader: &mut R,
-) -> Result<Vec<u8>, Fault<'w>>
-    ensures input { IfOk result (λ input. (texts : List (List ℕ))
+) -> Result<Inputs, Fault<'w>>
+    ensures input { IfOk result (λ inputs. (texts : List (List ℕ))
         × AreInputs (F.reads files.now) (R.remaining reader.old) (R.remaining reader.new)
-        (names_read (map (λ name. name.now) names.now)) texts × (input.items ≡ joined end texts)) }
+        (names_read (map (λ name. name.now) names.now)) texts × AreJoined end texts inputs) }
     ensures unread { reads_standard (names_read (map (λ name. name.now) names.now)) ≡ false
         → reader.new ≡ reader.old }
     ensures faults { IfErr result (ComesOfReading (F.reads files.now)
         (names_read (map (λ name. name.now) names.now))) }
 {
-    if !names.is_empty() {
-        return read_named(alloc, names, end, files, reader);
+    match names {
+        [] => read_after(alloc, &[], "-", end, files, reader),
+        [front @ .., last] => read_after(alloc, front, last, end, files, reader),
     }
-    let mut input = Vec::new(alloc);
-    add_input(alloc, "-", files, reader, &mut input, end)?;
-    Ok(input)
 }
 
-// Reads the inputs of these names in turn.
-fn read_named<'w, F: Files, R: Read>(
+// Reads the files in turn, and then one more.
+fn read_after<'w, F: Files, R: Read>(
     alloc: Global,
     names: &[&'w str],
+    last: &'w str,
+    end: LineEnd,
+    files: &F,
+    reader: &mut R,
+) -> Result<Inputs, Fault<'w>>
+    ensures input { IfOk result (λ inputs. (texts : List (List ℕ))
+        × AreInputs (F.reads files.now) (R.remaining reader.old) (R.remaining reader.new)
+        (map (λ name. name.now) names.now ++ last.now ∷ []) texts × AreJoined end texts inputs) }
+    ensures unread { reads_standard (map (λ name. name.now) names.now ++ last.now ∷ []) ≡ false
+        → reader.new ≡ reader.old }
+    ensures faults { IfErr result
+        (ComesOfReading (F.reads files.now) (map (λ name. name.now) names.now ++ last.now ∷ [])) }
+{
+    let (mut text, mut counts) = (Vec::new(alloc), Vec::new(alloc));
+    for name in names {
+        let start = text.len();
+        add_input(alloc, name, files, reader, &mut text, end.byte)?;
+        add_count(&mut counts, count_lines(end, &text.as_slice()[start..]))?;
+    }
+    add_input(alloc, last, files, reader, &mut text, end.byte)?;
+    Ok(Inputs { text, counts })
+}
+
+/// Reads one input to its end, with the byte that ends a line behind it if it does not end where one ends.
+pub fn read_input<'w, F: Files, R: Read>(
+    alloc: Global,
+    name: &'w str,
     end: u8,
     files: &F,
     reader: &mut R,
 ) -> Result<Vec<u8>, Fault<'w>>
-    ensures input { IfOk result (λ input. (texts : List (List ℕ))
-        × AreInputs (F.reads files.now) (R.remaining reader.old) (R.remaining reader.new)
-        (map (λ name. name.now) names.now) texts × (input.items ≡ joined end texts)) }
-    ensures unread { reads_standard (map (λ name. name.now) names.now) ≡ false
-        → reader.new ≡ reader.old }
-    ensures faults { IfErr result
-        (ComesOfReading (F.reads files.now) (map (λ name. name.now) names.now)) }
+    ensures input { IfOk result (λ input. (text : List ℕ)
+        × IsInput (F.reads files.now) (R.remaining reader.old) (R.remaining reader.new) name.now text
+        × (input.items ≡ ended end text)) }
+    ensures unread { is_standard name.now ≡ false → reader.new ≡ reader.old }
+    ensures faults { IfErr result (ComesOfReading (F.reads files.now) (name.now ∷ [])) }
 {
     let mut input = Vec::new(alloc);
-    for name in names {
-        add_input(alloc, name, files, reader, &mut input, end)?;
-    }
+    add_input(alloc, name, files, reader, &mut input, end)?;
     Ok(input)
+}
+
+// Adds a count.
+fn add_count(counts: &mut Vec<usize>, count: usize) -> Result<(), AllocError>
+    ensures { OnOk result (counts.new.items ≡ counts.old.items ++ count ∷ []) }
+{
+    counts.push(count)?;
+    Ok(())
+}
+
+// Returns how many lines a text has.
+fn count_lines(end: LineEnd, text: &[u8]) -> usize
+    ensures { result ≡ length (lines_of end text.now) }
+{
+    let (mut count, mut rest) = (0, text);
+    while !rest.is_empty() {
+        count += 1;
+        rest = split_line(end, rest).1;
+    }
+    count
+}
+
+/// Returns in which of several inputs the line of this number stands, of which each but the last has so many lines, and
+/// its number there; without any name there is one input, which has none.
+pub fn line_in<'w>(names: &[&'w str], counts: &[usize], number: usize) -> (Option<&'w str>, usize)
+    ensures { IsLineIn (line_in (map (λ name. name.now) names.now) counts.now number) number result.0 result.1 }
+{
+    let mut left = number;
+    for (place, name) in names.iter().enumerate() {
+        if place >= counts.len() || left <= counts[place] {
+            return (Some(*name), left);
+        }
+        left -= counts[place];
+    }
+    (None, number)
 }
 
 // Adds an input, and the byte that ends a line if it does not end where one ends.
@@ -146,20 +211,4 @@ pub fn ends_line(end: u8, bytes: &[u8]) -> bool
         Some(last) => *last == end,
         None => true,
     }
-}
-
-/// Returns what follows so many lines of an input.
-pub fn after_lines(end: u8, count: usize, input: &[u8]) -> &[u8]
-    ensures { result.now ≡ after_lines end count input.now }
-{
-    let mut left = count;
-    for (place, byte) in input.iter().enumerate() {
-        if left == 0 {
-            return &input[place..];
-        }
-        if *byte == end {
-            left -= 1;
-        }
-    }
-    &[]
 }

@@ -12,7 +12,7 @@ use crate::options::Labels;
 use crate::write::write_answers;
 use std::alloc::Global;
 use std::io::{Read, Write};
-use version_lines::{Answer, LineCommand};
+use version_lines::{Answer, LineCommand, LineEnd};
 use version_rules::Kind;
 use version_texts::VersioningRef;
 
@@ -27,7 +27,13 @@ pub fn write_labels<'w, R: Read, W: Write>(
         ComesOfStandard (W.contents writer.old) (W.contents writer.new) result }
 {
     let input = read_standard(alloc, reader)?;
-    write_answers(alloc, &labels, b'\n', input.as_slice(), writer)
+    write_answers(
+        alloc,
+        &labels,
+        LineEnd::plain(b'\n'),
+        input.as_slice(),
+        writer,
+    )
 }
 
 impl LineCommand for Labels {

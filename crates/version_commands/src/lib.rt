@@ -12,13 +12,13 @@ mod each;
 mod explain;
 mod faults;
 mod files;
+mod header;
 mod hint;
 mod inputs;
 mod json;
 mod key;
 mod label;
 mod lists;
-mod mark;
 mod matched;
 mod next;
 mod options;
@@ -27,6 +27,7 @@ mod pieces;
 mod place;
 mod program;
 mod quote;
+mod remark;
 mod rows;
 mod set;
 mod show;
@@ -35,13 +36,14 @@ mod why;
 mod word;
 mod write;
 
+pub use bad::Blamed;
 pub use faults::Fault;
 pub use files::{Files, Hint, NoFiles, Stage};
-pub use mark::Mark;
 pub use options::{
-    Arrangement, Choice, EachOptions, Invalid, Labels, LineOptions, Lists, Naming, Operator,
-    Question, Spelling, Step, Task, VersionPlace,
+    Arrangement, Choice, ColumnNames, EachOptions, Invalid, Labels, LineOptions, Lists, Naming,
+    Operator, Question, Spelling, Step, Task, VersionPlace,
 };
 pub use program::serve;
 pub use quote::{Shown, quoted};
+pub use remark::Remark;
 pub use set::WrongSet;

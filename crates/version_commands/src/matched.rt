@@ -10,7 +10,7 @@ use crate::inputs::read_standard;
 use crate::write::{whole_if, write_answers};
 use std::alloc::Global;
 use std::io::{Read, Write};
-use version_lines::{Answer, LineCommand};
+use version_lines::{Answer, LineCommand, LineEnd};
 use version_texts::RequirementsRef;
 
 /// Writes those lines of the reader that are versions which the list matches that a word is.
@@ -31,7 +31,7 @@ pub fn write_matched<'w, R: Read, W: Write>(
     write_answers(
         alloc,
         &Listed { list: &list },
-        b'\n',
+        LineEnd::plain(b'\n'),
         input.as_slice(),
         writer,
     )

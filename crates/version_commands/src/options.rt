@@ -1,6 +1,6 @@
 //! What a command is asked to do: the words of a run, read.
 
-use version_lines::Column;
+use version_lines::{Column, LineEnd};
 use version_schemes::Scheme;
 use version_tasks::Stability;
 
@@ -28,7 +28,7 @@ pub struct VersionPlace<'w> {
     /// Whether a carriage return at the end of a line belongs to the line's end.
     pub crlf: bool,
     /// The column, or None for the whole line.
-    pub column: Option<Column>,
+    pub column: Option<Column<'w>>,
     pub naming: Naming<'w>,
     pub scheme: Scheme,
 }
@@ -70,7 +70,7 @@ pub enum Arrangement<'w> {
         /// How many.
         count: usize,
         /// The column whose text is the group of a line. Without one, all lines are of one group.
-        group: Option<Column>,
+        group: Option<Column<'w>>,
     },
     /// Those whose versions are in a set, or are not, in the order of the input; without a set all of them.
     Filter {
@@ -79,16 +79,26 @@ pub enum Arrangement<'w> {
     },
 }
 
+/// The columns that are asked for by their names in the header, each in the place of the one by its number.
+#[derive(Clone, Copy, Debug)]
+pub struct ColumnNames<'w> {
+    /// The first column, between which and the next stands what separates columns.
+    pub first: Column<'w>,
+    pub version: Option<&'w str>,
+    pub group: Option<&'w str>,
+    pub scheme: Option<&'w str>,
+}
+
 /// What `sort`, `newest` and `filter` are asked beside their arrangement.
 #[derive(Debug, Drop)]
 pub struct LineOptions<'w> {
-    /// The byte that ends a line.
-    pub end: u8,
+    pub end: LineEnd,
     /// How many lines at the beginning of the input stay on top, as they came.
     pub header: usize,
     pub place: VersionPlace<'w>,
     /// The column that names the scheme of a line, in place of the one scheme of all; None where all are of one.
-    pub scheme_column: Option<Column>,
+    pub scheme_column: Option<Column<'w>>,
+    pub names: ColumnNames<'w>,
     pub choice: Choice<'w>,
     pub invalid: Invalid,
     /// The file that lines without a version are written to, in place of the output.
@@ -152,10 +162,9 @@ pub struct Lists<'w> {
     /// The files; `-` is standard input.
     pub old: &'w str,
     pub new: &'w str,
-    /// The byte that ends a line.
-    pub end: u8,
+    pub end: LineEnd,
     /// The column of the name.
-    pub name: Column,
+    pub name: Column<'w>,
     /// Where the version stands.
     pub place: VersionPlace<'w>,
     pub invalid: Invalid,

@@ -7,7 +7,7 @@ ghost use Rattle.version_schemes.specs.any.AnyVersion.{plain_any};
 ghost use Rattle.version_schemes.specs.any.Order.{PlainAny};
 
 use std::alloc::{AllocError, Global};
-use version_lines::{KeyedLines, NewestLine, SortBy, split_line};
+use version_lines::{KeyedLines, LineEnd, NewestLine, SortBy, split_line};
 use version_schemes::AnyVersion;
 
 /// Which versions are kept.
@@ -111,7 +111,7 @@ pub fn pick<'a, T: Takes<'a>, C: Chooses>(
     alloc: Global,
     taker: &mut T,
     chooser: &C,
-    end: u8,
+    end: LineEnd,
     input: &'a [u8],
 ) -> Result<BadLines<'a>, AllocError>
     requires ready { T.IsReady taker.old }

@@ -1,14 +1,12 @@
 //! Where the version of a line stands.
 ghost use Rattle.std.specs.Prelude.{◌≡◌, IsTrue};
 ghost use Rattle.std.specs.Option.{option_map};
-ghost use Rattle.version_commands.specs.Mark.{IsMark};
-ghost use Rattle.version_commands.specs.Place.{before_named, column_text, line_text, named_text, place_text, plain_scheme, reads_of, scheme_of_lines, scheme_of_whole, spelled, spelled_mixed, text_of};
+ghost use Rattle.version_commands.specs.Place.{before_named, column_in, column_text, found_text, line_text, mixed_spelling, named_text, place_text, reads_of, spelled, spelled_mixed, text_of};
 ghost use Rattle.version_lines.specs.Sort.{version_in};
 ghost use Rattle.version_schemes.specs.any.AnyVersion.{plain_any};
 ghost use Rattle.version_schemes.specs.declared.scheme.Scheme.TheVariants.{Mixed};
 ghost use Rattle.version_texts.specs.versioning_ref.VersioningRef.{plain_versioning_ref};
 
-use crate::mark::Mark;
 use crate::options::{Naming, Spelling, VersionPlace};
 use version_lines::{Column, GroupBy, SortBy};
 use version_schemes::{AnyVersion, Scheme};
@@ -48,16 +46,6 @@ impl VersionPlace<'_> {
         AnyVersion::read(self.scheme, self.text(line))
     }
 
-    /// Returns the scheme by which whole lines are read as they stand, if they are.
-    pub fn scheme_of_lines(&self) -> Option<Scheme>
-        ensures { result ≡ scheme_of_lines self.now }
-    {
-        match self.column {
-            Some(_) => None,
-            None => self.naming.scheme_of_whole(self.scheme),
-        }
-    }
-
     // Returns the text that names the version of a line.
     #[inline(always)]
     fn place_text<'a>(&self, line: &'a [u8]) -> &'a [u8]
@@ -74,31 +62,24 @@ impl Spelling<'_> {
     {
         AnyVersion::read(self.scheme, self.naming.text(text))
     }
-
-    /// Returns the mark of a text that spells no version.
-    pub fn mark(&self, text: &[u8]) -> Option<Mark>
-        ensures { IsMark (plain_scheme self.now) text.now result }
-    {
-        Mark::of(self.naming.scheme_of_whole(self.scheme), text)
-    }
 }
 
-impl Naming<'_> {
+impl<'w> Naming<'w> {
+    /// Returns how it spells versions of the scheme mixed.
+    pub fn mixed_spelling(self) -> Spelling<'w>
+        ensures { result ≡ mixed_spelling self.entry }
+    {
+        Spelling {
+            naming: self,
+            scheme: Scheme::Mixed,
+        }
+    }
+
     /// Returns the version of the scheme mixed that a text spells. Does not allocate.
     pub fn mixed<'a>(&self, text: &'a [u8]) -> Option<VersioningRef<'a>>
         ensures { option_map plain_versioning_ref result ≡ spelled_mixed self.now text.now }
     {
         VersioningRef::from_bytes(self.text(text))
-    }
-
-    /// Returns the scheme by which texts are read as they stand, and not what a tag or a prefix leaves of them.
-    pub fn scheme_of_whole(&self, scheme: Scheme) -> Option<Scheme>
-        ensures { result ≡ scheme_of_whole self.now scheme }
-    {
-        match self {
-            Naming::Bare => Some(scheme),
-            Naming::Tag | Naming::Prefix(_) => None,
-        }
     }
 
     /// Returns what stands before the text of the version in a text.
@@ -108,15 +89,23 @@ impl Naming<'_> {
         &text[..text.len().saturating_sub(self.text(text).len())]
     }
 
-    /// Returns the text of the version in a text.
+    /// Returns the text of the version in a text, which is empty where none begins.
     #[inline(always)]
     pub fn text<'a>(&self, text: &'a [u8]) -> &'a [u8]
         ensures { result.now ≡ named_text self.now text.now }
     {
+        self.found(text).unwrap_or(&[])
+    }
+
+    /// Returns the text of the version in a text, or None where none begins.
+    #[inline(always)]
+    pub fn found<'a>(&self, text: &'a [u8]) -> Option<&'a [u8]>
+        ensures { option_map (λ text. text.now) result ≡ found_text self.now text.now }
+    {
         match self {
-            Naming::Bare => text,
-            Naming::Tag => text_in_tag(text).unwrap_or(&[]),
-            Naming::Prefix(prefix) => text_after_prefix(prefix.as_bytes(), text).unwrap_or(&[]),
+            Naming::Bare => Some(text),
+            Naming::Tag => text_in_tag(text),
+            Naming::Prefix(prefix) => text_after_prefix(prefix.as_bytes(), text),
         }
     }
 }
@@ -152,14 +141,14 @@ impl SortBy for ByVersion<'_> {
 
 /// The group of a line: the text of a column, or all lines are of one group.
 #[derive(Clone, Copy)]
-pub struct ByColumn {
+pub struct ByColumn<'w> {
     /// Whether a carriage return at the end of a line belongs to the line's end.
     pub crlf: bool,
     /// The column. Lines without it are of the group of the empty text.
-    pub column: Option<Column>,
+    pub column: Option<Column<'w>>,
 }
 
-impl GroupBy for ByColumn {
+impl GroupBy for ByColumn<'_> {
     ghost use Rattle.version_commands.specs.Place.{group_text};
 
     ghost group_of = { λ by. group_text by.crlf by.column };
@@ -174,12 +163,20 @@ impl GroupBy for ByColumn {
 
 /// Returns the text of a column of a line, or of the whole line. It is empty where the line has no such column.
 #[inline(always)]
-pub fn column_text(column: Option<Column>, line: &[u8]) -> &[u8]
-    ensures { result.now ≡ column_text column line.now }
+pub fn column_text<'a>(column: Option<Column<'_>>, line: &'a [u8]) -> &'a [u8]
+    ensures { result.now ≡ column_text column.entry line.now }
+{
+    column_in(column, line).unwrap_or(&[])
+}
+
+/// Returns the text of a column of a line, or of the whole line; None where the line has no such column.
+#[inline(always)]
+pub fn column_in<'a>(column: Option<Column<'_>>, line: &'a [u8]) -> Option<&'a [u8]>
+    ensures { option_map (λ text. text.now) result ≡ column_in column.entry line.now }
 {
     match column {
-        Some(column) => column.of(line).unwrap_or(&[]),
-        None => line,
+        Some(column) => column.of(line),
+        None => Some(line),
     }
 }
 

@@ -1,5 +1,5 @@
 //! What a task does over any files, reader and writer.
-ghost use Rattle.std.specs.Prelude.{◌≡◌, ◌∷◌, [], false, true, IfErr, IfOk, OnOk};
+ghost use Rattle.std.specs.Prelude.{◌≡◌, ◌∷◌, [], None, Some, false, true, IfErr, IfOk, OnOk};
 ghost use Rattle.version_commands.specs.Cause.{ComesOf, ComesOfChanges};
 ghost use Rattle.version_commands.specs.Compare.{comparison_line};
 ghost use Rattle.version_commands.specs.Explain.{explained_line};
@@ -11,13 +11,12 @@ ghost use Rattle.version_commands.specs.Files.{AltersAtMost, Leaves};
 ghost use Rattle.version_commands.specs.Inputs.{reads_standard};
 ghost use Rattle.version_commands.specs.Lists.{names_of};
 ghost use Rattle.version_commands.specs.Output.{asks_reader, file_of, Answers, AreChanges, IsLineOfTwo, IsOutput};
-ghost use Rattle.version_commands.specs.Place.{plain_scheme, scheme_of_lines, scheme_of_whole, spelled, spelled_mixed};
-ghost use Rattle.version_schemes.specs.declared.scheme.Scheme.TheVariants.{Mixed};
+ghost use Rattle.version_commands.specs.Place.{mixed_spelling, spelled, spelled_mixed};
 ghost use Rattle.version_commands.specs.Test.{answer_line};
 ghost use Rattle.version_lines.specs.Lines.{line_feed};
 
 use crate::arrange::serve_lines;
-use crate::bad::refuse_if;
+use crate::bad::refuse_first;
 use crate::compare::sign_line;
 use crate::difference::add_difference;
 use crate::each::answer_each;
@@ -25,7 +24,7 @@ use crate::explain::add_explained;
 use crate::faults::Fault;
 use crate::files::Files;
 use crate::hint::{tell_before_last, tell_of_fault, tell_of_two, tell_of_words};
-use crate::inputs::read_inputs;
+use crate::inputs::read_input;
 use crate::label::write_labels;
 use crate::lists::{add_lists, read_names};
 use crate::matched::write_matched;
@@ -68,9 +67,9 @@ pub fn serve<'w, F: Files, R: Read, W: Write>(
         }
         Task::Each(question, options) => {
             let answered = answer_each(alloc, *question, options, reader);
-            tell_before_last(question, options, &answered, files);
+            tell_before_last(*question, options, &answered, files);
             write_answer(writer, answered?.as_slice())?;
-            Ok(tell_of_words(question, options, files))
+            Ok(tell_of_words(*question, options, files))
         }
         Task::TestTwo(spelling, first, operator, second) => {
             test_two(spelling, first, *operator, second)
@@ -141,7 +140,7 @@ fn comparison<'w>(
 ) -> Result<&'static [u8], Fault<'w>>
     ensures output { IfOk result (λ line.
         IsLineOfTwo (spelled spelling.now) (comparison_line line_feed) first.now second.now line.now) }
-    ensures faults { IfErr result (ComesOfWords (plain_scheme spelling.now) (first_wrong (spelled spelling.now) (first.now ∷ second.now ∷ []))) }
+    ensures faults { IfErr result (ComesOfWords spelling.now (first_wrong (spelled spelling.now) (first.now ∷ second.now ∷ []))) }
 {
     let first = version_of_word(spelling, first)?;
     let second = version_of_word(spelling, second)?;
@@ -157,7 +156,7 @@ fn explanation<'w>(
 ) -> Result<Vec<u8>, Fault<'w>>
     ensures output { IfOk result (λ output.
         IsLineOfTwo (spelled_mixed naming.now) (explained_line line_feed) first.now second.now output.items) }
-    ensures faults { IfErr result (ComesOfWords (scheme_of_whole naming.now Mixed) (first_wrong (spelled_mixed naming.now) (first.now ∷ second.now ∷ []))) }
+    ensures faults { IfErr result (ComesOfWords (mixed_spelling naming.now) (first_wrong (spelled_mixed naming.now) (first.now ∷ second.now ∷ []))) }
 {
     let first = mixed_of_word(naming, first)?;
     let second = mixed_of_word(naming, second)?;
@@ -175,7 +174,7 @@ fn difference<'w>(
 ) -> Result<Vec<u8>, Fault<'w>>
     ensures output { IfOk result (λ output.
         IsLineOfTwo (spelled_mixed naming.now) (difference_line line_feed) first.now second.now output.items) }
-    ensures faults { IfErr result (ComesOfWords (scheme_of_whole naming.now Mixed) (first_wrong (spelled_mixed naming.now) (first.now ∷ second.now ∷ []))) }
+    ensures faults { IfErr result (ComesOfWords (mixed_spelling naming.now) (first_wrong (spelled_mixed naming.now) (first.now ∷ second.now ∷ []))) }
 {
     let first = mixed_of_word(naming, first)?;
     let second = mixed_of_word(naming, second)?;
@@ -196,23 +195,30 @@ fn changes<'w, F: Files, R: Read>(
     ensures unread { reads_standard (names_of lists.now) ≡ false → reader.new ≡ reader.old }
     ensures faults { IfErr result (ComesOfChanges lists.now (F.reads files.now) (R.remaining reader.old)) }
 {
-    let old = read_inputs(alloc, &[lists.old], lists.end, files, reader)?;
-    let new = read_inputs(alloc, &[lists.new], lists.end, files, reader)?;
+    let old = read_input(alloc, lists.old, lists.end.byte, files, reader)?;
+    let new = read_input(alloc, lists.new, lists.end.byte, files, reader)?;
     let (old_names, old_bad) = read_names(alloc, lists, old.as_slice())?;
     let (new_names, new_bad) = read_names(alloc, lists, new.as_slice())?;
-    refuse_of_list(alloc, lists, &old_bad)?;
-    refuse_of_list(alloc, lists, &new_bad)?;
+    refuse_of_list(alloc, lists, lists.old, &old_bad)?;
+    refuse_of_list(alloc, lists, lists.new, &new_bad)?;
     let mut output = Vec::new(alloc);
-    add_lists(&old_names, &new_names, lists.end, &mut output)?;
+    add_lists(&old_names, &new_names, lists.end.byte, &mut output)?;
     Ok(output)
 }
 
 // Fails with the first line of a list that has no version, if there is one and the options ask for that.
-fn refuse_of_list<'w>(alloc: Global, lists: &Lists<'_>, bad: &BadLines<'_>) -> Result<(), Fault<'w>>
+fn refuse_of_list<'w>(
+    alloc: Global,
+    lists: &Lists<'_>,
+    file: &'w str,
+    bad: &BadLines<'_>,
+) -> Result<(), Fault<'w>>
     ensures none { OnOk result (lists.now.invalid ≡ Invalid.Fail → bad.now.lines.items ≡ []) }
-    ensures faults { IfErr result (ComesOfBad lists.now.invalid lists.now.place.crlf
-        (scheme_of_lines lists.now.place) 0 bad.now) }
+    ensures faults { IfErr result
+        (ComesOfBad lists.now.invalid lists.now.place None (Some file.entry) 0 bad.now) }
 {
-    let scheme = lists.place.scheme_of_lines();
-    refuse_if(alloc, lists.invalid, lists.place.crlf, scheme, 0, bad)
+    match lists.invalid {
+        Invalid::Fail => refuse_first(alloc, &lists.place, None, Some(file), 0, bad),
+        Invalid::Skip | Invalid::First | Invalid::Last => Ok(()),
+    }
 }

@@ -1,13 +1,13 @@
 //! What a message shows of a text that it quotes: a line, a word or the name of a file.
 ghost use Rattle.std.specs.Prelude.{◌≡◌, Some, string_bytes, IfOk};
 ghost use Rattle.std.specs.Fmt.{DisplaysOnOk};
-ghost use Rattle.version_commands.specs.Quote.{quoted, quoted_character, text_in_front};
+ghost use Rattle.version_commands.specs.Quote.{quoted, quoted_character, shown_front, text_in_front};
 
 use std::alloc::{AllocError, Global};
 use std::fmt;
 
-// How many bytes of a text a message shows.
-const SHOWN: usize = 60;
+/// How many bytes of a text a message shows.
+pub const SHOWN: usize = 60;
 
 /// A text that prints as a message shows it: as much of its first sixty bytes as is UTF-8, with control characters
 /// escaped.
@@ -20,7 +20,7 @@ impl fmt::Display for Shown<'_> {
     ghost output = { λ shown. Some (quoted shown.text.now) };
 
     fn fmt<W: fmt::Write>(&self, f: &mut fmt::Formatter<W>) -> fmt::Result {
-        for character in text_in_front(&self.text[..SHOWN.min(self.text.len())]).chars() {
+        for character in shown_front(self.text).chars() {
             write_quoted(f, character)?;
         }
         Ok(())
@@ -32,6 +32,13 @@ pub fn quoted(alloc: Global, text: &[u8]) -> Result<String, AllocError>
     ensures { IfOk result (λ shown. string_bytes shown ≡ quoted text.now) }
 {
     format!(in alloc; "{}", Shown { text })
+}
+
+/// Returns as much of a text as a message shows.
+pub fn shown_front(text: &[u8]) -> &str
+    ensures { result.now ≡ shown_front text.now }
+{
+    text_in_front(&text[..SHOWN.min(text.len())])
 }
 
 // Returns as much of the front of some bytes as is UTF-8.

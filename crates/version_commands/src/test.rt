@@ -2,7 +2,7 @@
 
 ghost use Rattle.std.specs.Prelude.{◌≡◌, ◌∷◌, [], Some, IfErr, IfOk};
 ghost use Rattle.version_commands.specs.Fault.{first_wrong, ComesOfTestOfSet, ComesOfTestOfSets, ComesOfTestOfTwo};
-ghost use Rattle.version_commands.specs.Place.{plain_scheme, spelled};
+ghost use Rattle.version_commands.specs.Place.{spelled};
 ghost use Rattle.version_commands.specs.Test.{answer_line, answer_of_set, answer_of_two, holds, AreSetsSo};
 ghost use Rattle.version_sets.specs.Ends.{IsPart, Meet};
 
@@ -35,7 +35,7 @@ pub(crate) fn test_two<'w>(
     second: &'w str,
 ) -> Result<bool, Fault<'w>>
     ensures answer { IfOk result (λ yes. answer_of_two spelling.now operator first.now second.now ≡ Some yes) }
-    ensures faults { IfErr result (ComesOfTestOfTwo (plain_scheme spelling.now) (first_wrong (spelled spelling.now) (first.now ∷ second.now ∷ []))) }
+    ensures faults { IfErr result (ComesOfTestOfTwo spelling.now (first_wrong (spelled spelling.now) (first.now ∷ second.now ∷ []))) }
 {
     let first = tested_version(spelling, first)?;
     let second = tested_version(spelling, second)?;

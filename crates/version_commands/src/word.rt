@@ -1,17 +1,15 @@
 //! Words that should be versions or sets.
 ghost use Rattle.std.specs.Prelude.{◌≡◌, Option, Some, None, IfErr, IfOk};
-ghost use Rattle.version_schemes.specs.declared.scheme.Scheme.TheVariants.{Mixed};
 ghost use Rattle.version_commands.specs.Fault.{unless_version, ComesOfSet, ComesOfTestedSet, ComesOfWords};
-ghost use Rattle.version_commands.specs.Mark.{IsMark};
-ghost use Rattle.version_commands.specs.declared.mark.Mark.{Mark};
-ghost use Rattle.version_commands.specs.Place.{plain_scheme, scheme_of_whole, spelled, spelled_mixed};
+ghost use Rattle.version_commands.specs.Place.{mixed_spelling, spelled, spelled_mixed};
+ghost use Rattle.version_commands.specs.Remark.{IsRemark};
+ghost use Rattle.version_commands.specs.declared.remark.Remark.{Remark};
 ghost use Rattle.version_commands.specs.Sets.{keys_of};
 ghost use Rattle.version_schemes.specs.any.AnyVersion.{plain_any};
 ghost use Rattle.version_sets.specs.Ends.{has};
 ghost use Rattle.version_texts.specs.versioning_ref.VersioningRef.{plain_versioning_ref};
 
 use crate::faults::Fault;
-use crate::mark::Mark;
 use crate::options::{Naming, Spelling};
 use crate::set::Set;
 use std::alloc::Global;
@@ -24,24 +22,24 @@ pub fn version_of_word<'w>(
     word: &'w str,
 ) -> Result<AnyVersion<'w>, Fault<'w>>
     ensures ok { IfOk result (λ v. spelled spelling.now word.now ≡ Some (plain_any v)) }
-    ensures faults { IfErr result (ComesOfWords (plain_scheme spelling.now) (unless_version (spelled spelling.now) word.now)) }
+    ensures faults { IfErr result (ComesOfWords spelling.now (unless_version (spelled spelling.now) word.now)) }
 {
     match spelling.version(word.as_bytes()) {
         Some(version) => Ok(version),
-        None => Err(Fault::NotVersion(word, spelling.mark(word.as_bytes()))),
+        None => Err(Fault::NotVersion(word, spelling.remark(word.as_bytes()))),
     }
 }
 
 /// The same of the scheme mixed. Does not allocate.
 pub fn mixed_of_word<'w>(naming: &Naming<'_>, word: &'w str) -> Result<VersioningRef<'w>, Fault<'w>>
     ensures ok { IfOk result (λ v. spelled_mixed naming.now word.now ≡ Some (plain_versioning_ref v)) }
-    ensures faults { IfErr result (ComesOfWords (scheme_of_whole naming.now Mixed) (unless_version (spelled_mixed naming.now) word.now)) }
+    ensures faults { IfErr result (ComesOfWords (mixed_spelling naming.now) (unless_version (spelled_mixed naming.now) word.now)) }
 {
     match naming.mixed(word.as_bytes()) {
         Some(version) => Ok(version),
         None => {
-            let scheme = naming.scheme_of_whole(Scheme::Mixed);
-            Err(Fault::NotVersion(word, Mark::of(scheme, word.as_bytes())))
+            let remark = naming.mixed_spelling().remark(word.as_bytes());
+            Err(Fault::NotVersion(word, remark))
         }
     }
 }
@@ -52,12 +50,13 @@ pub fn tested_version<'w>(
     word: &'w str,
 ) -> Result<AnyVersion<'w>, Fault<'w>>
     ensures ok { IfOk result (λ v. spelled spelling.now word.now ≡ Some (plain_any v)) }
-    ensures word { IfErr result (λ fault. (mark : Option Mark) × (fault ≡ Fault.NotTested word.entry mark)
-        × (spelled spelling.now word.now ≡ None) × IsMark (plain_scheme spelling.now) word.now mark) }
+    ensures word { IfErr result (λ fault. (remark : Option Remark)
+        × (fault ≡ Fault.NotTested word.entry remark) × (spelled spelling.now word.now ≡ None)
+        × IsRemark spelling.now word.now remark) }
 {
     match spelling.version(word.as_bytes()) {
         Some(version) => Ok(version),
-        None => Err(Fault::NotTested(word, spelling.mark(word.as_bytes()))),
+        None => Err(Fault::NotTested(word, spelling.remark(word.as_bytes()))),
     }
 }
 

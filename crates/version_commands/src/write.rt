@@ -19,7 +19,7 @@ use crate::rows::{Rows, put_rows};
 use std::alloc::{AllocError, Global};
 use std::io::Write;
 use version_lines::{
-    Answer, LineCommand, NotWritten, Trouble, answer_lines, make_buffer, write_whole,
+    Answer, LineCommand, LineEnd, NotWritten, Trouble, answer_lines, make_buffer, write_whole,
 };
 
 /// Writes the lines in their order behind a head, with those that have no version before or after them, or into the
@@ -42,7 +42,14 @@ pub fn write_lines<'w, L: Rows, F: Files, W: Write>(
     let mut buffer = make_buffer(alloc)?;
     buffer.extend_from_slice(head)?;
     put_bad(alloc, options, bad, files)?;
-    write_placed(policy(options), options.end, bad, rows, writer, &mut buffer)?;
+    write_placed(
+        policy(options),
+        options.end.byte,
+        bad,
+        rows,
+        writer,
+        &mut buffer,
+    )?;
     Ok(())
 }
 
@@ -123,7 +130,7 @@ fn put_bad<'w, F: Files>(
     let Some(name) = options.invalid_to else {
         return Ok(());
     };
-    let bytes = joined_lines(alloc, options.end, bad.lines.as_slice())?;
+    let bytes = joined_lines(alloc, options.end.byte, bad.lines.as_slice())?;
     match files.put(name, bytes.as_slice()) {
         Ok(()) => Ok(()),
         Err(Trouble::Memory) => Err(Fault::Memory),
@@ -149,11 +156,11 @@ fn joined_lines(alloc: Global, end: u8, lines: &[&[u8]]) -> Result<Vec<u8>, Allo
 pub fn write_answers<'w, C: LineCommand, W: Write>(
     alloc: Global,
     command: &C,
-    end: u8,
+    end: LineEnd,
     input: &[u8],
     writer: &mut W,
 ) -> Result<(), Fault<'w>>
-    ensures { Ends (λ output. output ≡ output_by end (C.line_output command.now end) input.now)
+    ensures { Ends (λ output. output ≡ output_by end (C.line_output command.now end.byte) input.now)
         (λ fault. fault ≡ Fault.Memory) (W.contents writer.old) (W.contents writer.new) result }
 {
     let mut buffer = make_buffer(alloc)?;

@@ -1,4 +1,5 @@
 pub mod Column
+pub mod Csv
 pub mod Entry
 pub mod Input
 pub mod KeyedLines

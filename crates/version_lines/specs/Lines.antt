@@ -1,8 +1,13 @@
 -- The lines of an input, and an output that is made line by line.
-use Rattle.std.specs.Prelude.{ℕ, List, [], ◌∷◌, ◌++◌, if◌then◌else◌, ◌==◌}
+use Rattle.std.specs.Prelude.{ℕ, zero, suc, ◌-◌, List, [], ◌∷◌, ◌++◌, None, length, take, if◌then◌else◌}
 use Rattle.std.specs.List.{flat_map}
+use Rattle.std.specs.Option.{option_map_or}
+use Rattle.version_lines.specs.Csv.{next, stops}
+use Rattle.version_lines.specs.declared.csv.FieldState.{FieldState}
+use Rattle.version_lines.specs.declared.csv.FieldState.TheVariants.{Start}
 use Rattle.version_lines.specs.declared.lines.Answer.{Answer}
 use Rattle.version_lines.specs.declared.lines.Answer.TheVariants.{Line, Text, Nothing}
+use Rattle.version_lines.specs.declared.lines.LineEnd.{LineEnd}
 
 -- the byte that ends a line where nothing else is asked for
 abbrev pub line_feed : ℕ
@@ -13,12 +18,42 @@ abbrev pub before_lines : ℕ → List (List ℕ) → List (List ℕ)
 before_lines byte [] = (byte ∷ []) ∷ []
 before_lines byte (line ∷ lines) = (byte ∷ line) ∷ lines
 
--- the lines of some bytes, by the byte that ends a line: it is no part of the line, and bytes after
--- the last one are a line too
-abbrev pub lines_of : ℕ → List ℕ → List (List ℕ)
-lines_of end [] = []
-lines_of end (byte ∷ bytes) =
-    if byte == end then [] ∷ lines_of end bytes else before_lines byte (lines_of end bytes)
+-- each such byte ends a line
+abbrev pub plain_end : ℕ → LineEnd
+plain_end byte = record { byte = byte; csv = None }
+
+-- where the byte after this one of a line stands, in lines of CSV
+abbrev pub state_after : LineEnd → FieldState → ℕ → FieldState
+state_after end state byte = option_map_or (λ separator. next separator state byte) end.csv state
+
+-- the lines of some bytes, by the byte that ends a line where it stands in no quotes of CSV: it is no part of the line,
+-- and bytes after the last one are a line too
+abbrev pub lines_from : LineEnd → FieldState → List ℕ → List (List ℕ)
+lines_from end state [] = []
+lines_from end state (byte ∷ bytes) =
+    if stops end.byte state byte then [] ∷ lines_from end Start bytes
+    else before_lines byte (lines_from end (state_after end state byte) bytes)
+
+abbrev pub lines_of : LineEnd → List ℕ → List (List ℕ)
+lines_of end bytes = lines_from end Start bytes
+
+-- what follows the first line of some bytes
+abbrev pub after_line_from : LineEnd → FieldState → List ℕ → List ℕ
+after_line_from end state [] = []
+after_line_from end state (byte ∷ bytes) =
+    if stops end.byte state byte then bytes else after_line_from end (state_after end state byte) bytes
+
+abbrev pub after_line : LineEnd → List ℕ → List ℕ
+after_line end bytes = after_line_from end Start bytes
+
+-- what follows so many lines
+abbrev pub after_lines : LineEnd → ℕ → List ℕ → List ℕ
+after_lines end zero bytes = bytes
+after_lines end (suc more) bytes = after_lines end more (after_line end bytes)
+
+-- these lines
+abbrev pub first_lines : LineEnd → ℕ → List ℕ → List ℕ
+first_lines end count bytes = take (length bytes - length (after_lines end count bytes)) bytes
 
 -- a line with the byte that ends it
 abbrev pub whole_line : ℕ → List ℕ → List ℕ
@@ -39,5 +74,5 @@ abbrev pub lines_output : (List ℕ → List ℕ) → List (List ℕ) → List �
 lines_output line_output lines = flat_map line_output lines
 
 -- the same for the lines of some bytes
-abbrev pub output_by : ℕ → (List ℕ → List ℕ) → List ℕ → List ℕ
+abbrev pub output_by : LineEnd → (List ℕ → List ℕ) → List ℕ → List ℕ
 output_by end line_output input = lines_output line_output (lines_of end input)

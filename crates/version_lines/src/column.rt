@@ -2,54 +2,136 @@
 ghost use Rattle.std.specs.Prelude.{◌≡◌, ◌==◌, ◌≤◌, ◌+◌, [], ◌∷◌, drop, length};
 ghost use Rattle.std.specs.List.{prefix_len, slice_get, slice_split};
 ghost use Rattle.std.specs.Option.{option_map, option_map_or};
-ghost use Rattle.version_lines.specs.Column.{column_of, is_blank_or_not, words_of};
+ghost use Rattle.memchr.specs.Find.{IsFirstByte};
+ghost use Rattle.version_lines.specs.Column.{column_of, fields_of, is_among, is_blank_or_not, words_of};
+ghost use Rattle.version_lines.specs.Csv.{raw_fields};
 
-use memchr::memchr;
+use crate::csv::{FieldState, field_text, is_whole, length_before};
+use memchr::{memchr, memchr2, memchr3};
+
+/// What stands between the columns of a line.
+#[derive(Clone, Copy, Debug)]
+pub enum Separators<'s> {
+    /// Runs of spaces and tabs. Those at the line's beginning are left out.
+    Blanks,
+    /// Each of these bytes, so a column may be empty.
+    Bytes(&'s [u8]),
+    /// This byte, where it stands in no quotes of CSV. The quotes around a column are no part of it, and two quotes in
+    /// them stay two. A line has no column at all where one goes on after its quotes, or where quotes never close.
+    Csv(u8),
+}
 
 /// A column of a line.
 #[derive(Clone, Copy, Debug)]
-pub struct Column {
+pub struct Column<'s> {
     /// Its number, counted from 0.
     pub number: usize,
-    /// The byte between two columns. Without one, runs of spaces and tabs are between them, and those at the line's
-    /// beginning are left out.
-    pub separator: Option<u8>,
+    pub separators: Separators<'s>,
 }
 
-impl Column {
+impl Column<'_> {
     /// Returns the text of the column in a line, or None if the line has fewer columns. Does not allocate.
     pub fn of<'a>(&self, line: &'a [u8]) -> Option<&'a [u8]>
         ensures { option_map (λ text. text.now) result ≡ column_of self.now line.now }
     {
-        match self.separator {
-            Some(separator) => piece(line, separator, self.number),
-            None => word(line, self.number),
+        match self.separators {
+            Separators::Blanks => word(line, self.number),
+            Separators::Bytes(bytes) => piece(line, bytes, self.number),
+            Separators::Csv(separator) => field(line, separator, self.number),
         }
     }
 }
 
-// Returns the piece of this number between the separators of a line.
-fn piece(line: &[u8], separator: u8, number: usize) -> Option<&[u8]>
+// Returns the piece of this number between the bytes of a line that are among these.
+fn piece<'a>(line: &'a [u8], bytes: &[u8], number: usize) -> Option<&'a [u8]>
     ensures { option_map (λ text. text.now) result
-        ≡ slice_get (slice_split (λ b. b == separator) line.now) number }
+        ≡ slice_get (slice_split (is_among bytes.now) line.now) number }
 {
-    let (mut first, mut rest) = cut_piece(line, separator);
+    let (mut first, mut rest) = cut_piece(line, bytes);
     for _ in 0..number {
-        let (next, after) = cut_piece(rest?, separator);
+        let (next, after) = cut_piece(rest?, bytes);
         first = next;
         rest = after;
     }
     Some(first)
 }
 
-// Cuts a text at its first separator. Returns what stands before it, and what follows it, if there is one.
-fn cut_piece(text: &[u8], separator: u8) -> (&[u8], Option<&[u8]>)
-    ensures { slice_split (λ b. b == separator) text.now ≡ result.0.now
-        ∷ option_map_or (λ rest. slice_split (λ b. b == separator) rest.now) result.1 [] }
+/// Cuts a text at its first byte that is among these. Returns what stands before it, and what follows it, if there is one.
+pub fn cut_piece<'a>(text: &'a [u8], bytes: &[u8]) -> (&'a [u8], Option<&'a [u8]>)
+    ensures { slice_split (is_among bytes.now) text.now ≡ result.0.now
+        ∷ option_map_or (λ rest. slice_split (is_among bytes.now) rest.now) result.1 [] }
 {
-    match memchr(separator, text) {
+    match find_among(bytes, text) {
         Some(end) => (&text[..end], Some(&text[end + 1..])),
         None => (text, None),
+    }
+}
+
+// Returns where the first byte of a text stands that is among these.
+fn find_among(bytes: &[u8], text: &[u8]) -> Option<usize>
+    ensures { IsFirstByte (is_among bytes.now) text.now result }
+{
+    match bytes {
+        [one] => memchr(*one, text),
+        [one, other] => memchr2(*one, *other, text),
+        [one, other, third] => memchr3(*one, *other, *third, text),
+        _ => find_of_many(bytes, text),
+    }
+}
+
+// The same of more bytes, or of none.
+fn find_of_many(bytes: &[u8], text: &[u8]) -> Option<usize>
+    ensures { IsFirstByte (is_among bytes.now) text.now result }
+{
+    for (place, byte) in text.iter().enumerate() {
+        if is_among(bytes, *byte) {
+            return Some(place);
+        }
+    }
+    None
+}
+
+// Whether a byte is one of these.
+fn is_among(bytes: &[u8], byte: u8) -> bool
+    ensures { result ≡ is_among bytes.now byte }
+{
+    bytes.iter().any(|b| byte == *b)
+}
+
+// Returns the text of the field of this number of a record of CSV.
+fn field(line: &[u8], separator: u8, number: usize) -> Option<&[u8]>
+    ensures { option_map (λ text. text.now) result ≡ slice_get (fields_of separator line.now) number }
+{
+    if !is_whole(separator, line) {
+        return None;
+    }
+    Some(field_text(raw_field(line, separator, number)?))
+}
+
+// Returns the field as it stands, quotes and all.
+fn raw_field(line: &[u8], separator: u8, number: usize) -> Option<&[u8]>
+    ensures { option_map (λ text. text.now) result ≡ slice_get (raw_fields separator FieldState.Start line.now) number }
+{
+    let (mut first, mut rest) = cut_field(line, separator);
+    for _ in 0..number {
+        let (next, after) = cut_field(rest?, separator);
+        first = next;
+        rest = after;
+    }
+    Some(first)
+}
+
+/// Cuts a text at its first separator that stands in no quotes. Returns what stands before it, and what follows it, if
+/// there is one.
+pub fn cut_field(text: &[u8], separator: u8) -> (&[u8], Option<&[u8]>)
+    ensures { raw_fields separator FieldState.Start text.now ≡ result.0.now
+        ∷ option_map_or (λ rest. raw_fields separator FieldState.Start rest.now) result.1 [] }
+{
+    let end = length_before(separator, separator, text);
+    if end < text.len() {
+        (&text[..end], Some(&text[end + 1..]))
+    } else {
+        (text, None)
     }
 }
 
@@ -66,8 +148,8 @@ fn word(line: &[u8], number: usize) -> Option<&[u8]>
     Some(first)
 }
 
-// Returns the first piece between the runs of blanks of a text and what follows it, or None if the text is blank.
-fn cut_word(text: &[u8]) -> Option<(&[u8], &[u8])>
+/// Returns the first piece between the runs of blanks of a text and what follows it, or None if the text is blank.
+pub fn cut_word(text: &[u8]) -> Option<(&[u8], &[u8])>
     ensures { words_of text.now
         ≡ option_map_or (λ cut. cut.0.now ∷ words_of cut.1.now) result [] }
 {

@@ -3,15 +3,17 @@
 #![tactic(auto)]
 
 mod column;
+mod csv;
 mod input;
 mod laws;
 mod lines;
+mod named;
 mod output;
 mod sort;
 
-pub use column::Column;
+pub use column::{Column, Separators};
 pub use input::{Trouble, read_all, read_onto};
-pub use lines::{Answer, LineCommand, answer_lines, split_line};
+pub use lines::{Answer, LineCommand, LineEnd, after_lines, answer_lines, split_line};
 pub use output::{NotWritten, make_buffer, put, put_line, write_whole};
 pub use sort::by::{SortBy, WholeLines};
 pub use sort::keyed_lines::KeyedLines;

@@ -1,12 +1,31 @@
 //! The lines of an input, and outputs in which what is written for a line depends on that line alone.
-ghost use Rattle.std.specs.Prelude.{◌≡◌, ℕ, ◌<◌, List, [], ◌∷◌, ◌++◌, length, OnOk, OnErr};
+ghost use Rattle.std.specs.Prelude.{◌≡◌, ℕ, ◌<◌, ◌≤◌, ◌+◌, List, [], ◌∷◌, ◌++◌, drop, length, take, OnOk, OnErr};
 ghost use Rattle.std.specs.Io.KnownBytes.{Appends};
-ghost use Rattle.version_lines.specs.Lines.{answer_text, lines_of, output_by};
+ghost use Rattle.version_lines.specs.Lines.{after_line, after_lines, answer_text, lines_of, output_by, plain_end};
 ghost use Rattle.version_lines.specs.Output.{AppendsProperBeginning, AppendsUpTo};
 
+use crate::csv::length_before;
 use crate::output::{NotWritten, put_line, write_whole};
 use memchr::memchr;
 use std::io::Write;
+
+/// What ends lines.
+#[derive(Clone, Copy, Debug, PartialEq, Eq)]
+pub struct LineEnd {
+    /// The byte that ends a line.
+    pub byte: u8,
+    /// The byte between two fields of CSV, in whose quotes the other is a byte of the line; None if lines are no CSV.
+    pub csv: Option<u8>,
+}
+
+impl LineEnd {
+    /// Returns that each such byte ends a line.
+    pub fn plain(byte: u8) -> LineEnd
+        ensures { result ≡ plain_end byte }
+    {
+        LineEnd { byte, csv: None }
+    }
+}
 
 /// What is written for a line.
 #[derive(Clone, Copy)]
@@ -32,34 +51,64 @@ pub trait LineCommand {
 /// Writes the answer for each line of the input, through an empty buffer. Does not allocate.
 pub fn answer_lines<C: LineCommand, W: Write>(
     command: &C,
-    end: u8,
+    end: LineEnd,
     input: &[u8],
     writer: &mut W,
     buffer: &mut Vec<u8>,
 ) -> Result<(), NotWritten>
     requires { buffer.old.items ≡ [] }
     ensures ok { OnOk result (Appends (W.contents writer.old) (W.contents writer.new)
-        (output_by end (C.line_output command.now end) input.now)) }
+        (output_by end (C.line_output command.now end.byte) input.now)) }
     ensures err { OnErr result (AppendsProperBeginning (W.contents writer.old) (W.contents writer.new)
-        (output_by end (C.line_output command.now end) input.now)) }
+        (output_by end (C.line_output command.now end.byte) input.now)) }
 {
     let mut rest = input;
     while !rest.is_empty() {
         let (line, after) = split_line(end, rest);
-        put_answer(command.answer(line), end, line, writer, buffer)?;
+        put_answer(command.answer(line), end.byte, line, writer, buffer)?;
         rest = after;
     }
     write_whole(writer, buffer.as_slice())
 }
 
-/// Splits off the first line and the byte that ends it, and returns the line and the rest.
-pub fn split_line(end: u8, text: &[u8]) -> (&[u8], &[u8])
+/// Splits off the first line and the byte that ends it, and returns the line and the rest. A line of CSV whose quotes
+/// never close goes to the end of the text.
+pub fn split_line(end: LineEnd, text: &[u8]) -> (&[u8], &[u8])
     requires { 0 < length text.now }
     ensures lines { lines_of end text.now ≡ result.0.now ∷ lines_of end result.1.now }
+    ensures rest { result.1.now ≡ after_line end text.now }
     ensures shorter { length result.1.now < length text.now }
 {
-    let line = memchr(end, text).unwrap_or(text.len());
+    let line = line_length(end, text);
     (&text[..line], &text[text.len().min(line + 1)..])
+}
+
+// Returns the length of the first line.
+#[inline(always)]
+fn line_length(end: LineEnd, text: &[u8]) -> usize
+    requires { 0 < length text.now }
+    ensures lines { lines_of end text.now ≡ take result text.now ∷ lines_of end (drop (result + 1) text.now) }
+    ensures rest { after_line end text.now ≡ drop (result + 1) text.now }
+    ensures within { result ≤ length text.now }
+{
+    match end.csv {
+        Some(separator) => length_before(end.byte, separator, text),
+        None => memchr(end.byte, text).unwrap_or(text.len()),
+    }
+}
+
+/// Returns what follows so many lines of a text.
+pub fn after_lines(end: LineEnd, count: usize, text: &[u8]) -> &[u8]
+    ensures { result.now ≡ after_lines end count text.now }
+{
+    let mut rest = text;
+    for _ in 0..count {
+        if rest.is_empty() {
+            return rest;
+        }
+        rest = split_line(end, rest).1;
+    }
+    rest
 }
 
 // Adds the answer for a line to the buffer.

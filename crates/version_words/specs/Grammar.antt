@@ -77,6 +77,9 @@ rule_of_argument argument = rule_of_form argument.form argument.letter argument.
 abbrev pub separator_rule : Rule
 separator_rule = text_rule (Some 116) (codes "field-separator")
 
+abbrev pub csv_rule : Rule
+csv_rule = flag_rule None (codes "csv")
+
 abbrev pub tags_rule : Rule
 tags_rule = flag_rule None (codes "tags")
 
@@ -103,14 +106,14 @@ invalid_rule = text_rule None (codes "invalid")
 -- the options of each command that answers with lines of its input
 abbrev pub lines_rules : List Rule
 lines_rules = invalid_rule ∷ text_rule None (codes "invalid-to")
-    ∷ number_rule (Some 107) (codes "key") ∷ separator_rule ∷ tags_rule ∷ prefix_rule
+    ∷ text_rule (Some 107) (codes "key") ∷ separator_rule ∷ csv_rule ∷ tags_rule ∷ prefix_rule
     ∷ scheme_rule ∷ text_rule None (codes "min-stability") ∷ text_rule None (codes "match")
     ∷ flag_rule None (codes "header") ∷ number_rule None (codes "header-lines") ∷ zero_rule
     ∷ crlf_rule ∷ flag_rule None (codes "progress") ∷ []
 
 -- the column that names the scheme of a line
 abbrev pub scheme_column_rule : Rule
-scheme_column_rule = number_rule None (codes "scheme-column")
+scheme_column_rule = text_rule None (codes "scheme-column")
 
 -- a command without commands of its own
 abbrev pub command_shape : List ℕ → List Rule → Shape
@@ -144,7 +147,7 @@ rules_of verb.Sort =
     words_rule ∷ flag_rule (Some 114) (codes "reverse") ∷ flag_rule (Some 117) (codes "unique")
     ∷ scheme_column_rule ∷ lines_rules
 rules_of verb.Newest =
-    words_rule ∷ number_rule (Some 110) (codes "count") ∷ number_rule (Some 103) (codes "group")
+    words_rule ∷ number_rule (Some 110) (codes "count") ∷ text_rule (Some 103) (codes "group")
     ∷ scheme_column_rule ∷ lines_rules
 rules_of verb.Filter =
     first_word_rule (codes "SET") ∷ words_rule ∷ flag_rule (Some 118) (codes "invert-match") ∷ lines_rules
@@ -161,7 +164,7 @@ rules_of verb.Implies = sets_rules
 rules_of verb.Meets = sets_rules
 rules_of verb.Diff = word_rule (codes "A") ∷ word_rule (codes "B") ∷ flag_rule None (codes "lists")
     ∷ number_rule (Some 103) (codes "group") ∷ number_rule (Some 107) (codes "key") ∷ separator_rule
-    ∷ tags_rule ∷ prefix_rule ∷ scheme_rule ∷ invalid_rule ∷ ending_rules
+    ∷ csv_rule ∷ tags_rule ∷ prefix_rule ∷ scheme_rule ∷ invalid_rule ∷ ending_rules
 rules_of verb.Next = word_rule (codes "PLACE") ∷ words_rule ∷ text_rule None (codes "word") ∷ tags_rule ∷ prefix_rule ∷ ending_rules
 
 -- a command, as `clap` has it

@@ -1,5 +1,7 @@
 -- What single words of a run name.
-use Rattle.std.specs.Prelude.{ℕ, Bool, true, false, List, [], ◌∷◌, Option, None, Some, codes, nat_lt, unwrap_or, ◌||◌, ◌&&◌, ◌^◌, if◌then◌else◌}
+use Rattle.std.specs.Prelude.{ℕ, Bool, true, false, List, [], ◌∷◌, Option, None, Some, codes, nat_lt, unwrap_or, ◌==◌, ◌||◌, ◌&&◌, ◌^◌, if◌then◌else◌}
+use Rattle.std.specs.Char.{is_ascii}
+use Rattle.std.specs.List.{list_all}
 use Rattle.std.specs.Str.{bytes_eq}
 use Rattle.std.specs.Str.Parse.{digits_value, without_leading_plus}
 use Rattle.version_commands.specs.declared.options.Invalid.{Invalid}
@@ -8,6 +10,7 @@ use Rattle.version_commands.specs.declared.options.Invalid.TheVariants as invali
 use Rattle.version_commands.specs.declared.options.Operator.TheVariants as operator
 use Rattle.version_words.specs.declared.named.Verb.{Verb}
 use Rattle.version_words.specs.declared.named.Verb.TheVariants as verb
+use Rattle.version_lines.specs.Column.{has_bytes}
 use Rattle.version_rules.specs.grammar.DigitRun.{is_digits}
 use Rattle.version_tasks.specs.declared.stability.Stability.{Stability}
 use Rattle.version_tasks.specs.declared.stability.Stability.TheVariants as stability
@@ -72,12 +75,12 @@ operator_named word =
     else (if bytes_eq word (codes ">") || bytes_eq word (codes "gt") then Some operator.Greater
     else None))))
 
--- the byte that a word of `-t` names: itself, a tab by `\t` and NUL by `\0`
-abbrev pub separator_named : List ℕ → Option ℕ
-separator_named (byte ∷ []) = Some byte
-separator_named word =
-    if bytes_eq word (codes "\\t") then Some 9
-    else (if bytes_eq word (codes "\\0") then Some 0 else None)
+-- the bytes that a word of `-t` names: its own, if they are ASCII and there are any, a tab by `\t` and NUL by `\0`
+abbrev pub separators_named : List ℕ → Option (List ℕ)
+separators_named word =
+    if bytes_eq word (codes "\\t") then Some (9 ∷ [])
+    else (if bytes_eq word (codes "\\0") then Some (0 ∷ [])
+    else (if list_all is_ascii word && has_bytes word then Some word else None))
 
 -- the number that a word is, if it is all digits and fits
 abbrev pub number_named : List ℕ → Option ℕ
@@ -88,6 +91,14 @@ number_named word =
 -- the same with a plus before it
 abbrev pub count_named : List ℕ → Option ℕ
 count_named word = number_named (without_leading_plus word)
+
+-- whether the word of a column is its number: digits, perhaps with a plus before them; it is a name else
+abbrev pub is_number : List ℕ → Bool
+is_number word = is_digits (without_leading_plus word)
+
+-- whether it is the number of no column: 0, or one that doesn't fit
+abbrev pub is_no_column : List ℕ → Bool
+is_no_column word = is_number word && (unwrap_or (count_named word) 0 == 0)
 
 -- the place of a number that a word of `next` names, counted from 0
 abbrev pub place_named : List ℕ → Option ℕ

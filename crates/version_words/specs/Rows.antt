@@ -1,18 +1,22 @@
 -- What the rows say that `clap` made of a command's words.
-use Rattle.std.specs.Prelude.{◌-◌, ℕ, Bool, false, List, [], Option, None, Some, codes, is_some, not, option_and_then, option_map, unwrap_or, ◌&&◌, ◌||◌, if◌then◌else◌}
-use Rattle.std.specs.Option.{option_map_or}
+use Rattle.std.specs.Prelude.{◌≡◌, ◌==◌, ◌⊎◌, ◌∷◌, ◌-◌, ℕ, Bool, false, true, List, [], Option, None, Some, codes, is_some, not, option_and_then, option_map, unwrap_or, ◌&&◌, ◌||◌, if◌then◌else◌}
+use Rattle.std.specs.Option.{option_map_or, option_or}
 use Rattle.std.specs.Str.{bytes_eq}
 use Rattle.clap.specs.Words.{all_of, first_of, rows_of, found_of, Row}
 use Rattle.clap.specs.declared.parser.matches.ArgMatches.{ArgMatches}
 use Rattle.version_commands.specs.declared.options.Invalid.{Invalid}
 use Rattle.version_commands.specs.declared.options.Invalid.TheVariants.{Fail, Skip}
+use Rattle.version_lines.specs.Csv.{quote}
 use Rattle.version_lines.specs.declared.column.Column.{Column}
+use Rattle.version_lines.specs.declared.column.Separators.{Separators}
+use Rattle.version_lines.specs.declared.column.Separators.TheVariants.{Blanks, Bytes, Csv}
+use Rattle.version_lines.specs.declared.lines.LineEnd.{LineEnd}
 use Rattle.version_schemes.specs.Scheme.{scheme_named}
 use Rattle.version_schemes.specs.declared.scheme.Scheme.{Scheme}
 use Rattle.version_schemes.specs.declared.scheme.Scheme.TheVariants.{Mixed}
 use Rattle.version_tasks.specs.declared.stability.Stability.{Stability}
 use Rattle.version_tasks.specs.declared.stability.Stability.TheVariants.{Dev}
-use Rattle.version_words.specs.Named.{count_named, invalid_asked, invalid_named, may_ask, separator_named, stability_named}
+use Rattle.version_words.specs.Named.{count_named, invalid_asked, invalid_named, is_no_column, is_number, may_ask, separators_named, stability_named}
 use Rattle.version_words.specs.declared.named.Verb.{Verb}
 use Rattle.version_words.specs.declared.named.Verb.TheVariants.{Filter}
 
@@ -44,18 +48,72 @@ number_of name rows = option_and_then count_named (first_of name rows)
 abbrev pub end_of : List Row → ℕ
 end_of rows = if is_set (codes "zero-terminated") rows then 0 else 10
 
--- the byte between columns, if it is asked for; None of all where the word names no byte
-abbrev pub separator_of : List Row → Option (Option ℕ)
-separator_of rows = option_map_or (λ word. option_map Some (separator_named word))
+-- the bytes between columns, if they are asked for; None of all where the word names none
+abbrev pub separators_asked : List Row → Option (Option (List ℕ))
+separators_asked rows = option_map_or (λ word. option_map Some (separators_named word))
     (first_of (codes "field-separator") rows) (Some None)
 
+-- whether columns are the fields of CSV
+abbrev pub is_csv : List Row → Bool
+is_csv rows = is_set (codes "csv") rows
+
+-- the byte between these: the one that is asked for, which is neither a quote nor the byte that ends lines, or else a
+-- comma
+abbrev pub csv_separator : ℕ → Option (List ℕ) → Option ℕ
+csv_separator end None = Some 44
+csv_separator end (Some (byte ∷ [])) = if byte == quote || byte == end then None else Some byte
+csv_separator end (Some bytes) = None
+
+abbrev pub csv_separator_of : List Row → Option ℕ
+csv_separator_of rows = option_and_then (csv_separator (end_of rows)) (separators_asked rows)
+
+-- what stands between columns
+abbrev pub AreSeparators : List Row → Separators → Type 0
+AreSeparators rows Blanks = (is_csv rows ≡ false) × (separators_asked rows ≡ Some None)
+AreSeparators rows (Bytes bytes) = (is_csv rows ≡ false) × (separators_asked rows ≡ Some (Some bytes.now))
+AreSeparators rows (Csv separator) = (is_csv rows ≡ true) × (csv_separator_of rows ≡ Some separator)
+
+-- the words name nothing that can stand there
+abbrev pub HasNoSeparators : List Row → Type 0
+HasNoSeparators rows = (separators_asked rows ≡ None) ⊎ ((is_csv rows ≡ true) × (csv_separator_of rows ≡ None))
+
+-- the separator of CSV
+abbrev pub csv_of : Separators → Option ℕ
+csv_of (Csv separator) = Some separator
+csv_of others = None
+
+-- how lines end
+abbrev pub line_end : Separators → List Row → LineEnd
+line_end separators rows = record { byte = end_of rows; csv = csv_of separators }
+
+-- whether a carriage return at the end of a line belongs to the line's end, as it does in CSV
+abbrev pub is_crlf : List Row → Bool
+is_crlf rows = is_set (codes "crlf") rows || is_csv rows
+
 -- the column of a number that counts from 1
-abbrev pub column_at : Option ℕ → ℕ → Column
-column_at separator number = record { number = number - 1; separator = separator }
+abbrev pub column_at : Separators → ℕ → Column
+column_at separators number = record { number = number - 1; separators = separators }
 
 -- the column that an option asks for
-abbrev pub column_of : List ℕ → Option ℕ → List Row → Option Column
-column_of name separator rows = option_map (column_at separator) (number_of name rows)
+abbrev pub column_of : List ℕ → Separators → List Row → Option Column
+column_of name separators rows = option_map (column_at separators) (number_of name rows)
+
+-- the number of the version's column: where none is asked for, 1 of CSV
+abbrev pub key_of : List Row → Option ℕ
+key_of rows = option_or (number_of (codes "key") rows) (if is_csv rows then Some 1 else None)
+
+-- the name of the column that an option asks for, if its word is one
+abbrev pub name_of_column : List ℕ → List Row → Option (List ℕ)
+name_of_column option rows =
+    option_and_then (λ word. if is_number word then None else Some word) (first_of option rows)
+
+-- whether an option asks for a column by its name
+abbrev pub is_named : List ℕ → List Row → Bool
+is_named option rows = is_some (name_of_column option rows)
+
+-- whether it asks for one by the number of none
+abbrev pub has_no_column : List ℕ → List Row → Bool
+has_no_column option rows = option_map_or is_no_column (first_of option rows) false
 
 -- the level of the versions that are kept
 abbrev pub level_of : List Row → Option Stability
@@ -92,6 +150,16 @@ invalid_of command rows = option_and_then
 abbrev pub header_of : List Row → ℕ
 header_of rows = unwrap_or (number_of (codes "header-lines") rows) (if is_set (codes "header") rows then 1 else 0)
 
+-- whether a column is asked for by its name where no line has names
+abbrev pub lacks_header : List Row → Bool
+lacks_header rows = header_of rows == 0 && (is_named (codes "key") rows
+    || (is_named (codes "group") rows || is_named (codes "scheme-column") rows))
+
+-- whether a column is asked for that can't be: by the number of none, or by its name without a header
+abbrev pub has_wrong_column : List Row → Bool
+has_wrong_column rows = has_no_column (codes "key") rows || (has_no_column (codes "group") rows
+    || (has_no_column (codes "scheme-column") rows || lacks_header rows))
+
 -- whether `filter` has no set where it needs one: no stability is asked for, or the set is to be inverted
 abbrev pub lacks_set : List Row → Bool
 lacks_set rows = not (is_given (codes "SET") rows)
@@ -102,4 +170,4 @@ abbrev pub has_option_of_lists : List Row → Bool
 has_option_of_lists rows = is_given (codes "group") rows || (is_given (codes "key") rows
     || (is_given (codes "field-separator") rows || (is_given (codes "scheme") rows
     || (is_given (codes "invalid") rows || (is_set (codes "zero-terminated") rows
-    || is_set (codes "crlf") rows)))))
+    || is_crlf rows)))))

@@ -5,6 +5,7 @@ use Rattle.clap.specs.Words.{all_of, first_of, Row}
 use Rattle.version_commands.specs.declared.options.Arrangement.{Arrangement}
 use Rattle.version_commands.specs.declared.options.Arrangement.TheVariants as arrangement
 use Rattle.version_commands.specs.declared.options.Choice.{Choice}
+use Rattle.version_commands.specs.declared.options.ColumnNames.{ColumnNames}
 use Rattle.version_commands.specs.declared.options.EachOptions.{EachOptions}
 use Rattle.version_commands.specs.declared.options.LineOptions.{LineOptions}
 use Rattle.version_commands.specs.declared.options.Lists.{Lists}
@@ -19,9 +20,10 @@ use Rattle.version_commands.specs.declared.options.Task.{Task}
 use Rattle.version_commands.specs.declared.options.Task.TheVariants as task
 use Rattle.version_commands.specs.declared.options.VersionPlace.{VersionPlace}
 use Rattle.version_lines.specs.declared.column.Column.{Column}
+use Rattle.version_lines.specs.declared.column.Separators.{Separators}
 use Rattle.version_schemes.specs.declared.scheme.Scheme.{Scheme}
 use Rattle.version_words.specs.Named.{operator_named, place_named}
-use Rattle.version_words.specs.Rows.{column_at, column_of, end_of, has_option_of_lists, has_two_schemes, header_of, invalid_of, is_given, is_set, lacks_set, level_of, number_of, scheme_of, separator_of, word_of, words_of}
+use Rattle.version_words.specs.Rows.{column_at, column_of, end_of, has_option_of_lists, has_two_schemes, has_wrong_column, header_of, invalid_of, is_crlf, is_given, is_set, key_of, lacks_set, level_of, line_end, name_of_column, number_of, scheme_of, word_of, words_of, AreSeparators, HasNoSeparators}
 use Rattle.version_words.specs.declared.named.Verb.{Verb}
 use Rattle.version_words.specs.declared.named.Verb.TheVariants.{Compare, Diff, Filter, Implies, Key, Meets, Newest, Next, Show, Sort, Test, Why}
 
@@ -38,7 +40,7 @@ IsSpelling rows spelling = IsNaming rows spelling.naming × (scheme_of rows ≡ 
 
 -- where a version is in a line
 pub record IsPlace (rows : List Row) (column : Option Column) (place : VersionPlace) : Type 0 where
-  pub crlf_is : place.crlf ≡ is_set (codes "crlf") rows
+  pub crlf_is : place.crlf ≡ is_crlf rows
   pub column_is : place.column ≡ column
   pub naming_is : IsNaming rows place.naming
   pub scheme_is : scheme_of rows ≡ Some place.scheme
@@ -48,14 +50,23 @@ pub record IsChoice (rows : List Row) (choice : Choice) : Type 0 where
   pub least_is : level_of rows ≡ Some choice.least
   pub wanted_is : option_map (λ set. set.now) choice.wanted ≡ first_of (codes "match") rows
 
--- what is asked beside the arrangement, with this byte between columns
-pub record AreLineOptions (command : Verb) (separator : Option ℕ) (rows : List Row)
+-- the columns that are asked for by their names, with this between columns
+pub record AreColumnNames (separators : Separators) (rows : List Row) (names : ColumnNames) : Type 0 where
+  pub first_is : names.first ≡ column_at separators 1
+  pub version_is : option_map (λ name. name.now) names.version ≡ name_of_column (codes "key") rows
+  pub group_is : option_map (λ name. name.now) names.group ≡ name_of_column (codes "group") rows
+  pub scheme_is : option_map (λ name. name.now) names.scheme ≡ name_of_column (codes "scheme-column") rows
+
+-- what is asked beside the arrangement, with this between columns
+pub record AreLineOptions (command : Verb) (separators : Separators) (rows : List Row)
     (options : LineOptions) : Type 0 where
-  pub end_is : options.end ≡ end_of rows
+  pub end_is : options.end ≡ line_end separators rows
   pub header_is : options.header ≡ header_of rows
-  pub place_is : IsPlace rows (column_of (codes "key") separator rows) options.place
-  pub scheme_column_is : options.scheme_column ≡ column_of (codes "scheme-column") separator rows
+  pub place_is : IsPlace rows (option_map (column_at separators) (key_of rows)) options.place
+  pub scheme_column_is : options.scheme_column ≡ column_of (codes "scheme-column") separators rows
   pub one_scheme : has_two_schemes rows ≡ false
+  pub names_are : AreColumnNames separators rows options.names
+  pub right_columns : has_wrong_column rows ≡ false
   pub choice_is : IsChoice rows options.choice
   pub invalid_is : invalid_of command rows ≡ Some options.invalid
   pub invalid_to_is : option_map (λ name. name.now) options.invalid_to ≡ first_of (codes "invalid-to") rows
@@ -63,16 +74,16 @@ pub record AreLineOptions (command : Verb) (separator : Option ℕ) (rows : List
   pub files_are : map (λ name. name.now) options.files.items ≡ words_of rows
 
 -- what is written of the lines
-abbrev pub IsArrangement : Verb → Option ℕ → List Row → Arrangement → Type 0
-IsArrangement Sort separator rows (arrangement.Sort reverse unique) =
+abbrev pub IsArrangement : Verb → Separators → List Row → Arrangement → Type 0
+IsArrangement Sort separators rows (arrangement.Sort reverse unique) =
     (reverse ≡ is_set (codes "reverse") rows) × (unique ≡ is_set (codes "unique") rows)
-IsArrangement Newest separator rows (arrangement.Newest count group) =
+IsArrangement Newest separators rows (arrangement.Newest count group) =
     (count ≡ unwrap_or (number_of (codes "count") rows) 1)
-    × (group ≡ column_of (codes "group") separator rows)
-IsArrangement Filter separator rows (arrangement.Filter set inverted) =
+    × (group ≡ column_of (codes "group") separators rows)
+IsArrangement Filter separators rows (arrangement.Filter set inverted) =
     (option_map (λ set. set.now) set ≡ first_of (codes "SET") rows)
     × (inverted ≡ is_set (codes "invert-match") rows) × (lacks_set rows ≡ false)
-IsArrangement command separator rows other = ⊥
+IsArrangement command separators rows other = ⊥
 
 -- which version `next` is asked for: a word goes with `pre` alone
 abbrev pub IsStep : List Row → Step → Type 0
@@ -109,15 +120,15 @@ pub record AreEachOptions (rows : List Row) (options : EachOptions) : Type 0 whe
   pub end_is : options.end ≡ end_of rows
   pub crlf_is : options.crlf ≡ is_set (codes "crlf") rows
 
--- the two lists of `diff`, with this byte between columns
-pub record AreLists (separator : Option ℕ) (rows : List Row) (lists : Lists) : Type 0 where
+-- the two lists of `diff`, with this between columns
+pub record AreLists (separators : Separators) (rows : List Row) (lists : Lists) : Type 0 where
   pub asked : is_set (codes "lists") rows ≡ true
   pub old_is : lists.old.now ≡ word_of (codes "A") rows
   pub new_is : lists.new.now ≡ word_of (codes "B") rows
-  pub end_is : lists.end ≡ end_of rows
-  pub name_is : lists.name ≡ column_at separator (unwrap_or (number_of (codes "group") rows) 1)
+  pub end_is : lists.end ≡ line_end separators rows
+  pub name_is : lists.name ≡ column_at separators (unwrap_or (number_of (codes "group") rows) 1)
   pub place_is : IsPlace rows
-      (Some (column_at separator (unwrap_or (number_of (codes "key") rows) 2))) lists.place
+      (Some (column_at separators (unwrap_or (number_of (codes "key") rows) 2))) lists.place
   pub invalid_is : invalid_of Diff rows ≡ Some lists.invalid
 
 -- two versions
@@ -131,9 +142,9 @@ AreTwoSets rows scheme one other = (scheme_of rows ≡ Some scheme) × (one ≡ 
 
 -- the command and its rows mean this task
 abbrev pub IsTaskOf : Verb → List Row → Task → Type 0
-IsTaskOf command rows (task.Lines arrangement options) = (separator : Option ℕ)
-    × (separator_of rows ≡ Some separator) × IsArrangement command separator rows arrangement
-    × AreLineOptions command separator rows options
+IsTaskOf command rows (task.Lines arrangement options) = (separators : Separators)
+    × AreSeparators rows separators × IsArrangement command separators rows arrangement
+    × AreLineOptions command separators rows options
 IsTaskOf command rows (task.Each question options) =
     IsQuestion command rows question × AreEachOptions rows options
 IsTaskOf Test rows (task.TestTwo spelling first operator second) = (word : List ℕ) × IsSpelling rows spelling
@@ -149,8 +160,8 @@ IsTaskOf Compare rows (task.Explain naming first second) = (is_set (codes "expla
     × (is_given (codes "scheme") rows ≡ false) × IsNaming rows naming × AreTwo rows first.now second.now
 IsTaskOf Diff rows (task.Difference naming first second) = (is_set (codes "lists") rows ≡ false)
     × (has_option_of_lists rows ≡ false) × IsNaming rows naming × AreTwo rows first.now second.now
-IsTaskOf Diff rows (task.Lists lists) = (separator : Option ℕ)
-    × (separator_of rows ≡ Some separator) × AreLists separator rows lists
+IsTaskOf Diff rows (task.Lists lists) = (separators : Separators)
+    × AreSeparators rows separators × AreLists separators rows lists
 IsTaskOf command rows other = ⊥
 
 -- ---- what is wrong
@@ -167,14 +178,14 @@ HasWrongNaming rows = (is_set (codes "tags") rows ≡ true) × (is_given (codes 
 abbrev pub HasWrongSpelling : List Row → Type 0
 HasWrongSpelling rows = HasWrongNaming rows ⊎ HasWrongScheme rows
 
--- of the place of a version: the same, or the byte between columns is none
+-- of the place of a version: the same, or nothing can stand between columns that the words name
 abbrev pub HasWrongPlace : List Row → Type 0
-HasWrongPlace rows = (separator_of rows ≡ None) ⊎ HasWrongSpelling rows
+HasWrongPlace rows = HasNoSeparators rows ⊎ HasWrongSpelling rows
 
 -- of the options of a command over lines
 abbrev pub HasWrongLines : Verb → List Row → Type 0
 HasWrongLines command rows = HasWrongPlace rows ⊎ ((has_two_schemes rows ≡ true)
-    ⊎ ((level_of rows ≡ None) ⊎ (invalid_of command rows ≡ None)))
+    ⊎ ((has_wrong_column rows ≡ true) ⊎ ((level_of rows ≡ None) ⊎ (invalid_of command rows ≡ None))))
 
 -- of `filter`: the same, or it has no set where it needs one
 abbrev pub HasWrongFilter : List Row → Type 0

@@ -1,7 +1,9 @@
 //! What single words name.
 
-ghost use Rattle.std.specs.Prelude.{◌≡◌};
-ghost use Rattle.version_words.specs.Named.{count_named, invalid_asked, invalid_named, may_ask, number_named, operator_named, place_named, separator_named, stability_named, verb_named};
+ghost use Rattle.std.specs.Prelude.{◌≡◌, option_map};
+ghost use Rattle.std.specs.Char.{is_ascii};
+ghost use Rattle.std.specs.List.{list_all};
+ghost use Rattle.version_words.specs.Named.{count_named, invalid_asked, invalid_named, is_no_column, is_number, may_ask, number_named, operator_named, place_named, separators_named, stability_named, verb_named};
 
 use version_commands::{Invalid, Operator};
 use version_tasks::Stability;
@@ -108,18 +110,23 @@ pub fn operator_named(word: &str) -> Option<Operator>
     }
 }
 
-/// Returns the byte that a word of `-t` names.
-pub fn separator_named(word: &str) -> Option<u8>
-    ensures { result ≡ separator_named word.now }
+/// Returns the bytes that a word of `-t` names.
+pub fn separators_named(word: &str) -> Option<&[u8]>
+    ensures { option_map (λ bytes. bytes.now) result ≡ separators_named word.now }
 {
-    if let [byte] = word.as_bytes() {
-        return Some(*byte);
-    }
     match word {
-        "\\t" => Some(b'\t'),
-        "\\0" => Some(0),
+        "\\t" => Some(b"\t"),
+        "\\0" => Some(b"\0"),
+        _ if is_ascii(word) && !word.is_empty() => Some(word.as_bytes()),
         _ => None,
     }
+}
+
+// Whether each byte of a word is ASCII.
+fn is_ascii(word: &str) -> bool
+    ensures { result ≡ list_all is_ascii word.now }
+{
+    word.as_bytes().iter().all(|byte| byte.is_ascii())
 }
 
 /// Returns the place of a number that a word of `next` names, counted from 0: by its name, or by digits.
@@ -142,6 +149,23 @@ pub fn count_named(word: &str) -> Option<usize>
         Some(digits) => number_named(digits),
         None => number_named(word),
     }
+}
+
+/// Returns whether the word of a column is its number: digits, perhaps after a plus. It is a name else.
+pub fn is_number(word: &str) -> bool
+    ensures { result ≡ is_number word.now }
+{
+    match word.strip_prefix("+") {
+        Some(digits) => is_digits(digits.as_bytes()),
+        None => is_digits(word.as_bytes()),
+    }
+}
+
+/// Returns whether the word of a column is the number of none: 0, or one that doesn't fit.
+pub fn is_no_column(word: &str) -> bool
+    ensures { result ≡ is_no_column word.now }
+{
+    is_number(word) && count_named(word).unwrap_or(0) == 0
 }
 
 // Returns the number that a word is, if it is all digits and fits.

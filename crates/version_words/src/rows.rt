@@ -1,20 +1,23 @@
 //! What the words say to a command.
 
-ghost use Rattle.std.specs.Prelude.{◌≡◌, ◌⊎◌, None, Some, codes, false, true, map, option_map, IfErr, IfOk, unwrap_or};
+ghost use Rattle.std.specs.Prelude.{◌≡◌, ◌⊎◌, None, Some, codes, false, true, map, option_map, IfErr, IfOk, OnOk, unwrap_or};
 ghost use Rattle.clap.specs.Words.{all_of, first_of, subcommand_rows_of};
-ghost use Rattle.version_words.specs.Rows.{column_at, column_of, end_of, has_option_of_lists, has_two_schemes, header_of, invalid_of, invalid_unasked, invalid_word, is_given, is_set, lacks_set, level_of, number_of, rows_in, scheme_of, separator_of, word_of, words_of};
+ghost use Rattle.version_words.specs.Rows.{column_at, column_of, csv_separator, end_of, has_no_column, has_option_of_lists, has_two_schemes, has_wrong_column, header_of, invalid_of, invalid_unasked, invalid_word, is_crlf, is_csv, is_given, is_named, is_set, key_of, lacks_header, lacks_set, level_of, line_end, name_of_column, number_of, rows_in, scheme_of, separators_asked, word_of, words_of, AreSeparators, HasNoSeparators};
 ghost use Rattle.version_words.specs.Words.{command_in, ComesOfWrong};
 
 use crate::faults::WordsFault;
 use crate::named::{
-    Verb, count_named, invalid_asked, invalid_named, may_ask, separator_named, stability_named,
-    verb_named,
+    Verb, count_named, invalid_asked, invalid_named, is_no_column, is_number, may_ask,
+    separators_named, stability_named, verb_named,
 };
-use crate::wrong::{wrong, wrong_invalid, wrong_scheme, wrong_separator, wrong_stability};
+use crate::wrong::{
+    wrong, wrong_column, wrong_csv_separator, wrong_invalid, wrong_scheme, wrong_separators,
+    wrong_stability,
+};
 use clap::ArgMatches;
 use std::alloc::{AllocError, Global};
 use version_commands::Invalid;
-use version_lines::Column;
+use version_lines::{Column, LineEnd, Separators};
 use version_schemes::Scheme;
 use version_tasks::Stability;
 
@@ -104,35 +107,177 @@ pub fn header_of(options: &ArgMatches<'_>) -> usize
     }
 }
 
-/// Returns the byte between columns, if it is asked for.
-pub fn separator_of(alloc: Global, options: &ArgMatches<'_>) -> Result<Option<u8>, WordsFault>
-    ensures ok { IfOk result (λ separator. separator_of (rows_in options.now) ≡ Some separator) }
-    ensures faults { IfErr result (ComesOfWrong (separator_of (rows_in options.now) ≡ None)) }
+/// Returns what stands between columns.
+pub fn separators_of<'w>(
+    alloc: Global,
+    options: &ArgMatches<'w>,
+) -> Result<Separators<'w>, WordsFault>
+    ensures ok { IfOk result (AreSeparators (rows_in options.now)) }
+    ensures faults { IfErr result (ComesOfWrong (HasNoSeparators (rows_in options.now))) }
+{
+    let asked = separators_asked(alloc, options)?;
+    if is_csv(options) {
+        return match csv_separator(end_of(options), asked) {
+            Some(separator) => Ok(Separators::Csv(separator)),
+            None => Err(wrong_csv_separator(alloc, word_of(options, "field-separator"))),
+        };
+    }
+    match asked {
+        Some(bytes) => Ok(Separators::Bytes(bytes)),
+        None => Ok(Separators::Blanks),
+    }
+}
+
+// Returns the bytes between columns, if they are asked for.
+fn separators_asked<'w>(
+    alloc: Global,
+    options: &ArgMatches<'w>,
+) -> Result<Option<&'w [u8]>, WordsFault>
+    ensures ok { IfOk result (λ asked. separators_asked (rows_in options.now)
+        ≡ Some (option_map (λ bytes. bytes.now) asked)) }
+    ensures faults { IfErr result (ComesOfWrong (separators_asked (rows_in options.now) ≡ None)) }
 {
     let Some(word) = text_of(options, "field-separator") else {
         return Ok(None);
     };
-    match separator_named(word) {
-        Some(separator) => Ok(Some(separator)),
-        None => Err(wrong_separator(alloc, word)),
+    match separators_named(word) {
+        Some(bytes) => Ok(Some(bytes)),
+        None => Err(wrong_separators(alloc, word)),
     }
+}
+
+// Returns the byte between the fields of CSV.
+fn csv_separator(end: u8, asked: Option<&[u8]>) -> Option<u8>
+    ensures { result ≡ csv_separator end (option_map (λ bytes. bytes.now) asked.entry) }
+{
+    match asked {
+        None => Some(b','),
+        Some([byte]) if *byte != b'"' && *byte != end => Some(*byte),
+        Some(_) => None,
+    }
+}
+
+// Whether columns are the fields of CSV.
+fn is_csv(options: &ArgMatches<'_>) -> bool
+    ensures { result ≡ is_csv (rows_in options.now) }
+{
+    is_set(options, "csv")
+}
+
+/// Returns how lines end.
+pub fn line_end(separators: Separators<'_>, options: &ArgMatches<'_>) -> LineEnd
+    ensures { result ≡ line_end separators.entry (rows_in options.now) }
+{
+    let csv = match separators {
+        Separators::Csv(separator) => Some(separator),
+        Separators::Blanks | Separators::Bytes(_) => None,
+    };
+    LineEnd {
+        byte: end_of(options),
+        csv,
+    }
+}
+
+/// Whether a carriage return at the end of a line belongs to the line's end.
+pub fn is_crlf(options: &ArgMatches<'_>) -> bool
+    ensures { result ≡ is_crlf (rows_in options.now) }
+{
+    is_set(options, "crlf") || is_csv(options)
 }
 
 /// Returns the column that an option names.
-pub fn column_of(options: &ArgMatches<'_>, name: &str, separator: Option<u8>) -> Option<Column>
-    ensures { result ≡ column_of name.now separator (rows_in options.now) }
+pub fn column_of<'w>(
+    options: &ArgMatches<'_>,
+    name: &str,
+    separators: Separators<'w>,
+) -> Option<Column<'w>>
+    ensures { result ≡ column_of name.now separators.entry (rows_in options.now) }
 {
-    Some(column_at(separator, number_of(options, name)?))
+    Some(column_at(separators, number_of(options, name)?))
 }
 
 /// Returns the column of a number that counts from 1.
-pub fn column_at(separator: Option<u8>, number: usize) -> Column
-    ensures { result ≡ column_at separator number }
+pub fn column_at(separators: Separators<'_>, number: usize) -> Column<'_>
+    ensures { result ≡ column_at separators.entry number }
 {
     Column {
         number: number.saturating_sub(1),
-        separator,
+        separators,
     }
+}
+
+/// Returns the column of the version, or None for the whole line.
+pub fn key_column<'w>(separators: Separators<'w>, options: &ArgMatches<'_>) -> Option<Column<'w>>
+    ensures { result ≡ option_map (column_at separators.entry) (key_of (rows_in options.now)) }
+{
+    match number_of(options, "key") {
+        Some(number) => Some(column_at(separators, number)),
+        None if is_csv(options) => Some(column_at(separators, 1)),
+        None => None,
+    }
+}
+
+/// Returns the name of the column that an option asks for, if its word is one.
+pub fn name_of_column<'w>(options: &ArgMatches<'w>, option: &str) -> Option<&'w str>
+    ensures { option_map (λ name. name.now) result ≡ name_of_column option.now (rows_in options.now) }
+{
+    let word = text_of(options, option)?;
+    if is_number(word) {
+        return None;
+    }
+    Some(word)
+}
+
+// Returns whether an option asks for a column by its name.
+fn is_named(options: &ArgMatches<'_>, option: &str) -> bool
+    ensures { result ≡ is_named option.now (rows_in options.now) }
+{
+    name_of_column(options, option).is_some()
+}
+
+// Returns whether a column is asked for by its name where no line has names.
+fn lacks_header(options: &ArgMatches<'_>) -> bool
+    ensures { result ≡ lacks_header (rows_in options.now) }
+{
+    header_of(options) == 0
+        && (is_named(options, "key")
+            || is_named(options, "group")
+            || is_named(options, "scheme-column"))
+}
+
+// Fails where an option asks for a column by the number of none.
+fn refuse_number(
+    alloc: Global,
+    options: &ArgMatches<'_>,
+    option: &str,
+    argument: &str,
+) -> Result<(), WordsFault>
+    ensures ok { OnOk result (has_no_column option.now (rows_in options.now) ≡ false) }
+    ensures faults { IfErr result (ComesOfWrong (has_no_column option.now (rows_in options.now) ≡ true)) }
+{
+    match text_of(options, option) {
+        Some(word) if is_no_column(word) => Err(wrong_column(alloc, word, argument)),
+        _ => Ok(()),
+    }
+}
+
+/// Fails where a column is asked for that can't be: by the number of none, or by its name without a header.
+pub fn refuse_columns(alloc: Global, options: &ArgMatches<'_>) -> Result<(), WordsFault>
+    ensures ok { OnOk result (has_wrong_column (rows_in options.now) ≡ false) }
+    ensures faults { IfErr result (ComesOfWrong (has_wrong_column (rows_in options.now) ≡ true)) }
+{
+    refuse_number(alloc, options, "key", "'--key <COLUMN>'")?;
+    refuse_number(alloc, options, "group", "'--group <COLUMN>'")?;
+    refuse_number(
+        alloc,
+        options,
+        "scheme-column",
+        "'--scheme-column <COLUMN>'",
+    )?;
+    if lacks_header(options) {
+        return Err(wrong(alloc, "a column by its name needs --header"));
+    }
+    Ok(())
 }
 
 /// Returns the level of the versions that are kept.
@@ -164,21 +309,22 @@ pub fn scheme_of(alloc: Global, options: &ArgMatches<'_>) -> Result<Scheme, Word
 }
 
 /// Returns the column that names the scheme of a line, if it is asked for.
-pub fn scheme_column_of(
+pub fn scheme_column_of<'w>(
     alloc: Global,
-    separator: Option<u8>,
+    separators: Separators<'w>,
     options: &ArgMatches<'_>,
-) -> Result<Option<Column>, WordsFault>
-    ensures column { IfOk result (λ column. column ≡ column_of (codes "scheme-column") separator (rows_in options.now)) }
+) -> Result<Option<Column<'w>>, WordsFault>
+    ensures column { IfOk result (λ column. column
+        ≡ column_of (codes "scheme-column") separators.entry (rows_in options.now)) }
     ensures one { IfOk result (λ _. has_two_schemes (rows_in options.now) ≡ false) }
     ensures faults { IfErr result (ComesOfWrong (has_two_schemes (rows_in options.now) ≡ true)) }
 {
     if has_two_schemes(options) {
         let what =
-            "the argument '--scheme-column <N>' cannot be used with '--scheme <NAME>' or '--match <SET>'";
+            "the argument '--scheme-column <COLUMN>' cannot be used with '--scheme <NAME>' or '--match <SET>'";
         return Err(wrong(alloc, what));
     }
-    Ok(column_of(options, "scheme-column", separator))
+    Ok(column_of(options, "scheme-column", separators))
 }
 
 // Returns whether a column of schemes is given beside a scheme or a set.
@@ -250,7 +396,7 @@ pub fn has_option_of_lists(options: &ArgMatches<'_>) -> bool
         || is_given(options, "scheme")
         || is_given(options, "invalid")
         || is_set(options, "zero-terminated")
-        || is_set(options, "crlf")
+        || is_crlf(options)
 }
 
 /// Returns whether `filter` has no set where it needs one: no stability is asked for, or the set is to be inverted.

@@ -93,7 +93,11 @@ pub fn entry_of(command: Verb) -> Entry
             usage: None,
             example: "Example:
   $ printf '%s\\n' v1.9.0 v1.10.0 v2.0.0-rc.1 | versions newest --tags --min-stability stable
-  v1.10.0",
+  v1.10.0
+  $ printf '%s\\n' name,version left,1.9 up,2.0 left,1.10 | versions newest --header -t, -k version -g name
+  name,version
+  left,1.10
+  up,2.0",
             own: &NEWEST,
             shared: &LINES,
         },
@@ -241,7 +245,14 @@ const FIELD_SEPARATOR: Argument = Argument {
     form: Form::Text("SEP"),
     letter: Some('t'),
     name: "field-separator",
-    help: "The byte between columns, \\t or \\0 too; runs of spaces and tabs unless it is given",
+    help: "The bytes between columns, each alone, \\t or \\0 too; runs of spaces and tabs unless they are given",
+};
+
+const CSV: Argument = Argument {
+    form: Form::Flag,
+    letter: None,
+    name: "csv",
+    help: "Lines are records of CSV and columns their fields: column 1 without -k, a comma between them without -t",
 };
 
 const TAGS: Argument = Argument {
@@ -266,10 +277,10 @@ const SCHEME: Argument = Argument {
 };
 
 const SCHEME_COLUMN: Argument = Argument {
-    form: Form::Number,
+    form: Form::Text("COLUMN"),
     letter: None,
     name: "scheme-column",
-    help: "Column N names the scheme of a line; the lines of each scheme together, as schemes first appear",
+    help: "The column names the scheme of a line; the lines of each scheme together, as schemes first appear",
 };
 
 const ZERO_TERMINATED: Argument = Argument {
@@ -318,10 +329,10 @@ static NEWEST: [Argument; 5] = [
         help: "How many, the newest first; 1 unless it is given",
     },
     Argument {
-        form: Form::Number,
+        form: Form::Text("COLUMN"),
         letter: Some('g'),
         name: "group",
-        help: "Of each value of column N, the groups as they first appear",
+        help: "Of each value of the column, the groups as they first appear",
     },
     SCHEME_COLUMN,
     Argument {
@@ -417,7 +428,7 @@ static SETS: [Argument; 3] = [
     SCHEME,
 ];
 
-static DIFF: [Argument; 10] = [
+static DIFF: [Argument; 11] = [
     Argument {
         form: Form::Word,
         letter: None,
@@ -449,6 +460,7 @@ static DIFF: [Argument; 10] = [
         help: "The version is column N; 2 unless it is given",
     },
     FIELD_SEPARATOR,
+    CSV,
     TAGS,
     PREFIX,
     SCHEME,
@@ -479,7 +491,7 @@ static NEXT: [Argument; 5] = [
 ];
 
 // What the commands take that answer with lines of their input, after their own arguments.
-static LINES: [Argument; 13] = [
+static LINES: [Argument; 14] = [
     Argument {
         form: Form::Text("FILE"),
         letter: None,
@@ -487,12 +499,13 @@ static LINES: [Argument; 13] = [
         help: "Write lines without a version to this file, and leave them out",
     },
     Argument {
-        form: Form::Number,
+        form: Form::Text("COLUMN"),
         letter: Some('k'),
         name: "key",
-        help: "The version is column N, counted from 1",
+        help: "The column of the version: a number, from 1 on, or with --header a name",
     },
     FIELD_SEPARATOR,
+    CSV,
     TAGS,
     PREFIX,
     SCHEME,

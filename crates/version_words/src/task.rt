@@ -4,24 +4,25 @@ ghost use Rattle.std.specs.Prelude.{◌≡◌, ◌⊎◌, None, Some, IfErr, IfO
 ghost use Rattle.clap.specs.Words.{all_of, subcommand_rows_of};
 ghost use Rattle.version_words.specs.Named.{place_named};
 ghost use Rattle.version_words.specs.Rows.{column_of, is_given, is_set, rows_in, word_of};
-ghost use Rattle.version_words.specs.Task.{AreEachOptions, AreLineOptions, HasWrongCompare, HasWrongDiff, HasNoStep, HasWrongFilter, HasWrongLines, HasWrongNaming, HasWrongPlace, HasWrongSpelling, IsNaming, IsPlace, IsQuestion, IsSpelling, IsStep, IsTaskOf, IsWrong};
+ghost use Rattle.version_words.specs.Task.{AreColumnNames, AreEachOptions, AreLineOptions, HasWrongCompare, HasWrongDiff, HasNoStep, HasWrongFilter, HasWrongLines, HasWrongNaming, HasWrongPlace, HasWrongSpelling, IsNaming, IsPlace, IsQuestion, IsSpelling, IsStep, IsTaskOf, IsWrong};
 ghost use Rattle.version_words.specs.Words.{command_in, ComesOfWrong, IsTaskIn, IsWrongIn};
 
 use crate::faults::WordsFault;
 use crate::named::{Verb, operator_named, place_named};
 use crate::rows::{
-    column_at, column_of, command_in, end_of, has_option_of_lists, header_of, invalid_of, is_given,
-    is_set, lacks_set, level_of, number_of, scheme_column_of, scheme_of, separator_of, text_of,
-    texts_of, word_of, words_of,
+    column_at, column_of, command_in, end_of, has_option_of_lists, header_of, invalid_of, is_crlf,
+    is_given, is_set, key_column, lacks_set, level_of, line_end, name_of_column, number_of,
+    refuse_columns, scheme_column_of, scheme_of, separators_of, text_of, texts_of, word_of,
+    words_of,
 };
 use crate::wrong::{wrong, wrong_operator, wrong_place};
 use clap::ArgMatches;
 use std::alloc::Global;
 use version_commands::{
-    Arrangement, Choice, EachOptions, LineOptions, Lists, Naming, Question, Spelling, Step, Task,
-    VersionPlace,
+    Arrangement, Choice, ColumnNames, EachOptions, LineOptions, Lists, Naming, Question, Spelling,
+    Step, Task, VersionPlace,
 };
-use version_lines::Column;
+use version_lines::{Column, Separators};
 
 /// Returns the task that the words parse as.
 pub fn task_of<'w>(alloc: Global, matches: &ArgMatches<'w>) -> Result<Task<'w>, WordsFault>
@@ -60,12 +61,12 @@ fn sort_task<'w>(alloc: Global, options: &ArgMatches<'w>) -> Result<Task<'w>, Wo
     ensures task { IfOk result (IsTaskOf Verb.Sort (rows_in options.now)) }
     ensures faults { IfErr result (ComesOfWrong (HasWrongLines Verb.Sort (rows_in options.now))) }
 {
-    let separator = separator_of(alloc, options)?;
+    let separators = separators_of(alloc, options)?;
     let arrangement = Arrangement::Sort {
         reverse: is_set(options, "reverse"),
         unique: is_set(options, "unique"),
     };
-    let line_options = line_options(alloc, Verb::Sort, separator, options)?;
+    let line_options = line_options(alloc, Verb::Sort, separators, options)?;
     Ok(Task::Lines(arrangement, line_options))
 }
 
@@ -73,12 +74,12 @@ fn newest_task<'w>(alloc: Global, options: &ArgMatches<'w>) -> Result<Task<'w>, 
     ensures task { IfOk result (IsTaskOf Verb.Newest (rows_in options.now)) }
     ensures faults { IfErr result (ComesOfWrong (HasWrongLines Verb.Newest (rows_in options.now))) }
 {
-    let separator = separator_of(alloc, options)?;
+    let separators = separators_of(alloc, options)?;
     let arrangement = Arrangement::Newest {
         count: number_of(options, "count").unwrap_or(1),
-        group: column_of(options, "group", separator),
+        group: column_of(options, "group", separators),
     };
-    let line_options = line_options(alloc, Verb::Newest, separator, options)?;
+    let line_options = line_options(alloc, Verb::Newest, separators, options)?;
     Ok(Task::Lines(arrangement, line_options))
 }
 
@@ -90,34 +91,48 @@ fn filter_task<'w>(alloc: Global, options: &ArgMatches<'w>) -> Result<Task<'w>, 
         let what = "the following required arguments were not provided:\n  <SET>";
         return Err(wrong(alloc, what));
     }
-    let separator = separator_of(alloc, options)?;
+    let separators = separators_of(alloc, options)?;
     let arrangement = Arrangement::Filter {
         set: text_of(options, "SET"),
         inverted: is_set(options, "invert-match"),
     };
-    let line_options = line_options(alloc, Verb::Filter, separator, options)?;
+    let line_options = line_options(alloc, Verb::Filter, separators, options)?;
     Ok(Task::Lines(arrangement, line_options))
 }
 
-// Returns what is asked beside the arrangement, with this byte between columns.
+// Returns the columns that are asked for by their names, with this between columns.
+fn column_names<'w>(separators: Separators<'w>, options: &ArgMatches<'w>) -> ColumnNames<'w>
+    ensures { AreColumnNames separators.entry (rows_in options.now) result }
+{
+    ColumnNames {
+        first: column_at(separators, 1),
+        version: name_of_column(options, "key"),
+        group: name_of_column(options, "group"),
+        scheme: name_of_column(options, "scheme-column"),
+    }
+}
+
+// Returns what is asked beside the arrangement, with this between columns.
 fn line_options<'w>(
     alloc: Global,
     command: Verb,
-    separator: Option<u8>,
+    separators: Separators<'w>,
     options: &ArgMatches<'w>,
 ) -> Result<LineOptions<'w>, WordsFault>
-    ensures options { IfOk result (AreLineOptions command separator (rows_in options.now)) }
+    ensures options { IfOk result (AreLineOptions command separators.entry (rows_in options.now)) }
     ensures faults { IfErr result (ComesOfWrong (HasWrongLines command (rows_in options.now))) }
 {
-    let place = place_of(alloc, column_of(options, "key", separator), options)?;
-    let scheme_column = scheme_column_of(alloc, separator, options)?;
+    let place = place_of(alloc, key_column(separators, options), options)?;
+    let scheme_column = scheme_column_of(alloc, separators, options)?;
+    refuse_columns(alloc, options)?;
     let least = level_of(alloc, options)?;
     let invalid = invalid_of(alloc, command, options)?;
     Ok(LineOptions {
-        end: end_of(options),
+        end: line_end(separators, options),
         header: header_of(options),
         place,
         scheme_column,
+        names: column_names(separators, options),
         choice: Choice {
             least,
             wanted: text_of(options, "match"),
@@ -132,15 +147,15 @@ fn line_options<'w>(
 // Returns where a version is in a line.
 fn place_of<'w>(
     alloc: Global,
-    column: Option<Column>,
+    column: Option<Column<'w>>,
     options: &ArgMatches<'w>,
 ) -> Result<VersionPlace<'w>, WordsFault>
-    ensures place { IfOk result (IsPlace (rows_in options.now) column) }
+    ensures place { IfOk result (IsPlace (rows_in options.now) column.entry) }
     ensures faults { IfErr result (ComesOfWrong (HasWrongPlace (rows_in options.now))) }
 {
     let Spelling { naming, scheme } = spelling_of(alloc, options)?;
     Ok(VersionPlace {
-        crlf: is_set(options, "crlf"),
+        crlf: is_crlf(options),
         column,
         naming,
         scheme,
@@ -313,16 +328,16 @@ fn lists_task<'w>(alloc: Global, options: &ArgMatches<'w>) -> Result<Task<'w>, W
     ensures task { IfOk result (IsTaskOf Verb.Diff (rows_in options.now)) }
     ensures faults { IfErr result (ComesOfWrong (HasWrongDiff (rows_in options.now))) }
 {
-    let separator = separator_of(alloc, options)?;
+    let separators = separators_of(alloc, options)?;
     let name = number_of(options, "group").unwrap_or(1);
     let version = number_of(options, "key").unwrap_or(2);
-    let place = place_of(alloc, Some(column_at(separator, version)), options)?;
+    let place = place_of(alloc, Some(column_at(separators, version)), options)?;
     let invalid = invalid_of(alloc, Verb::Diff, options)?;
     Ok(Task::Lists(Lists {
         old: word_of(options, "A"),
         new: word_of(options, "B"),
-        end: end_of(options),
-        name: column_at(separator, name),
+        end: line_end(separators, options),
+        name: column_at(separators, name),
         place,
         invalid,
     }))

@@ -92,16 +92,40 @@ pub fn wrong_invalid(alloc: Global, command: Verb, word: &str) -> WordsFault
     }
 }
 
-/// Returns the fault of a word that is no byte between columns.
-pub fn wrong_separator(alloc: Global, word: &str) -> WordsFault
+/// Returns the fault of a word that names no bytes between columns.
+pub fn wrong_separators(alloc: Global, word: &str) -> WordsFault
     ensures { ComesOfWrong ⊤ result }
 {
     let argument = match word {
         "" =>
-            "'--field-separator <SEP>': it is one byte, \\t or \\0; an equals sign is written -t '='",
-        _ => "'--field-separator <SEP>': it is one byte, \\t or \\0",
+            "'--field-separator <SEP>': it is ASCII, \\t or \\0; an equals sign is written -t '='",
+        _ => "'--field-separator <SEP>': it is ASCII, \\t or \\0",
     };
     fault_of(text_of_value(alloc, word, argument, None))
+}
+
+/// Returns the fault of a word that names no byte between the fields of CSV.
+pub fn wrong_csv_separator(alloc: Global, word: &str) -> WordsFault
+    ensures { ComesOfWrong ⊤ result }
+{
+    let argument =
+        "'--field-separator <SEP>': with --csv it is one byte, but no quote and no line's end";
+    fault_of(text_of_value(alloc, word, argument, None))
+}
+
+/// Returns the fault of a word of an option for a column that is the number of none.
+pub fn wrong_column(alloc: Global, word: &str, option: &str) -> WordsFault
+    ensures { ComesOfWrong ⊤ result }
+{
+    fault_of(text_of_column(alloc, word, option))
+}
+
+// Returns the text of that fault.
+fn text_of_column(alloc: Global, word: &str, option: &str) -> Result<String, AllocError> {
+    let argument = format!(in alloc;
+        "{option}: it is a number from 1 to 18446744073709551615, or a name"
+    )?;
+    text_of_value(alloc, word, argument.as_str(), None)
 }
 
 // Returns the fault of a word that is none of these names.

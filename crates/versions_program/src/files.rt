@@ -97,12 +97,10 @@ impl Files for SystemFiles<'_> {
 
     fn hint(&self, hint: Hint<'_>) {
         let _ = match hint {
-            Hint::NotVersion(word, mark) => {
-                let fault = Fault::NotVersion(word, mark);
+            Hint::NotVersion(word, remark) => {
+                let fault = Fault::NotVersion(word, remark);
                 eprintln!(self.rt; "versions: {fault}")
             }
-            // A name without a number is a version too, and most often of a file.
-            Hint::NoFile(word) if !begins_with_number(word) => Ok(()),
             Hint::NoFile(word) => {
                 let shown = Shown {
                     text: word.as_bytes(),
@@ -122,12 +120,4 @@ impl Files for SystemFiles<'_> {
             }
         };
     }
-}
-
-// Whether a word begins with a number, perhaps behind a `v`.
-fn begins_with_number(word: &str) -> bool {
-    matches!(
-        word.as_bytes(),
-        [b'0'..=b'9', ..] | [b'v' | b'V', b'0'..=b'9', ..]
-    )
 }

@@ -14,7 +14,7 @@ use Rattle.version_commands.specs.declared.options.EachOptions.{EachOptions}
 use Rattle.version_commands.specs.declared.options.Naming.{Naming}
 use Rattle.version_commands.specs.declared.options.Question.{Question}
 use Rattle.version_commands.specs.declared.options.Question.TheVariants.{Json, Key, Next, Show, Why}
-use Rattle.version_lines.specs.Lines.{lines_of}
+use Rattle.version_lines.specs.Lines.{lines_of, plain_end}
 use Rattle.version_schemes.specs.any.Order.{PlainAny}
 
 -- one more answer after the others
@@ -127,7 +127,7 @@ among-still question naming words i d inside isnt =
 -- and else those of the lines
 pub line-texts : (question : Question) (options : EachOptions) (old new : Option (List ℕ)) (input : List ℕ)
     → options.versions.items ≡ [] → Consumes old new input → IsAtEnd new
-    → AreTexts question options old new (map (line_text options.crlf) (lines_of options.end input))
+    → AreTexts question options old new (map (line_text options.crlf) (lines_of (plain_end options.end) input))
 line-texts question options old new input none read end = grind arith
 
 -- the faults of answering to the texts that are asked

@@ -1,9 +1,9 @@
 -- How a run ends.
-use Rattle.std.proofs.Common.{ℕ, Bool, false, true, List, Option, Result, Ok, Err}
+use Rattle.std.proofs.Common.{◌≡◌, ℕ, Bool, false, true, List, Option, Result, Ok, Err, rules}
 use Rattle.version_commands.specs.Ends.{takes_no_more, Ends, StopsBy}
 use Rattle.version_commands.specs.declared.faults.Fault.{Fault}
 
-stops-weaker : (stopped : Bool) (IsOutput Other : List ℕ → Type 0) (Cause Follows : Type 0)
+pub stops-weaker : (stopped : Bool) (IsOutput Other : List ℕ → Type 0) (Cause Follows : Type 0)
     (old new : Option (List ℕ)) → ((output : List ℕ) → IsOutput output → Other output)
     → (Cause → Follows) → StopsBy stopped IsOutput Cause old new
     → StopsBy stopped Other Follows old new
@@ -23,3 +23,9 @@ ends-weaker IsOutput Other Comes Follows old new (Ok value) outputs causes (outp
 ends-weaker IsOutput Other Comes Follows old new (Err fault) outputs causes ends =
     stops-weaker (takes_no_more fault) IsOutput Other (Comes fault) (Follows fault) old new outputs
     (causes fault) ends
+
+-- a fault that comes of something stops before anything is written
+pub ends-at : {T : Type 0} (IsOutput : List ℕ → Type 0) (Comes : Fault → Type 0) (old : Option (List ℕ))
+    (fault : Fault) (result : Result T Fault) → result ≡ Err fault → takes_no_more fault ≡ false → Comes fault
+    → Ends IsOutput Comes old old result
+ends-at IsOutput Comes old fault result is stays comes = rw (is, stays) (search rules, comes)

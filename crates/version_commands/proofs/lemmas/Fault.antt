@@ -1,7 +1,9 @@
 -- What is written at a fault, and what it comes of.
-use Rattle.std.proofs.Common.{◌+◌, ℕ, Bool, Bor, List, Option, String, Global, subst, arith}
-use Rattle.version_commands.specs.declared.mark.Mark.{Mark}
-use Rattle.version_schemes.specs.declared.scheme.Scheme.{Scheme}
+use Rattle.std.proofs.Common.{◌≡◌, ◌+◌, ℕ, Bool, Bor, List, Option, ap, subst, arith}
+use Rattle.version_commands.specs.declared.bad.Blamed.{Blamed}
+use Rattle.version_commands.specs.declared.options.VersionPlace.{VersionPlace}
+use Rattle.version_lines.specs.declared.column.Column.{Column}
+use Rattle.version_commands.specs.Cause.{IsInItsFile}
 use Rattle.version_commands.specs.Fault.{ComesOfBad, ComesOfBadAfter, ComesOfLines, ComesOfReading}
 use Rattle.version_commands.specs.Picked.{bad_lines, AreBadOf, Versions}
 use Rattle.std.specs.List.{Contains}
@@ -9,35 +11,35 @@ use Rattle.version_commands.specs.Inputs.{Reading}
 use Rattle.version_commands.specs.declared.options.Invalid.{Invalid}
 use Rattle.version_commands.specs.declared.pick.BadLines.{BadLines}
 use Rattle.version_commands.specs.declared.faults.Fault.{Fault}
-use Rattle.version_commands.specs.declared.faults.Fault.TheVariants.{NotVersion, NotRequirement, NotSet, NotTested, NotTestedSet, BadLine, NoNext, Memory, Read, Write}
+use Rattle.version_commands.specs.declared.faults.Fault.TheVariants.{NotVersion, NotRequirement, NotSet, NotTested, NotTestedSet, BadLine, NoNext, NoColumn, Memory, Read, Write}
 
 -- the faults of lines without a version, by the lines themselves
-pub lines-bad : (invalid : Invalid) (crlf : Bool) (scheme : Option Scheme) (header : ℕ) (at : Versions)
-    (lines : List (List ℕ)) (bad : BadLines) → AreBadOf at lines bad → (fault : Fault)
-    → ComesOfBad invalid crlf scheme header bad fault → ComesOfLines invalid crlf scheme header at lines fault
-lines-bad invalid crlf scheme header at lines bad (same, before) fault is =
-    subst (λ (n : ℕ). ComesOfBadAfter invalid crlf scheme (header + n) (bad_lines at lines) fault) before
-    (subst (λ (l : List (List ℕ)). ComesOfBadAfter invalid crlf scheme (header + bad.before) l fault) same is)
+pub lines-bad : (invalid : Invalid) (place : VersionPlace) (schemes : Option Column) (file : Option (Bor (List ℕ)))
+    (header : ℕ) (at : Versions) (lines : List (List ℕ)) (bad : BadLines) → AreBadOf at lines bad → (fault : Fault)
+    → ComesOfBad invalid place schemes file header bad fault
+    → ComesOfLines invalid place schemes file header at lines fault
+lines-bad invalid place schemes file header at lines bad (same, before) fault is =
+    subst (λ (n : ℕ). ComesOfBadAfter invalid place schemes file (header + n) (bad_lines at lines) fault) before
+    (subst (λ (l : List (List ℕ)). ComesOfBadAfter invalid place schemes file (header + bad.before) l fault) same is)
 
 -- What follows from refused memory, and from what is reported of lines without a version, follows from
 -- each fault of such lines.
-pub bad-cases : (Follows : Fault → Type 0) (policy : Invalid) (crlf : Bool) (scheme : Option Scheme) (before : ℕ)
-    (bad : List (List ℕ)) → Follows Memory
-    → ((number : ℕ) (text : String Global) (ends : Bool) (more : ℕ) (mark : Option Mark)
-    → ComesOfBadAfter policy crlf scheme before bad (BadLine number text ends more mark)
-    → Follows (BadLine number text ends more mark))
-    → (fault : Fault) → ComesOfBadAfter policy crlf scheme before bad fault → Follows fault
-bad-cases Follows policy crlf scheme before bad memory line (NotVersion text mark) is = absurd is
-bad-cases Follows policy crlf scheme before bad memory line (NotRequirement text) is = absurd is
-bad-cases Follows policy crlf scheme before bad memory line (NotSet wrong) is = absurd is
-bad-cases Follows policy crlf scheme before bad memory line (NotTested text mark) is = absurd is
-bad-cases Follows policy crlf scheme before bad memory line (NotTestedSet wrong) is = absurd is
-bad-cases Follows policy crlf scheme before bad memory line (BadLine number text ends more mark) is =
-    line number text ends more mark is
-bad-cases Follows policy crlf scheme before bad memory line (NoNext text) is = absurd is
-bad-cases Follows policy crlf scheme before bad memory line Memory is = memory
-bad-cases Follows policy crlf scheme before bad memory line (Read name) is = absurd is
-bad-cases Follows policy crlf scheme before bad memory line (Write name) is = absurd is
+pub bad-cases : (Follows : Fault → Type 0) (policy : Invalid) (place : VersionPlace) (schemes : Option Column)
+    (file : Option (Bor (List ℕ))) (before : ℕ) (bad : List (List ℕ)) → Follows Memory
+    → ((line : Blamed) → ComesOfBadAfter policy place schemes file before bad (BadLine line)
+    → Follows (BadLine line))
+    → (fault : Fault) → ComesOfBadAfter policy place schemes file before bad fault → Follows fault
+bad-cases Follows policy place schemes file before bad memory line (NotVersion text remark) is = absurd is
+bad-cases Follows policy place schemes file before bad memory line (NotRequirement text) is = absurd is
+bad-cases Follows policy place schemes file before bad memory line (NotSet wrong) is = absurd is
+bad-cases Follows policy place schemes file before bad memory line (NotTested text remark) is = absurd is
+bad-cases Follows policy place schemes file before bad memory line (NotTestedSet wrong) is = absurd is
+bad-cases Follows policy place schemes file before bad memory line (BadLine blamed) is = line blamed is
+bad-cases Follows policy place schemes file before bad memory line (NoNext text) is = absurd is
+bad-cases Follows policy place schemes file before bad memory line (NoColumn name) is = absurd is
+bad-cases Follows policy place schemes file before bad memory line Memory is = memory
+bad-cases Follows policy place schemes file before bad memory line (Read name) is = absurd is
+bad-cases Follows policy place schemes file before bad memory line (Write name) is = absurd is
 
 -- What follows from refused memory, and from an input that can't be read, follows from each fault of
 -- reading.
@@ -45,13 +47,14 @@ pub reading-cases : (Follows : Fault → Type 0) (reads : Reading) (names : List
     → Follows Memory
     → ((name : Bor (List ℕ)) → ComesOfReading reads names (Read name) → Follows (Read name))
     → (fault : Fault) → ComesOfReading reads names fault → Follows fault
-reading-cases Follows reads names memory read (NotVersion text mark) is = absurd is
+reading-cases Follows reads names memory read (NotVersion text remark) is = absurd is
 reading-cases Follows reads names memory read (NotRequirement text) is = absurd is
 reading-cases Follows reads names memory read (NotSet wrong) is = absurd is
-reading-cases Follows reads names memory read (NotTested text mark) is = absurd is
+reading-cases Follows reads names memory read (NotTested text remark) is = absurd is
 reading-cases Follows reads names memory read (NotTestedSet wrong) is = absurd is
-reading-cases Follows reads names memory read (BadLine number text ends more mark) is = absurd is
+reading-cases Follows reads names memory read (BadLine line) is = absurd is
 reading-cases Follows reads names memory read (NoNext text) is = absurd is
+reading-cases Follows reads names memory read (NoColumn name) is = absurd is
 reading-cases Follows reads names memory read Memory is = memory
 reading-cases Follows reads names memory read (Read name) is = read name is
 reading-cases Follows reads names memory read (Write name) is = absurd is
@@ -61,3 +64,29 @@ pub reading-weaker : (reads : Reading) (names others : List (List ℕ))
     → ((name : List ℕ) → Contains names name → Contains others name) → (fault : Fault)
     → ComesOfReading reads names fault → ComesOfReading reads others fault
 reading-weaker reads names others among = grind (arith, reading-cases)
+
+-- a fault told by its file is as the one of all files, where lines to blame are alike
+pub told-alike : (test : Fault → Bool) → ((a b : Blamed) → test (BadLine a) ≡ test (BadLine b))
+    → (names : List (List ℕ)) (counts : List ℕ) (found told : Fault) → IsInItsFile names counts found told
+    → test told ≡ test found
+told-alike test alike names counts (BadLine bad) (NotVersion text remark) same = ap test same
+told-alike test alike names counts (BadLine bad) (NotRequirement text) same = ap test same
+told-alike test alike names counts (BadLine bad) (NotSet wrong) same = ap test same
+told-alike test alike names counts (BadLine bad) (NotTested text remark) same = ap test same
+told-alike test alike names counts (BadLine bad) (NotTestedSet wrong) same = ap test same
+told-alike test alike names counts (BadLine bad) (BadLine told) same = alike told bad
+told-alike test alike names counts (BadLine bad) (NoNext text) same = ap test same
+told-alike test alike names counts (BadLine bad) (NoColumn name) same = ap test same
+told-alike test alike names counts (BadLine bad) Memory same = ap test same
+told-alike test alike names counts (BadLine bad) (Read name) same = ap test same
+told-alike test alike names counts (BadLine bad) (Write name) same = ap test same
+told-alike test alike names counts (NotVersion text remark) told same = ap test same
+told-alike test alike names counts (NotRequirement text) told same = ap test same
+told-alike test alike names counts (NotSet wrong) told same = ap test same
+told-alike test alike names counts (NotTested text remark) told same = ap test same
+told-alike test alike names counts (NotTestedSet wrong) told same = ap test same
+told-alike test alike names counts (NoNext text) told same = ap test same
+told-alike test alike names counts (NoColumn name) told same = ap test same
+told-alike test alike names counts Memory told same = ap test same
+told-alike test alike names counts (Read name) told same = ap test same
+told-alike test alike names counts (Write name) told same = ap test same

@@ -1,16 +1,17 @@
 -- The lines that are written, in their order.
 use Rattle.std.proofs.Common.{◌≡◌, ◌++◌, ◌∷◌, List, [], ℕ, Bool, true, Option, None, Some, flat_map, map, refl, subst, sym, ap, Bor, arith}
 use Rattle.version_commands.specs.Arranged.{policy}
-use Rattle.version_commands.specs.Cause.{ComesOfArranged, ComesOfArranging}
+use Rattle.version_commands.specs.Cause.{ComesOfArranged, ComesOfArranging, ComesOfInput, IsInItsFile}
 use Rattle.version_commands.specs.Choice.{is_kept, keeps_of}
 use Rattle.version_commands.specs.Fault.{ComesOfPut}
-use Rattle.version_commands.specs.Inputs.{joined, names_read, AreInputs, Reading}
-use Rattle.version_commands.specs.Ordered.{arranged_in, body_of, head_of, kept_in, kept_line, ordered_by, versions_by, IsArranged, IsOrdered, IsPlaced}
+use Rattle.version_commands.specs.Inputs.{counts_before_last, joined, names_read, AreInputs, Reading}
+use Rattle.version_commands.specs.Ordered.{arranged_in, kept_in, kept_line, IsArranged, IsArrangedIn, IsOrdered, IsPlaced}
 use Rattle.version_commands.specs.Picked.{Versions, bad_lines, has, kept_lines}
 use Rattle.version_commands.specs.Place.{reads_of}
+use Rattle.version_commands.specs.declared.bad.Blamed.{Blamed}
 use Rattle.version_commands.specs.declared.choice.Chooser.{Chooser}
 use Rattle.version_commands.specs.declared.faults.Fault.{Fault}
-use Rattle.version_commands.specs.declared.faults.Fault.TheVariants.{NotVersion, NotRequirement, NotSet, NotTested, NotTestedSet, BadLine, NoNext, Memory, Read, Write}
+use Rattle.version_commands.specs.declared.faults.Fault.TheVariants.{NotVersion, NotRequirement, NotSet, NotTested, NotTestedSet, BadLine, NoNext, NoColumn, Memory, Read, Write}
 use Rattle.version_commands.specs.declared.options.Arrangement.{Arrangement}
 use Rattle.version_commands.specs.declared.options.Invalid.TheVariants.{Fail, Skip}
 use Rattle.version_commands.specs.declared.options.LineOptions.{LineOptions}
@@ -42,7 +43,7 @@ written-at-once versions keeps end (line ∷ lines) =
 pub at-once : (versions : Versions) (keeps : PlainAny → Bool) (options : LineOptions)
     (input : List ℕ) (leaves : Option (List ℕ × List ℕ) → Type 0) → options.invalid ≡ Skip
     → options.invalid_to ≡ None → leaves None → (output : List ℕ)
-    → output ≡ output_by options.end (kept_line versions keeps options.end) input
+    → output ≡ output_by options.end (kept_line versions keeps options.end.byte) input
     → IsArranged versions options [] input (kept_in versions keeps options input) leaves output
 at-once versions keeps options input leaves skips no_file left output is =
     grind (arith, written-at-once)
@@ -50,13 +51,14 @@ at-once versions keeps options input leaves skips no_file left output is =
 -- the file for lines without a version is to blame
 pub put-faults : (options : LineOptions) (versions : Versions) (input : List ℕ)
     (fault : Fault) → ComesOfPut options fault → ComesOfArranged options versions input fault
-put-faults options versions input (NotVersion text mark) is = absurd is
+put-faults options versions input (NotVersion text remark) is = absurd is
 put-faults options versions input (NotRequirement text) is = absurd is
 put-faults options versions input (NotSet wrong) is = absurd is
-put-faults options versions input (NotTested text mark) is = absurd is
+put-faults options versions input (NotTested text remark) is = absurd is
 put-faults options versions input (NotTestedSet wrong) is = absurd is
-put-faults options versions input (BadLine number text ends more mark) is = absurd is
+put-faults options versions input (BadLine bad) is = absurd is
 put-faults options versions input (NoNext text) is = absurd is
+put-faults options versions input (NoColumn name) is = absurd is
 put-faults options versions input Memory is = is
 put-faults options versions input (Read name) is = absurd is
 put-faults options versions input (Write name) is = is
@@ -72,38 +74,75 @@ module _ (options : LineOptions) (chooser : Chooser) (arrangement : Arrangement)
 -- the end of a run whose inputs were read in turn, by how it ends with these
 module _ (arrangement : Arrangement) (options : LineOptions) (files : Reading)
     (old new : Option (List ℕ)) (leaves : Option (List ℕ × List ℕ) → Type 0) (keeps : PlainAny → Bool)
-    (texts : List (List ℕ)) (names : List (Bor (List ℕ))) (input head body : List ℕ)
+    (texts : List (List ℕ)) (names : List (Bor (List ℕ))) (input : List ℕ)
     (same : names ≡ options.files.items)
     (are : AreInputs files old new (names_read (map (λ name. name.now) names)) texts)
     (is : keeps_of options.place.scheme options.choice arrangement ≡ Some keeps)
-    (whole : input ≡ joined options.end texts) (head_is : head ≡ head_of options input)
-    (body_is : body ≡ body_of options input) where
+    (whole : input ≡ joined options.end.byte texts) where
   read : AreInputs files old new (names_read (map (λ name. name.now) options.files.items)) texts
   read = subst (λ (n : List (Bor (List ℕ))).
       AreInputs files old new (names_read (map (λ name. name.now) n)) texts) same are
 
-  pub is-ordered : (output : List ℕ) → IsArranged (versions_by options.place options.scheme_column) options head
-      body (ordered_by options.scheme_column keeps arrangement options body) leaves output
+  pub is-ordered : (output : List ℕ) → IsArrangedIn arrangement options keeps input leaves output
       → IsOrdered arrangement options files old new leaves output
-  is-ordered output arranged = grind (arith, read)
+  is-ordered output arranged = record {
+    texts = texts;
+    keeps = keeps;
+    texts_are = read;
+    keeps_are = is;
+    is_arranged = subst (λ (i : List ℕ). IsArrangedIn arrangement options keeps i leaves output) whole arranged;
+  }
 
-  since-read : (fault : Fault) → ComesOfArranged options (versions_by options.place options.scheme_column) body fault
-      → (end : Option (List ℕ)) × (given : List (List ℕ))
+  since-read : (found told : Fault)
+      → IsInItsFile (map (λ name. name.now) options.files.items) (counts_before_last options.end texts) found told
+      → ComesOfInput options input found
+      → (end : Option (List ℕ)) × (given : List (List ℕ)) × (fault : Fault)
       × AreInputs files old end (names_read (map (λ name. name.now) options.files.items)) given
-      × ComesOfArranged options (versions_by options.place options.scheme_column)
-      (body_of options (joined options.end given)) fault
-  since-read fault comes = grind (arith, read)
+      × ComesOfInput options (joined options.end.byte given) fault
+      × IsInItsFile (map (λ name. name.now) options.files.items) (counts_before_last options.end given) fault told
+  since-read found told in_file comes =
+      (new, texts, found, read, subst (λ (i : List ℕ). ComesOfInput options i found) whole comes, in_file)
 
-  pub ordered-faults : (fault : Fault) → ComesOfArranged options (versions_by options.place options.scheme_column) body fault
-      → ComesOfArranging arrangement options files old fault
-  ordered-faults (NotVersion text mark) comes = since-read (NotVersion text mark) comes
-  ordered-faults (NotRequirement text) comes = since-read (NotRequirement text) comes
-  ordered-faults (NotSet wrong) comes = absurd comes
-  ordered-faults (NotTested text mark) comes = since-read (NotTested text mark) comes
-  ordered-faults (NotTestedSet wrong) comes = since-read (NotTestedSet wrong) comes
-  ordered-faults (BadLine number text ends more mark) comes =
-      since-read (BadLine number text ends more mark) comes
-  ordered-faults (NoNext text) comes = since-read (NoNext text) comes
-  ordered-faults Memory comes = tt
-  ordered-faults (Read name) comes = absurd comes
-  ordered-faults (Write name) comes = since-read (Write name) comes
+  blamed : (bad : Blamed) (told : Fault)
+      → IsInItsFile (map (λ name. name.now) options.files.items) (counts_before_last options.end texts)
+      (BadLine bad) told
+      → ComesOfInput options input (BadLine bad) → ComesOfArranging arrangement options files old told
+  blamed bad (NotVersion text remark) same comes = cc same
+  blamed bad (NotRequirement text) same comes = cc same
+  blamed bad (NotSet wrong) same comes = cc same
+  blamed bad (NotTested text remark) same comes = cc same
+  blamed bad (NotTestedSet wrong) same comes = cc same
+  blamed bad (BadLine told) in_file comes = since-read (BadLine bad) (BadLine told) in_file comes
+  blamed bad (NoNext text) same comes = cc same
+  blamed bad (NoColumn name) same comes = cc same
+  blamed bad Memory same comes = cc same
+  blamed bad (Read name) same comes = cc same
+  blamed bad (Write name) same comes = cc same
+
+  in-its-file : (found told : Fault)
+      → IsInItsFile (map (λ name. name.now) options.files.items) (counts_before_last options.end texts) found told
+      → ComesOfInput options input found → ComesOfArranging arrangement options files old told
+  in-its-file (NotVersion text remark) told same comes = absurd comes.1
+  in-its-file (NotRequirement text) told same comes = absurd comes.1
+  in-its-file (NotSet wrong) told same comes = absurd comes.1
+  in-its-file (NotTested text remark) told same comes = absurd comes.1
+  in-its-file (NotTestedSet wrong) told same comes = absurd comes.1
+  in-its-file (BadLine bad) told in_file comes = blamed bad told in_file comes
+  in-its-file (NoNext text) told same comes = absurd comes.1
+  in-its-file (NoColumn name) told same comes =
+      subst (ComesOfArranging arrangement options files old) (sym same)
+      (since-read (NoColumn name) (NoColumn name) refl comes)
+  in-its-file Memory told same comes = subst (ComesOfArranging arrangement options files old) (sym same) tt
+  in-its-file (Read name) told same comes = absurd comes.1
+  in-its-file (Write name) told same comes =
+      subst (ComesOfArranging arrangement options files old) (sym same)
+      (since-read (Write name) (Write name) refl comes)
+
+  pub ordered-faults : (counts : List ℕ) → counts ≡ counts_before_last options.end texts
+      → (names : List (Bor (List ℕ))) → names ≡ options.files.items → (found told : Fault)
+      → IsInItsFile (map (λ name. name.now) names) counts found told → ComesOfInput options input found
+      → ComesOfArranging arrangement options files old told
+  ordered-faults counts counted names named found told in_file comes =
+      in-its-file found told
+      (subst (λ (n : List (Bor (List ℕ))). IsInItsFile (map (λ name. name.now) n) (counts_before_last options.end texts)
+      found told) named (rw counted at in_file)) comes

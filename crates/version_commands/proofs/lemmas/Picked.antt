@@ -5,6 +5,7 @@ use Rattle.std.proofs.lemmas.List.Elements.{filter-append}
 use Rattle.version_commands.specs.Picked.{AreBadOf, Versions, bad_lines, is_bad, kept_lines, has}
 use Rattle.version_commands.specs.declared.pick.BadLines.{BadLines}
 use Rattle.version_lines.specs.Lines.{lines_of}
+use Rattle.version_lines.specs.declared.lines.LineEnd.{LineEnd}
 use Rattle.version_lines.proofs.lemmas.Sorting.{by_test}
 use Rattle.version_schemes.specs.any.Order.{PlainAny}
 
@@ -50,7 +51,7 @@ before-stays bad (y ∷ ys) x some =
     rw other (ap (λ (n : ℕ). 1 + n) (before-stays bad ys x rest)))
 
 -- the lines before a place are picked, the lines after it are not yet
-pub record IsPicked (versions : Versions) (keeps : PlainAny → Bool) (end : ℕ)
+pub record IsPicked (versions : Versions) (keeps : PlainAny → Bool) (end : LineEnd)
     (input rest : List ℕ) (kept : List (List ℕ)) (bad : BadLines) : Type 0 where
   pub done : List (List ℕ)
   pub lines : lines_of end input ≡ done ++ lines_of end rest
@@ -59,13 +60,13 @@ pub record IsPicked (versions : Versions) (keeps : PlainAny → Bool) (end : ℕ
   pub fits : bad.before + length rest ≤ length input
 
 -- none is picked
-pub picked-start : (versions : Versions) (keeps : PlainAny → Bool) (end : ℕ)
+pub picked-start : (versions : Versions) (keeps : PlainAny → Bool) (end : LineEnd)
     (input : List ℕ) (kept : List (List ℕ)) (bad : BadLines) → kept ≡ []
     → AreBadOf versions [] bad → IsPicked versions keeps end input input kept bad
 picked-start versions keeps end input kept bad none bad_are = grind arith
 
 -- one line more
-picked-next : (versions : Versions) (keeps : PlainAny → Bool) (end : ℕ)
+picked-next : (versions : Versions) (keeps : PlainAny → Bool) (end : LineEnd)
     (input rest after line : List ℕ) (kept longer : List (List ℕ)) (bad now : BadLines)
     (so_far : IsPicked versions keeps end input rest kept bad)
     → lines_of end rest ≡ line ∷ lines_of end after → length after < length rest
@@ -83,7 +84,7 @@ picked-next versions keeps end input rest after line kept longer bad now so_far 
     }
 
 -- one that is left out
-pub picked-left : (versions : Versions) (keeps : PlainAny → Bool) (end : ℕ)
+pub picked-left : (versions : Versions) (keeps : PlainAny → Bool) (end : LineEnd)
     (input rest after line : List ℕ) (kept : List (List ℕ)) (bad now : BadLines)
     (v : PlainAny) → IsPicked versions keeps end input rest kept bad
     → lines_of end rest ≡ line ∷ lines_of end after → length after < length rest
@@ -101,7 +102,7 @@ picked-left versions keeps end input rest after line kept bad now v so_far first
     (passed versions so_far.done line good so_far.bad_are) step
 
 -- one that is kept
-pub picked-kept : (versions : Versions) (keeps : PlainAny → Bool) (end : ℕ)
+pub picked-kept : (versions : Versions) (keeps : PlainAny → Bool) (end : LineEnd)
     (input rest after line : List ℕ) (kept longer : List (List ℕ)) (bad now : BadLines)
     (v : PlainAny) → IsPicked versions keeps end input rest kept bad
     → lines_of end rest ≡ line ∷ lines_of end after → length after < length rest

@@ -8,7 +8,7 @@ use Rattle.version_commands.specs.Fault.{ComesOfSet, ComesOfSets}
 use Rattle.version_commands.specs.Sets.{HasAny, keys_of, reading_of, set_of}
 use Rattle.version_commands.specs.Why.{members_text, why_text}
 use Rattle.version_commands.specs.declared.faults.Fault.{Fault}
-use Rattle.version_commands.specs.declared.faults.Fault.TheVariants.{NotVersion, NotRequirement, NotSet, NotTested, NotTestedSet, BadLine, NoNext, Memory, Read, Write}
+use Rattle.version_commands.specs.declared.faults.Fault.TheVariants.{NotVersion, NotRequirement, NotSet, NotTested, NotTestedSet, BadLine, NoNext, NoColumn, Memory, Read, Write}
 use Rattle.version_schemes.specs.Scheme.{rules}
 use Rattle.version_schemes.specs.any.Order.{PlainAny}
 use Rattle.version_schemes.specs.declared.scheme.Scheme.{Scheme}
@@ -73,12 +73,13 @@ pub of_word : (scheme : Scheme) (word : Bor (List ℕ)) (fault : Fault) → Come
 of_word scheme word (NotSet wrong) comes =
     rw (wrong_none scheme word.now (wrong.place, wrong.reason) comes.fault_is) comes
 of_word scheme word Memory comes = tt
-of_word scheme word (NotVersion text mark) comes = absurd comes
+of_word scheme word (NotVersion text remark) comes = absurd comes
 of_word scheme word (NotRequirement text) comes = absurd comes
-of_word scheme word (NotTested text mark) comes = absurd comes
+of_word scheme word (NotTested text remark) comes = absurd comes
 of_word scheme word (NotTestedSet wrong) comes = absurd comes
-of_word scheme word (BadLine number text ends more mark) comes = absurd comes
+of_word scheme word (BadLine bad) comes = absurd comes
 of_word scheme word (NoNext text) comes = absurd comes
+of_word scheme word (NoColumn name) comes = absurd comes
 of_word scheme word (Read name) comes = absurd comes
 of_word scheme word (Write name) comes = absurd comes
 
@@ -88,12 +89,13 @@ pub of_first : (scheme : Scheme) (one other : Option (List ℕ)) (fault : Fault)
 of_first scheme (Some word) other fault comes = comes
 of_first scheme None other (NotSet wrong) comes = absurd comes
 of_first scheme None other Memory comes = tt
-of_first scheme None other (NotVersion text mark) comes = absurd comes
+of_first scheme None other (NotVersion text remark) comes = absurd comes
 of_first scheme None other (NotRequirement text) comes = absurd comes
-of_first scheme None other (NotTested text mark) comes = absurd comes
+of_first scheme None other (NotTested text remark) comes = absurd comes
 of_first scheme None other (NotTestedSet wrong) comes = absurd comes
-of_first scheme None other (BadLine number text ends more mark) comes = absurd comes
+of_first scheme None other (BadLine bad) comes = absurd comes
 of_first scheme None other (NoNext text) comes = absurd comes
+of_first scheme None other (NoColumn name) comes = absurd comes
 of_first scheme None other (Read name) comes = absurd comes
 of_first scheme None other (Write name) comes = absurd comes
 

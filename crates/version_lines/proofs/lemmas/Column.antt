@@ -1,51 +1,88 @@
 -- The columns of a line, cut off one after another.
-use Rattle.std.proofs.Common.{◌≡◌, ◌==◌, ◌<◌, ◌≤◌, ◌+◌, ◌-◌, ◌∙◌, ℕ, zero, suc, Bool, true, false, List, [], ◌∷◌, drop, get_or, length, not, take, add-one, ap, arith, inl, inr, refl, sym}
+use Rattle.std.proofs.Common.{◌≡◌, ◌==◌, ◌||◌, ◌<◌, ◌≤◌, ◌+◌, ◌-◌, ◌∙◌, ℕ, zero, suc, Bool, true, false, List, [], ◌∷◌, drop, get_or, length, not, take, add-one, ap, arith, inl, inr, refl, sym}
 use Rattle.std.proofs.lemmas.Bool.{cases_Bool, false_from_ne_true}
 use Rattle.std.proofs.lemmas.List.{drop-drop, take_rest}
 use Rattle.std.proofs.lemmas.List.Splits.{slice_split-cons_no, slice_split-cons_yes}
 use Rattle.std.specs.List.{filter, onto_first, prefix_len, slice_split}
 use Rattle.version_lines.specs.Column.{has_bytes, is_blank, words_of}
+use Rattle.version_lines.specs.Csv.{length_before, next, raw_fields, stops}
+use Rattle.version_lines.specs.declared.csv.FieldState.{FieldState}
+use Rattle.version_lines.specs.declared.csv.FieldState.TheVariants.{Start}
 
 -- ---- between separators
 
--- the byte at a place is the separator
-abbrev pub IsSeparatorAt : ℕ → List ℕ → ℕ → Type 0
-IsSeparatorAt separator text k = (get_or text k 0 == separator) ≡ true
+-- the byte at a place passes the test
+abbrev pub PassesAt : (ℕ → Bool) → List ℕ → ℕ → Type 0
+PassesAt test text k = test (get_or text k 0) ≡ true
 
--- the pieces between separators
-abbrev pub pieces : ℕ → List ℕ → List (List ℕ)
-pieces separator = slice_split (λ b. b == separator)
+module _ (test : ℕ → Bool) where
+  -- what stands before the first separator is the first piece
+  pieces-before : (text : List ℕ) (k : ℕ) → k < length text
+      → PassesAt test text k → ((j : ℕ) → j < k → ¬ (PassesAt test text j))
+      → slice_split test text ≡ take k text ∷ slice_split test (drop (suc k) text)
+  pieces-before [] k inside here before = absurd (omega arith)
+  pieces-before (byte ∷ bytes) zero inside here before = slice_split-cons_yes test byte bytes here
+  pieces-before (byte ∷ bytes) (suc k) inside here before =
+      slice_split-cons_no test byte bytes (false_from_ne_true _ (before 0 (omega arith)))
+      ∙ ap (onto_first byte)
+      (pieces-before bytes k (omega arith) here (λ j below. before (suc j) (omega arith)))
 
--- what stands before the first separator is the first piece
-pieces-before : (separator : ℕ) (text : List ℕ) (k : ℕ) → k < length text
-    → IsSeparatorAt separator text k → ((j : ℕ) → j < k → ¬ (IsSeparatorAt separator text j))
-    → pieces separator text ≡ take k text ∷ pieces separator (drop (suc k) text)
-pieces-before separator [] k inside here before = absurd (omega arith)
-pieces-before separator (byte ∷ bytes) zero inside here before = rw here
-pieces-before separator (byte ∷ bytes) (suc k) inside here before =
-    slice_split-cons_no (λ b. b == separator) byte bytes
-    (false_from_ne_true _ (before 0 (omega arith)))
-    ∙ ap (onto_first byte)
-    (pieces-before separator bytes k (omega arith) here (λ j below. before (suc j) (omega arith)))
+  -- the same, if the rest is cut out by its length
+  pub pieces-cut : (text : List ℕ) (k : ℕ) → k < length text → PassesAt test text k
+      → ((j : ℕ) → 0 ≤ j → j < k → ¬ (PassesAt test text j))
+      → slice_split test text
+      ≡ take k text ∷ slice_split test (take (length text - (k + 1)) (drop (k + 1) text))
+  pieces-cut text k inside here before =
+      rw (take_rest text (k + 1)) (rw (add-one k) (pieces-before text k inside here (λ j below. before j (omega arith) below)))
+
+  -- a text without a separator is one piece
+  pub pieces-last : (text : List ℕ) → ((j : ℕ) → 0 ≤ j → j < length text → ¬ (PassesAt test text j))
+      → slice_split test text ≡ text ∷ []
+  pieces-last [] none = refl
+  pieces-last (byte ∷ bytes) none =
+      slice_split-cons_no test byte bytes (false_from_ne_true _ (none 0 (omega arith) (omega arith)))
+      ∙ ap (onto_first byte) (pieces-last bytes (λ j least below. none (suc j) (omega arith) (omega arith)))
+
+pub or-false : (b : Bool) → b || false ≡ b
+or-false true = refl
+or-false false = refl
+
+-- ---- fields of CSV
+
+-- what stands before the first separator outside quotes is the first field, and the fields of what follows come after
+pub fields-before : (separator : ℕ) (state : FieldState) (text : List ℕ)
+    → length_before separator separator state text < length text
+    → raw_fields separator state text
+    ≡ take (length_before separator separator state text) text
+    ∷ raw_fields separator Start (drop (suc (length_before separator separator state text)) text)
+fields-before separator state [] inside = absurd (omega (arith, inside))
+fields-before separator state (byte ∷ bytes) inside =
+    elim (cases_Bool (stops separator state byte)) [
+      | inl here ↦ rw here refl
+      | inr other ↦
+          let more = rw other at inside in
+          rw other (ap (onto_first byte) (fields-before separator (next separator state byte) bytes (omega (arith, more))))
+    ]
 
 -- the same, if the rest is cut out by its length
-pub pieces-cut : (separator : ℕ) (text : List ℕ) (k : ℕ) → k < length text
-    → IsSeparatorAt separator text k
-    → ((j : ℕ) → 0 ≤ j → j < k → ¬ (IsSeparatorAt separator text j))
-    → pieces separator text
-    ≡ take k text ∷ pieces separator (take (length text - (k + 1)) (drop (k + 1) text))
-pieces-cut separator text k inside here before = grind (arith, take_rest, add-one, pieces-before)
+pub fields-cut : (separator : ℕ) (text : List ℕ) (k : ℕ) → k ≡ length_before separator separator Start text
+    → k < length text
+    → raw_fields separator Start text
+    ≡ take k text ∷ raw_fields separator Start (take (length text - (k + 1)) (drop (k + 1) text))
+fields-cut separator text k is inside =
+    rw (take_rest text (k + 1)) (rw (add-one k) (rw is (fields-before separator Start text (omega (arith, is, inside)))))
 
--- a text without a separator is one piece
-pub pieces-last : (separator : ℕ) (text : List ℕ)
-    → ((j : ℕ) → 0 ≤ j → j < length text → ¬ (IsSeparatorAt separator text j))
-    → pieces separator text ≡ text ∷ []
-pieces-last separator [] none = refl
-pieces-last separator (byte ∷ bytes) none =
-    slice_split-cons_no (λ b. b == separator) byte bytes
-    (false_from_ne_true _ (none 0 (omega arith) (omega arith)))
-    ∙ ap (onto_first byte)
-    (pieces-last separator bytes (λ j least below. none (suc j) (omega arith) (omega arith)))
+-- without one the text is one field
+pub fields-last : (separator : ℕ) (state : FieldState) (text : List ℕ)
+    → length text ≤ length_before separator separator state text → raw_fields separator state text ≡ text ∷ []
+fields-last separator state [] all = refl
+fields-last separator state (byte ∷ bytes) all =
+    elim (cases_Bool (stops separator state byte)) [
+      | inl here ↦ let none = rw here at all in absurd (omega (arith, none))
+      | inr other ↦
+          let more = rw other at all in
+          rw other (ap (onto_first byte) (fields-last separator (next separator state byte) bytes (omega (arith, more))))
+    ]
 
 -- ---- between blanks
 

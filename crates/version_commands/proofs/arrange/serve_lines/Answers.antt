@@ -1,28 +1,51 @@
-use Rattle.std.proofs.Common.{◌∙◌}
+use Rattle.std.proofs.Common.{◌∙◌, refl}
 use Rattle.version_commands.specs.Choice.{is_kept}
+use Rattle.version_commands.specs.Ends.{takes_no_more}
 use Rattle.version_commands.specs.Files.{Leaves}
-use Rattle.version_commands.proofs.lemmas.Ends.{ends-weaker}
+use Rattle.version_commands.proofs.lemmas.Ends.{stops-weaker}
+use Rattle.version_commands.proofs.lemmas.Fault.{told-alike}
 use Rattle.version_commands.proofs.lemmas.Ordered.{is-ordered, ordered-faults}
 use Rattle.version_commands.proofs.arrange.serve_lines.Goals as goal
 
-pub returns-clause-ends : goal.returns-clause-ends
-returns-clause-ends g c =
-    let (texts, are, same) = c.in_ok-input.ensures.input in
+pub returns-in-Ok-clause-ends : goal.returns-in-Ok-clause-ends
+returns-in-Ok-clause-ends g c =
+    let (texts, are, joined) = c.in_ok-inputs.ensures.input in
     let reads = g.F.Files.reads c.args.files.now in
     let old = g.R.Read.remaining c.args.reader.now in
     let new = g.R.Read.remaining c.read_inputs.new.reader in
     let options = c.args.options.now in
     let input = c.as_slice-2.result.now in
-    let head = c.split_head-input.result.head.now in
-    let body = c.split_head-input.result.body.now in
     let keeps = is_kept c.in_ok-chooser.chooser in
-    let leaves = Leaves g.F.Files.puts c.args.files.now c.write_input-written.new.files in
-    let whole = c.as_slice-2.ensures.value ∙ same in
-    ends-weaker _ _ _ _ _ _ c.write_input-written.result
-    (is-ordered c.args.arrangement options reads old new leaves keeps texts c.as_slice.result.now input head body
-    c.as_slice.ensures.value are c.in_ok-chooser.ensures.ok whole c.split_head-input.ensures.head
-    c.split_head-input.ensures.body)
-    (ordered-faults c.args.arrangement options reads old new leaves keeps texts c.as_slice.result.now input head body
-    c.as_slice.ensures.value are c.in_ok-chooser.ensures.ok whole c.split_head-input.ensures.head
-    c.split_head-input.ensures.body)
-    c.write_input-written.ensures.ends
+    let leaves = Leaves g.F.Files.puts c.args.files.now c.write_asked.new.files in
+    let whole = c.as_slice-2.ensures.value ∙ joined.text_is in
+    let (output, is, written) =
+    c.in-Ok.ensures.ends input c.split_head-input.ensures.head c.split_head-input.ensures.body in (
+      output,
+      is-ordered c.args.arrangement options reads old new leaves keeps texts c.as_slice.result.now input
+          c.as_slice.ensures.value are c.in_ok-chooser.ensures.ok whole output is,
+      written,
+    )
+
+pub returns-clause-ends : goal.returns-clause-ends
+returns-clause-ends g c =
+    let (texts, are, joined) = c.in_ok-inputs.ensures.input in
+    let reads = g.F.Files.reads c.args.files.now in
+    let old = g.R.Read.remaining c.args.reader.now in
+    let new = g.R.Read.remaining c.read_inputs.new.reader in
+    let options = c.args.options.now in
+    let input = c.as_slice-2.result.now in
+    let keeps = is_kept c.in_ok-chooser.chooser in
+    let leaves = Leaves g.F.Files.puts c.args.files.now c.write_asked.new.files in
+    let whole = c.as_slice-2.ensures.value ∙ joined.text_is in
+    let fault = c.in-Err.fault in
+    let told = c.in_its_file.result in
+    let ends = c.in-Err.ensures.ends input c.split_head-input.ensures.head c.split_head-input.ensures.body in
+    rw (told-alike takes_no_more (λ a b. refl) _ _ fault told c.in_its_file.ensures)
+    (stops-weaker (takes_no_more fault) _ _ _ _ _ _
+    (is-ordered c.args.arrangement options reads old new leaves keeps texts c.as_slice.result.now input
+    c.as_slice.ensures.value are c.in_ok-chooser.ensures.ok whole)
+    (ordered-faults c.args.arrangement options reads old new leaves keeps texts c.as_slice.result.now input
+    c.as_slice.ensures.value are c.in_ok-chooser.ensures.ok whole c.as_slice-counts.result.now
+    (c.as_slice-counts.ensures.value ∙ joined.counts_are) c.as_slice-names.result.now c.as_slice-names.ensures.value
+    fault told c.in_its_file.ensures)
+    ends)

@@ -46,3 +46,6 @@ returns-then-leaves_others_out-clause-ends g c =
     (λ fault memory. subst (ComesOfArranged options (version_in (reads_of options.place)) c.args.input.now.body.now)
     (sym memory) tt)
     c.write_at_once.ensures
+
+pub returns-in-Filter-clause-ends : goal.returns-in-Filter-clause-ends
+returns-in-Filter-clause-ends g c = rw c.in-Filter.is c.write_kept.ensures.ends

@@ -1,9 +1,9 @@
 use Rattle.std.proofs.Common.{◌≡◌, [], ℕ, List, Bor, map, sym, ap, ◌∙◌}
 use Rattle.std.proofs.lemmas.Result.{IfErr-weaker, IfOk-weaker}
-use Rattle.version_commands.specs.Each.{reads_by}
+use Rattle.version_commands.specs.Each.{place_of}
 use Rattle.version_commands.specs.Picked.{bad_lines}
-use Rattle.version_commands.specs.Place.{line_text}
-use Rattle.version_lines.specs.Lines.{lines_of}
+use Rattle.version_commands.specs.Place.{line_text, reads_of}
+use Rattle.version_lines.specs.Lines.{lines_of, plain_end}
 use Rattle.version_lines.specs.Sort.{version_in}
 use Rattle.version_commands.proofs.lemmas.Each.{asking-answering, line-texts}
 use Rattle.version_commands.proofs.lemmas.Picked.{all-kept}
@@ -12,21 +12,21 @@ use Rattle.version_commands.proofs.each.answer_lines.Goals as goal
 pub returns-clause-answers : goal.returns-clause-answers
 returns-clause-answers c =
     let options = c.args.options.now in
-    let lines = lines_of options.end c.args.input.now in
-    let none : bad_lines (version_in (reads_by c.args.question options.naming options.crlf)) lines ≡ [] =
+    let lines = lines_of (plain_end options.end) c.args.input.now in
+    let none : bad_lines (version_in (reads_of (place_of c.args.question options.naming options.crlf))) lines ≡ [] =
     sym c.in_ok-bad.ensures.bad.0
     ∙ ap (map (λ (line : Bor (List ℕ)). line.now)) c.in_ok-refuse_first.ensures.none in
-    let have = rw (all-kept (version_in (reads_by c.args.question options.naming options.crlf)) lines none) at c.in_ok-bad.ensures.taken in
+    let have = rw (all-kept (version_in (reads_of (place_of c.args.question options.naming options.crlf))) lines none) at c.in_ok-bad.ensures.taken in
     IfOk-weaker c.finish.result _ _ (λ output adds. adds _ _ have) c.finish.ensures.answers
 
 pub returns-clause-faults : goal.returns-clause-faults
 returns-clause-faults c = λ old new read end.
     let options = c.args.options.now in
-    let lines = lines_of options.end c.args.input.now in
-    let none : bad_lines (version_in (reads_by c.args.question options.naming options.crlf)) lines ≡ [] =
+    let lines = lines_of (plain_end options.end) c.args.input.now in
+    let none : bad_lines (version_in (reads_of (place_of c.args.question options.naming options.crlf))) lines ≡ [] =
     sym c.in_ok-bad.ensures.bad.0
     ∙ ap (map (λ (line : Bor (List ℕ)). line.now)) c.in_ok-refuse_first.ensures.none in
-    let have = rw (all-kept (version_in (reads_by c.args.question options.naming options.crlf)) lines none) at c.in_ok-bad.ensures.taken in
+    let have = rw (all-kept (version_in (reads_of (place_of c.args.question options.naming options.crlf))) lines none) at c.in_ok-bad.ensures.taken in
     IfErr-weaker c.finish.result _ _
     (λ fault comes. asking-answering c.args.question options old new
     (map (line_text options.crlf) lines)

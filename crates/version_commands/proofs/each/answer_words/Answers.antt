@@ -63,5 +63,5 @@ returns-clause-faults c = λ old.
 
 pub returns-in_err-refuse_none-clause-faults : goal.returns-in_err-refuse_none-clause-faults
 returns-in_err-refuse_none-clause-faults c = λ old.
-    let comes = c.in_err-refuse_none.ensures old in
+    let comes = c.in_err-refuse_none.ensures.faults old in
     search (rules, comes)

@@ -3,8 +3,8 @@ use Rattle.version_commands.specs.Each.{has_version}
 use Rattle.version_commands.proofs.lemmas.Each.{last-apart}
 use Rattle.version_commands.proofs.each.refuse_none.Goals as goal
 
-pub returns-in-len1-up : goal.returns-in-len1-up
-returns-in-len1-up c = λ old.
+pub returns-in-len1-up-clause-faults : goal.returns-in-len1-up-clause-faults
+returns-in-len1-up-clause-faults c = λ old.
     let words = c.args.options.now.versions.items in
     let same : c.as_slice.result.now ≡ words = search rules in
     let none : has_version c.args.question c.args.options.now ≡ false = search rules in

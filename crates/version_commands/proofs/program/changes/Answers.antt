@@ -3,7 +3,7 @@ use Rattle.std.proofs.lemmas.Result.{IfErr-weaker}
 use Rattle.version_commands.specs.Fault.{ComesOfReading}
 use Rattle.version_commands.specs.Lists.{difference_text, names_of, rows_of}
 use Rattle.version_commands.proofs.lemmas.Fault.{reading-weaker}
-use Rattle.version_commands.proofs.lemmas.Changes.{are-changes, changes-bad, changes-reading, input-bad, input-good, of-first, of-second, one-input}
+use Rattle.version_commands.proofs.lemmas.Changes.{are-changes, changes-bad, changes-reading, input-bad, input-good, of-first, of-second}
 use Rattle.version_commands.proofs.program.changes.Goals as goal
 
 pub returns-clause-output : goal.returns-clause-output
@@ -11,16 +11,14 @@ returns-clause-output g c =
     let lists = c.args.lists.now in
     let reads = g.F.Files.reads c.args.files.now in
     let start = g.R.Read.remaining c.args.reader.now in
-    let between = g.R.Read.remaining c.read_inputs.new.reader in
-    let end = g.R.Read.remaining c.read_inputs-2.new.reader in
+    let between = g.R.Read.remaining c.read_input.new.reader in
+    let end = g.R.Read.remaining c.read_input-2.new.reader in
     let before = c.as_slice.result.now in
     let after = c.as_slice-2.result.now in
-    let (olds, read_old, old_is) = c.in_ok-old.ensures.input in
-    let (news, read_new, new_is) = c.in_ok-new.ensures.input in
-    let (first, one, first_is) = one-input reads start between lists.old.now lists.end olds before read_old
-    (c.as_slice.ensures.value ∙ old_is) in
-    let (second, other, second_is) = one-input reads between end lists.new.now lists.end news after read_new
-    (c.as_slice-2.ensures.value ∙ new_is) in
+    let (first, one, old_is) = c.in_ok-old.ensures.input in
+    let (second, other, new_is) = c.in_ok-new.ensures.input in
+    let first_is = c.as_slice.ensures.value ∙ old_is in
+    let second_is = c.as_slice-2.ensures.value ∙ new_is in
     let added = c.in_ok-add_lists.ensures (rows_of lists before) (rows_of lists after)
     c.in_ok-old_names.ensures.names c.in_ok-new_names.ensures.names in
     are-changes lists reads start between end first second before after c.add_lists.new.output.items
@@ -32,7 +30,7 @@ returns-clause-output g c =
           c.in_ok-new_names.ensures.bad (c.in_ok-refuse_of_list-2.ensures.none asked),
     ))
     (added
-    ∙ ap (λ (l : List ℕ). l ++ difference_text lists.end (rows_of lists before) (rows_of lists after))
+    ∙ ap (λ (l : List ℕ). l ++ difference_text lists.end.byte (rows_of lists before) (rows_of lists after))
     c.new-output.ensures.items)
 
 pub returns-in_err-old-clause-faults : goal.returns-in_err-old-clause-faults
@@ -51,8 +49,8 @@ returns-in_err-new-clause-faults g c =
 
 pub returns-in_err-refuse_of_list-clause-faults : goal.returns-in_err-refuse_of_list-clause-faults
 returns-in_err-refuse_of_list-clause-faults g c =
-    grind (arith, one-input, IfErr-weaker, changes-bad, input-bad)
+    grind (arith, IfErr-weaker, changes-bad, input-bad)
 
 pub returns-in_err-refuse_of_list-2-clause-faults : goal.returns-in_err-refuse_of_list-2-clause-faults
 returns-in_err-refuse_of_list-2-clause-faults g c =
-    grind (arith, one-input, IfErr-weaker, changes-bad, input-good, input-bad)
+    grind (arith, IfErr-weaker, changes-bad, input-good, input-bad)

@@ -7,9 +7,9 @@ use Rattle.version_lines.proofs.lines.answer_lines.Goals as goal
 pub returns-in_err-put_answer-clause-err : goal.returns-in_err-put_answer-clause-err
 returns-in_err-put_answer-clause-err g c =
     let first = lines_output-first c.args.end
-    (g.C.LineCommand.line_output c.args.command.now c.args.end) c.loop-rest.rest.now
+    (g.C.LineCommand.line_output c.args.command.now c.args.end.byte) c.loop-rest.rest.now
     c.split_line.result.0.now c.split_line.result.1.now _ c.split_line.ensures.lines
-    (c.answer.ensures c.args.end) in
+    (c.answer.ensures c.args.end.byte) in
     let p = err_from_is_err_and c.from_residual.result c.from_residual.ensures.1 in
     rw p.1 (AppendsProperBeginning-step _ _ _ c.loop-rest.buffer.items _ _ _ _ c.loop-rest.invariant
     first c.in_err-put_answer.ensures.err)
@@ -17,9 +17,9 @@ returns-in_err-put_answer-clause-err g c =
 pub loop-rest-preserved : goal.loop-rest-preserved
 loop-rest-preserved g c =
     let first = lines_output-first c.args.end
-    (g.C.LineCommand.line_output c.args.command.now c.args.end) c.loop-rest.rest.now
+    (g.C.LineCommand.line_output c.args.command.now c.args.end.byte) c.loop-rest.rest.now
     c.split_line.result.0.now c.split_line.result.1.now _ c.split_line.ensures.lines
-    (c.answer.ensures c.args.end) in
+    (c.answer.ensures c.args.end.byte) in
     AppendsUpTo-step _ _ _ c.loop-rest.buffer.items _ _ _ _ _ c.loop-rest.invariant first
     c.in_ok-put_answer.ensures.ok
 

@@ -6,7 +6,7 @@ use Rattle.version_lines.proofs.lines.answer_lines.Given as goal
 
 abbrev pub invariant-loop-rest : goal.invariant-loop-rest
 invariant-loop-rest g l =
-    let output = output_by l.end (g.C.LineCommand.line_output l.command l.end) in
+    let output = output_by l.end (g.C.LineCommand.line_output l.command l.end.byte) in
     AppendsUpTo (g.W.Write.contents l.initial.writer) (g.W.Write.contents l.writer)
     (l.buffer.items ++ output l.rest) (output l.input)
 

@@ -1,12 +1,13 @@
--- The inputs before the place were read, and the reader is as it was if it is none of the inputs.
+-- The inputs before the place were read and their lines counted, and the reader is as it was if it is none of the
+-- inputs.
 use Rattle.std.proofs.Common.{◌≡◌, ℕ, false, List, map, take}
-use Rattle.version_commands.specs.Inputs.{joined, reads_standard, AreInputs}
-use Rattle.version_commands.proofs.inputs.read_named.Given as goal
+use Rattle.version_commands.specs.Inputs.{joined, line_count, reads_standard, AreInputs}
+use Rattle.version_commands.proofs.inputs.read_after.Given as goal
 
 abbrev pub invariant-loop-name : goal.invariant-loop-name
 invariant-loop-name g l =
     ((texts : List (List ℕ))
     × AreInputs (g.F.Files.reads l.files) (g.R.Read.remaining l.initial.reader)
     (g.R.Read.remaining l.reader) (map (λ name. name.now) (take l.name-index l.names)) texts
-    × (l.input.items ≡ joined l.end texts))
+    × (l.text.items ≡ joined l.end.byte texts) × (l.counts.items ≡ map (line_count l.end) texts))
     × (reads_standard (map (λ name. name.now) l.names) ≡ false → l.reader ≡ l.initial.reader)

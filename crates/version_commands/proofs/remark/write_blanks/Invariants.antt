@@ -1,7 +1,7 @@
 -- So many blanks are written.
 use Rattle.std.proofs.Math.ListN.{replicate}
 use Rattle.std.specs.Fmt.{HasWritten, IsPlainFormatter}
-use Rattle.version_commands.proofs.mark.write_blanks.Given as goal
+use Rattle.version_commands.proofs.remark.write_blanks.Given as goal
 
 abbrev pub invariant-loop-blank : goal.invariant-loop-blank
 invariant-loop-blank g l =
