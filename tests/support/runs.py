@@ -127,7 +127,12 @@ CONTROL, NOT_ASCII, OTHER = "a control character", "a character past ASCII", "a 
 REFUSED = {number: f"{os.strerror(number)} (os error {number})" for number in (2, 20, 21, 28)}
 PLACES = "[possible values: major, minor, patch, release, pre, a number from 0]"
 WITH_SCHEME = "error: the argument '--explain' cannot be used with '--scheme <NAME>'"
-WITH_SCHEME_COLUMN = "error: the argument '--scheme-column <N>' cannot be used with '--scheme <NAME>' or '--match <SET>'"
+NO_COLUMN = "it is a number from 1 to 18446744073709551615, or a name"
+WITH_SCHEME_COLUMN = "error: the argument '--scheme-column <COLUMN>' cannot be used with '--scheme <NAME>' or '--match <SET>'"
+
+
+SEPARATOR = "'--field-separator <SEP>'"
+OF_CSV = "with --csv it is one byte, but no quote and no line's end"
 
 
 def tip(kind, meant):
@@ -141,6 +146,9 @@ VERSIONS = (
     Run("--version", "", "versions 0.1.0\n"),
     Run("sort", "1.10\n1.9\n1.10rc1", "1.9\n1.10rc1\n1.10\n"),
     Run("sort -r -u -k 2 -t ,", "a,1.0\nb,1.10\nc,0:1.0\nd,1.9\n", "b,1.10\nd,1.9\na,1.0\n"),
+    Run("sort -t ' /' -k 3", "a/sid 1.10 amd64\nb/sid 1.9 amd64\n", "b/sid 1.9 amd64\na/sid 1.10 amd64\n"),
+    Run("sort --csv -k 2", 'a,"1.10"\r\n"b, ""c""\n",1.9\r\n', '"b, ""c""\n",1.9\r\na,"1.10"\r\n'),
+    Run("newest --csv -t ';' -g 1 -k 2 --header", '"a\nb";c\n"x;y";1\n"x;y";"2"\n', '"a\nb";c\n"x;y";"2"\n'),
     Run("sort --tags", "v2.0.0-beta.1\nv1.10.0\nv1.9.0\n", "v1.9.0\nv1.10.0\nv2.0.0-beta.1\n"),
     Run("sort -z --prefix go", "go1.20.3\0go1.9\0", "go1.9\0go1.20.3\0"),
     Run("sort --invalid first", "1.1\nx y\n1.0\n", "x y\n1.0\n1.1\n"),
@@ -175,6 +183,12 @@ VERSIONS = (
     Run("next release --tags v1.2.3-rc.1 tool-2.0", "", "v1.2.3\ntool-2.1\n"),
     Run("next pre --word rc --tags v1.2.3 1.2.3-beta.2", "", "v1.2.4-rc.1\n1.2.3-rc.1\n"),
     Run("sort --header", "name of it\n1.10\n1.9\n", "name of it\n1.9\n1.10\n"),
+    Run("sort --header -t, -k version", "name,version\nup,1.10\nup,1.9\n", "name,version\nup,1.9\nup,1.10\n"),
+    Run(
+        "newest --header -k version -g name --scheme-column of",
+        "name of version\nup gem 1.a\nup deb 1~\nup gem 1\n",
+        "name of version\nup gem 1\nup deb 1~\n",
+    ),
     Run("test 1.10 gt 1.9"),
     Run("test 1.10 ^1.2"),
     Run("test --scheme deb 9 lt 1:0"),
@@ -195,15 +209,29 @@ VERSIONS = (
     Run("filter --scheme deb ^1.2", "1.2\n", status=1, fault=f"versions: not a set: ^1.2; at byte 2: {NO_PARTS}\n"),
     Run("compare --explain --scheme deb 1 2", status=2, fault=f"{WITH_SCHEME}{MORE}"),
     Run("sort --scheme-column 1 --scheme deb", status=2, fault=f"{WITH_SCHEME_COLUMN}{MORE}"),
+    Run("sort --header -t, -k 'a\tb'", "a,b\n1,2\n", status=1, fault="versions: no column is named a\\tb\n"),
+    Run("newest --header -g name -k version", "name\nx y\n", status=1, fault="versions: no column is named version\n"),
+    Run("sort -k version", "version\n", status=2, fault=f"error: a column by its name needs --header{MORE}"),
+    Run("sort -k 0", "1\n", status=2, fault=f"error: invalid value '0' for '--key <COLUMN>': {NO_COLUMN}{MORE}"),
+    Run(
+        "newest --header --group=18446744073709551616",
+        status=2,
+        fault=f"error: invalid value '18446744073709551616' for '--group <COLUMN>': {NO_COLUMN}{MORE}",
+    ),
     Run("filter >=1.0,", "1.0\n", status=1, fault=f"versions: not a set: >=1.0,; at byte 7: {NO_MEMBER}\n"),
     Run("test 1 lt 'x y'", status=2, fault=none(1, BLANK, "x y")),
     Run("meets * 1.2", status=2, fault=f"versions: not a set: 1.2; at byte 1: {NO_OPERATOR}\n"),
     Run("next minor --word rc 1.2.3", status=2, fault=f"error: the argument '--word <W>' takes the place 'pre' alone{MORE}"),
     Run("next 3 1.2.3", status=1, fault="versions: no version comes next at that place: 1.2.3\n"),
+    Run("sort -t é", status=2, fault=f"error: invalid value 'é' for {SEPARATOR}: it is ASCII, \\t or \\0{MORE}"),
     Run(
-        "sort -t ab",
+        "sort -t=",
         status=2,
-        fault=f"error: invalid value 'ab' for '--field-separator <SEP>': it is one byte, \\t or \\0{MORE}",
+        fault=f"error: invalid value '' for {SEPARATOR}: it is ASCII, \\t or \\0; an equals sign is written -t '='{MORE}",
+    ),
+    *(
+        Run(f"sort --csv {words}", status=2, fault=f"error: invalid value '{word}' for {SEPARATOR}: {OF_CSV}{MORE}")
+        for words, word in (("-t ', '", ", "), ("-t '\"'", '"'), ("-z -t '\\0'", "\\0"))
     ),
     Run(
         "sort --invalid-to others --invalid last",

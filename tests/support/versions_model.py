@@ -4,14 +4,17 @@ The Python package answers what is a version of a scheme, which of two comes fir
 schemes beside mixed tasks.py what a tag has and what words say of stability. Words, lines, columns, options, orders and
 faults are this file's.
 """
+import csv
 import json
 import re
+import sys
 from functools import cmp_to_key
 
 import versions
 from runs import REFUSED
 from tasks import stability_of_words, text_after_prefix, text_in_tag
 
+csv.field_size_limit(sys.maxsize)
 STABILITIES = ["dev", "alpha", "beta", "rc", "stable"]
 SIGNS = {"<": "lt", "<=": "le", "=": "eq", ">=": "ge", ">": "gt"}
 HOLDS = {"lt": (-1,), "le": (-1, 0), "eq": (0,), "ge": (0, 1), "gt": (1,)}
@@ -26,10 +29,12 @@ SHORT = {"r": "reverse", "u": "unique", "k": "key", "t": "field-separator", "z":
 SHORT.update(g="group", v="invert-match")
 ENDS = {"zero-terminated", "crlf"}
 NAMING = {"tags", "prefix"}
-PLACE = {"key", "field-separator", "scheme"} | NAMING | ENDS
+PLACE = {"key", "field-separator", "csv", "scheme"} | NAMING | ENDS
 LINES = {"min-stability", "match", "header", "header-lines", "invalid", "invalid-to", "progress"} | PLACE
-VALUED = (LINES | {"count", "group", "scheme-column", "word"}) - {"tags", "progress", "header"} - ENDS
+VALUED = (LINES | {"count", "group", "scheme-column", "word"}) - {"tags", "progress", "header", "csv"} - ENDS
 NUMBERED = ("key", "count", "group", "scheme-column", "header-lines")
+# Those for a column, which is also asked for by its name.
+COLUMNS = ("key", "group", "scheme-column")
 # The options of each command, and how many words it takes.
 COMMANDS = {
     "sort": ({"reverse", "unique", "scheme-column"} | LINES, 0, None),
@@ -62,7 +67,7 @@ class Run:
 
     def __init__(self, words, given, read):
         self.given, self.read, self.written, self.output = given, read, {}, b""
-        self.reads_given, self.scheme = False, None
+        self.reads_given, self.scheme, self.by_name = False, None, False
         self.status, self.error = 0, b""
         try:
             self.output = self.answer([*words])
@@ -95,20 +100,58 @@ class Run:
                 why = REFUSED[21 if name == "." else 2]
                 raise Ended(3, b"cannot be read: %s: %s" % (shown(name.encode()), why.encode()))
             texts.append(text if not text or text.endswith(self.end()) else text + self.end())
-        return b"".join(texts).split(self.end())[:-1]
+        self.inputs = [(name, len(self.split(text))) for name, text in zip(names, texts)]
+        return self.split(b"".join(texts))
+
+    def split(self, text):
+        if "csv" in self.options:
+            return [*records(text, self.end(), self.separators() or b",")]
+        return text.split(self.end())[:-1]
+
+    def separators(self):
+        """The bytes of which each separates columns, or None."""
+        word = self.options.get("field-separator")
+        return {None: None, "\\t": b"\t", "\\0": b"\0"}.get(word, word and word.encode())
+
+    def key_column(self, default=None):
+        return number(self.options.get("key", default or ("1" if "csv" in self.options else None)))
+
+    def of_file(self, number):
+        """Of which file the line of a number is, and its number there."""
+        for name, count in self.inputs:
+            if number <= count:
+                return b" of " + shown(name.encode()), number
+            number -= count
+        return b"", number
 
     def column(self, line, number):
         """The text of a column, counted from 1, or None."""
-        if "crlf" in self.options and line.endswith(b"\r"):
-            line = line[:-1]
         if number is None:
-            return line
-        separator = self.options.get("field-separator")
-        if separator is not None:
-            columns = line.split({"\\t": b"\t", "\\0": b"\0"}.get(separator) or separator.encode())
-        else:
-            columns = re.split(rb"[ \t]+", line.strip(b" \t")) if line.strip(b" \t") else []
+            return self.whole(line)
+        columns = self.columns(line)
         return columns[number - 1] if number <= len(columns) else None
+
+    def whole(self, line):
+        return line[:-1] if {"crlf", "csv"} & {*self.options} and line.endswith(b"\r") else line
+
+    def columns(self, line):
+        line, separators = self.whole(line), self.separators()
+        if "csv" in self.options:
+            return csv_fields(line, separators or b",", self.end()) or []
+        if separators is not None:
+            return re.split(b"[" + re.escape(separators) + b"]", line)
+        return re.split(rb"[ \t]+", line.strip(b" \t")) if line.strip(b" \t") else []
+
+    def look_up(self, head):
+        """Puts the numbers of columns in the place of their names in a header. Without lines none is looked up."""
+        for option in COLUMNS:
+            word = self.options.get(option, "1")
+            if not is_number(word):
+                self.by_name = True
+                names = self.columns(head[-1]) if head else [word.encode()]
+                if word.encode() not in names:
+                    raise Ended(1, b"no column is named " + shown(word.encode()))
+                self.options[option] = str(names.index(word.encode()) + 1)
 
     def texts(self, lines, number):
         """The version of each line, or None."""
@@ -159,20 +202,28 @@ class Run:
         try:
             return versions.Version(self.spelled([word.encode()])[0] or "", scheme=self.scheme)
         except versions.InvalidVersion:
-            said, below = self.told(word.encode(), word.encode(), not NAMING & {*self.options})
+            said, below = self.told(word.encode(), self.scheme)
             raise Ended(status, b"not a version: " + said + below) from None
 
-    def told(self, text, line, is_whole):
-        """What is said of a text that is none: its line; or why it is none, and below the line with a mark."""
-        if not is_whole:
-            return shown(line), b""
+    def found(self, text):
+        """The rest of a text that should be its version, or None."""
+        if "prefix" in self.options:
+            return text_after_prefix(self.options["prefix"].encode(), text)
+        return text_in_tag(text) if "tags" in self.options else text
+
+    def told(self, text, scheme):
+        """What is said of a text that spells none; and why, with the text and a pointer below, if a version begins."""
+        rest = self.found(text)
+        if rest is None:
+            prefix = re.match(rb"[^0-9]*", text)[0]
+            tip = "tags" in self.options and is_plain(prefix) and is_version(text[len(prefix) :], scheme)
+            return shown(text) + (b": --prefix " + prefix if tip else b""), b""
         try:
-            versions.Version(readable(text), scheme=self.scheme)
+            versions.Version(readable(rest), scheme=scheme)
         except versions.InvalidVersion as error:
-            before = text[: error.place]
-            marked = len(before) <= SHOWN and all(32 <= byte <= 126 for byte in before)
-            below = b"\n  " + shown(line) + (b"\n  " + b" " * len(before) + b"^" if marked else b"")
-            return error.reason.encode(), below
+            before = text[: len(text) - len(rest) + error.place]
+            pointer = b"\n  " + b" " * len(before) + b"^" if is_plain(before) else b""
+            return error.reason.encode(), b"\n  " + shown(text) + pointer
 
     def version_set(self, word, status=1):
         try:
@@ -188,17 +239,25 @@ class Run:
         levels = zip(texts, versions.stabilities(texts))
         return [STABILITIES.index(str(it)) if it else stability_of_words(text) - 1 for text, it in levels]
 
-    def bad(self, lines, texts, asked, header=0):
+    def bad(self, lines, texts, asked, header=0, key=None):
         """The lines without a version behind a header, unless they are a fault."""
         bad = [place for place, text in enumerate(texts) if text is None]
         if bad and asked == "fail":
-            line, number = lines[bad[0]], header + bad[0] + 1
-            is_whole = not (NAMING | {"key", "scheme-column", "lists"}) & {*self.options}
-            said, below = self.told(self.column(line, None), line, is_whole)
-            text = b"line %d is not a version: %s" % (number, said)
-            if "crlf" not in self.options and line.endswith(b"\r"):
-                text, below = b"line %d ends in a carriage return: --crlf" % number, b""
-            raise Ended(1, text + (b" (and %d more)" % (len(bad) - 1) if len(bad) > 1 else b"") + below)
+            line, scheme = lines[bad[0]], self.options.get("scheme", "mixed")
+            if "scheme-column" in self.options:
+                scheme = readable(self.column(line, number(self.options["scheme-column"])))
+            text, below = self.column(line, self.key_column(key)), b""
+            if scheme not in versions.SCHEMES:
+                said = shown(line) + b": no scheme is named"
+            elif text is None:
+                said = shown(line) + b": no such column"
+            else:
+                said, below = self.told(text, scheme)
+            said, (of, place) = b" is not a version: " + said, self.of_file(header + bad[0] + 1)
+            if not {"crlf", "csv"} & {*self.options} and line.endswith(b"\r"):
+                said, below = b" ends in a carriage return: --crlf", b""
+            more = b" (and %d more)" % (len(bad) - 1) if len(bad) > 1 else b""
+            raise Ended(1, b"line %d%s%s%s%s" % (place, of, said, more, below))
         return [lines[place] for place in bad]
 
     def lines(self, files, default, arrange):
@@ -208,7 +267,8 @@ class Run:
         header = int(self.options.get("header-lines", "header" in self.options))
         lines = self.input(files)
         head, lines = lines[:header], lines[header:]
-        texts = self.texts(lines, number(self.options.get("key")))
+        self.look_up(head)
+        texts = self.texts(lines, self.key_column())
         bad = self.bad(lines, texts, asked, header)
         rows = [(line, text) for line, text in zip(lines, texts) if text is not None]
         least = STABILITIES.index(self.options.get("min-stability", "dev"))
@@ -224,7 +284,10 @@ class Run:
         if "invalid-to" in self.options:
             self.written[self.options["invalid-to"]] = b"".join(line + self.end() for line in bad)
         kept = {"first": bad + good, "last": good + bad}.get(asked, good)
-        return b"".join(line + self.end() for line in head + kept)
+        top = b"".join(line + self.end() for line in head)
+        if "csv" in self.options and head and csv_fields(head[-1], self.separators() or b",", self.end()) is None:
+            top = top.removesuffix(self.end())
+        return top + b"".join(line + self.end() for line in kept)
 
     def hints(self, texts, left_out):
         """What is told beside of versions that look like tags, and of lines of which none was kept."""
@@ -232,7 +295,7 @@ class Run:
         if texts and whole and all(re.match("[vV][0-9]", text) for text in texts):
             self.error += b"versions: all versions begin with v: --tags compares what follows it\n"
         if left_out:
-            returns = "crlf" not in self.options and left_out[0].endswith(b"\r")
+            returns = not {"crlf", "csv"} & {*self.options} and left_out[0].endswith(b"\r")
             self.error += b"versions: no line was kept" + (b": they end in carriage returns: --crlf" if returns else b"") + b"\n"
 
     def sort(self, *files):
@@ -378,8 +441,9 @@ class Run:
         asked = self.options.get("invalid", "fail")
         both = [self.input([name]) for name in files]
         texts = [self.texts(lines, number(self.options.get("key", "2"))) for lines in both]
-        for lines, found in zip(both, texts):
-            self.bad(lines, found, asked)
+        for name, lines, found in zip(files, both, texts):
+            self.inputs = [(name, len(lines))]
+            self.bad(lines, found, asked, key="2")
         old, new, end = {}, {}, self.end()
         for names, lines, found in zip((old, new), both, texts):
             for line, text in zip(lines, found):
@@ -403,6 +467,10 @@ TOTAL = cmp_to_key(versions.compare_total)
 
 def number(word):
     return None if word is None else int(word)
+
+
+def is_number(word):
+    return re.fullmatch(r"\+?[0-9]+", word)
 
 
 def parsed(command, words):
@@ -446,12 +514,17 @@ def parsed(command, words):
 
 
 def are_right(command, options):
-    numbers = [options[name] for name in NUMBERED if name in options]
+    words = {name: options[name] for name in NUMBERED if name in options}
+    names = [name for name in COLUMNS if name in words and command != "diff" and not is_number(words[name])]
+    numbers = [word for name, word in words.items() if name not in names]
     separator = options.get("field-separator", ",")
     invalid = ["fail", "skip"] if command in ("newest", "diff") else ["fail", "skip", "first", "last"]
     return (
-        all(re.fullmatch("[0-9]+", text) and 0 < int(text) < 2**64 for text in numbers)
-        and (separator in ("\\t", "\\0") or len(separator.encode()) == 1)
+        all(is_number(text) and 0 < int(text) < 2**64 for text in numbers)
+        and not (names and not {"header", "header-lines"} & {*options})
+        and separator.isascii()
+        and separator != ""
+        and ("csv" not in options or is_of_csv(separator, b"\0" if "zero-terminated" in options else b"\n"))
         and options.get("min-stability", "dev") in STABILITIES
         and options.get("invalid", "fail") in invalid
         and not ("invalid-to" in options and options.get("invalid", "skip") != "skip")
@@ -461,6 +534,44 @@ def are_right(command, options):
         and not ("scheme-column" in options and ("scheme" in options or "match" in options))
         and (command != "diff" or "lists" in options or not {*options} - NAMING)
     )
+
+
+def is_of_csv(separator, end):
+    """Whether a word names a byte between the fields of CSV."""
+    return separator in ("\\t", "\\0") and {"\\t": b"\t", "\\0": b"\0"}[separator] != end or (
+        len(separator) == 1 and separator != '"' and separator.encode() != end
+    )
+
+
+def as_csv(text, end):
+    """Bytes as text for Python's csv module: what ends records is a line feed there, and a carriage return is nothing."""
+    return text.decode("latin-1").translate({ord(end): "\n", ord("\n"): end.decode(), ord("\r"): "\u0100"})
+
+
+def records(text, end, separator):
+    """The records of CSV, by how many lines Python's csv module reads for each."""
+    lines = [line + end for line in text.split(end)[:-1]]
+    reader, at = csv.reader((as_csv(line, end) for line in lines), delimiter=as_csv(separator, end)), 0
+    for _ in reader:
+        record = b"".join(lines[at : reader.line_num])
+        at = reader.line_num
+        yield record if csv_fields(record, separator, end) is None and at == len(lines) else record.removesuffix(end)
+
+
+def csv_fields(record, separator, end):
+    """The fields of a record, without quotes around them, in which two stay two; none if it is none of RFC 4180, and
+    None if its quotes never close."""
+    try:
+        rows = [*csv.reader([as_csv(record, end)], delimiter=as_csv(separator, end), strict=True)]
+    except csv.Error as error:
+        return None if "unexpected end" in str(error) else []
+    back, fields, at = {ord("\n"): end.decode(), ord(end): "\n", 0x100: "\r"}, [], 0
+    for field in (rows[0] if rows else []) or [""]:
+        is_quoted = record[at : at + 1] == b'"'
+        field = field.replace('"', '""') if is_quoted else field
+        at += len(field) + 2 * is_quoted + 1
+        fields.append(field.translate(back).encode("latin-1"))
+    return fields
 
 
 def looks_like_a_tag(one):
@@ -512,6 +623,15 @@ def in_tag(text, prefix):
         return None if text is None else str(versions.Version.from_tag(text, prefix))
     except versions.InvalidVersion:
         return None
+
+
+def is_version(text, scheme):
+    return bool(versions.sort_keys([readable(text)], scheme=scheme)[0])
+
+
+def is_plain(text):
+    """Whether a message shows all of it as it is."""
+    return len(text) <= SHOWN and all(32 <= byte <= 126 for byte in text)
 
 
 def matching(rows, wanted, keeps):
