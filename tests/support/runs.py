@@ -248,6 +248,12 @@ VERSIONS = (
 # Runs that read or write files.
 VERSIONS_WITH_FILES = (
     Run("sort -t, -k2 table -", "down,1.2", "down,1.2\nright,1.9\nup,1.10rc1\nleft,1.10\n"),
+    Run(
+        "sort --csv -k2 table open table",
+        status=1,
+        fault="versions: line 2 of open: its quotes never close\n",
+        files={"open": 'a,1.1\n"b,1.2\n'},
+    ),
     Run("diff --lists old new", "", "raised left 1.2 1.3\nlowered right 2.0 1.9\nremoved up 1.0\nadded down 0.1\n"),
     Run("diff --lists --scheme pypi old -", "left 1.2.0\nright 2.0rc1\nup 1\n", "lowered right 2.0 2.0rc1\n"),
     Run("sort --invalid-to others", "1.1\nx y\n1.0\n", "1.0\n1.1\n", written={"others": "x y\n"}),

@@ -99,14 +99,18 @@ class Run:
             if text is None:
                 why = REFUSED[21 if name == "." else 2]
                 raise Ended(3, b"cannot be read: %s: %s" % (shown(name.encode()), why.encode()))
-            texts.append(text if not text or text.endswith(self.end()) else text + self.end())
-        self.inputs = [(name, len(self.split(text))) for name, text in zip(names, texts)]
-        return self.split(b"".join(texts))
+            texts.append(self.split(name, text if not text or text.endswith(self.end()) else text + self.end()))
+        self.inputs = [(name, len(lines)) for name, lines in zip(names, texts)]
+        return [line for lines in texts for line in lines]
 
-    def split(self, text):
-        if "csv" in self.options:
-            return [*records(text, self.end(), self.separators() or b",")]
-        return text.split(self.end())[:-1]
+    def split(self, name, text):
+        """The lines of an input, the last of which ends there."""
+        if "csv" not in self.options:
+            return text.split(self.end())[:-1]
+        lines, goes_on = records(text, self.end(), self.separators() or b",")
+        if goes_on:
+            raise Ended(1, b"line %d of %s: its quotes never close" % (len(lines), shown(name.encode())))
+        return lines
 
     def separators(self):
         """The bytes of which each separates columns, or None."""
@@ -137,7 +141,7 @@ class Run:
     def columns(self, line):
         line, separators = self.whole(line), self.separators()
         if "csv" in self.options:
-            return csv_fields(line, separators or b",", self.end()) or []
+            return csv_fields(line, separators or b",", self.end())
         if separators is not None:
             return re.split(b"[" + re.escape(separators) + b"]", line)
         return re.split(rb"[ \t]+", line.strip(b" \t")) if line.strip(b" \t") else []
@@ -284,10 +288,7 @@ class Run:
         if "invalid-to" in self.options:
             self.written[self.options["invalid-to"]] = b"".join(line + self.end() for line in bad)
         kept = {"first": bad + good, "last": good + bad}.get(asked, good)
-        top = b"".join(line + self.end() for line in head)
-        if "csv" in self.options and head and csv_fields(head[-1], self.separators() or b",", self.end()) is None:
-            top = top.removesuffix(self.end())
-        return top + b"".join(line + self.end() for line in kept)
+        return b"".join(line + self.end() for line in head + kept)
 
     def hints(self, texts, left_out):
         """What is told beside of versions that look like tags, and of lines of which none was kept."""
@@ -549,22 +550,21 @@ def as_csv(text, end):
 
 
 def records(text, end, separator):
-    """The records of CSV, by how many lines Python's csv module reads for each."""
+    """The records of CSV, by how many lines Python's csv module reads for each; and whether the last takes one more."""
     lines = [line + end for line in text.split(end)[:-1]]
-    reader, at = csv.reader((as_csv(line, end) for line in lines), delimiter=as_csv(separator, end)), 0
-    for _ in reader:
-        record = b"".join(lines[at : reader.line_num])
-        at = reader.line_num
-        yield record if csv_fields(record, separator, end) is None and at == len(lines) else record.removesuffix(end)
+    reader = csv.reader((as_csv(line, end) for line in [*lines, end]), delimiter=as_csv(separator, end))
+    ends = [0, *(reader.line_num for _ in reader)]
+    found = [b"".join(lines[start:stop]).removesuffix(end) for start, stop in zip(ends, ends[1:])]
+    goes_on = ends[-2] < len(lines)
+    return (found if goes_on else found[:-1]), goes_on
 
 
 def csv_fields(record, separator, end):
-    """The fields of a record, without quotes around them, in which two stay two; none if it is none of RFC 4180, and
-    None if its quotes never close."""
+    """The fields of a record, without quotes around them, in which two stay two; none if it is none of RFC 4180."""
     try:
         rows = [*csv.reader([as_csv(record, end)], delimiter=as_csv(separator, end), strict=True)]
-    except csv.Error as error:
-        return None if "unexpected end" in str(error) else []
+    except csv.Error:
+        return []
     back, fields, at = {ord("\n"): end.decode(), ord(end): "\n", 0x100: "\r"}, [], 0
     for field in (rows[0] if rows else []) or [""]:
         is_quoted = record[at : at + 1] == b'"'

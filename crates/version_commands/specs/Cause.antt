@@ -1,7 +1,7 @@
 -- Why a task fails: what each of its faults comes of. Refused memory and a writer that takes no more
 -- can end any task.
 use Rattle.std.proofs.Common.{Bor, Global, String}
-use Rattle.std.specs.Prelude.{◌≡◌, ◌⊎◌, ⊤, ℕ, false, List, [], ◌∷◌, ◌++◌, codes, map, Option, None, Some, string_bytes}
+use Rattle.std.specs.Prelude.{◌≡◌, ◌⊎◌, ⊤, ℕ, false, List, [], ◌∷◌, ◌++◌, codes, map, Option, None, Some, Result, string_bytes}
 use Rattle.std.specs.Io.KnownBytes.{Consumes, IsAtEnd}
 use Rattle.version_commands.specs.Arranged.{policy}
 use Rattle.version_commands.specs.Choice.{wrong_set}
@@ -9,12 +9,14 @@ use Rattle.version_commands.specs.Each.{has_version, place_of, spelling_of, AreT
 use Rattle.version_commands.specs.Fault.{first_wrong, ComesOfLines, ComesOfMatching, ComesOfPut, ComesOfReading, ComesOfSets, ComesOfStandard, ComesOfTestOfSet, ComesOfTestOfSets, ComesOfTestOfTwo, ComesOfWords}
 use Rattle.version_commands.specs.Inputs.{counts_before_last, joined, line_in, names_read, AreInputs, IsLineIn, Reading}
 use Rattle.version_commands.specs.Lists.{bad_lines_of, lines_of_list, names_of}
-use Rattle.version_commands.specs.Ordered.{body_of, name_missing, options_in, versions_by}
+use Rattle.version_commands.specs.Ends.{Ends}
+use Rattle.version_commands.specs.Ordered.{body_of, name_missing, options_in, versions_by, IsArranged}
 use Rattle.version_commands.specs.Picked.{Versions}
 use Rattle.version_commands.specs.Place.{mixed_spelling, reads_of, spelled, spelled_mixed}
 use Rattle.version_commands.specs.Quote.{quoted}
 use Rattle.version_commands.specs.Remark.{IsRemark}
 use Rattle.version_commands.specs.Sets.{IsWrongSet}
+use Rattle.version_commands.specs.declared.arrange.Input.{Input}
 use Rattle.version_commands.specs.declared.faults.Fault.{Fault}
 use Rattle.version_commands.specs.declared.faults.Fault.TheVariants as fault
 use Rattle.version_commands.specs.declared.options.Arrangement.{Arrangement}
@@ -39,7 +41,14 @@ ComesOfArranged options versions input other =
     ComesOfLines (policy options) options.place options.scheme_column None options.header versions
     (lines_of options.end input) other
 
--- the same of an input with columns of numbers alone
+-- these lines of an input are written, or one of those faults stops that
+abbrev pub EndsArranged : {T : Type 0} → Versions → LineOptions → Input → List (List ℕ)
+    → (Option (List ℕ × List ℕ) → Type 0) → Option (List ℕ) → Option (List ℕ) → Result T Fault → Type 0
+EndsArranged versions options input lines leaves =
+    Ends (IsArranged versions options input.head.now input.body.now lines leaves)
+    (ComesOfArranged options versions input.body.now)
+
+-- the faults of an input with columns of numbers alone
 abbrev pub ComesOfArrangedOf : LineOptions → List ℕ → Fault → Type 0
 ComesOfArrangedOf options input =
     ComesOfArranged options (versions_by options.place options.scheme_column) (body_of options input)
@@ -64,7 +73,10 @@ abbrev pub ComesOfArranging : Arrangement → LineOptions → Reading → Option
 ComesOfArranging arrangement options files old (fault.NotSet wrong) =
     ComesOfSets options.place.scheme (wrong_set options.place.scheme options.choice arrangement) (fault.NotSet wrong)
 ComesOfArranging arrangement options files old (fault.Read name) =
-    ComesOfReading files (names_read (map (λ name. name.now) options.files.items)) (fault.Read name)
+    ComesOfReading options.end files old (names_read (map (λ name. name.now) options.files.items)) (fault.Read name)
+ComesOfArranging arrangement options files old (fault.Unclosed name number) =
+    ComesOfReading options.end files old (names_read (map (λ name. name.now) options.files.items))
+    (fault.Unclosed name number)
 ComesOfArranging arrangement options files old fault.Memory = ⊤
 ComesOfArranging arrangement options files old other =
     (new : Option (List ℕ)) × (texts : List (List ℕ)) × (found : Fault)
@@ -130,7 +142,7 @@ ComesOfChanges lists reads old (fault.BadLine bad) =
     (new : Option (List ℕ)) × (first second : List ℕ)
     × AreInputs reads old new (names_of lists) (first ∷ second ∷ [])
     × ComesOfEither lists first second (fault.BadLine bad)
-ComesOfChanges lists reads old other = ComesOfReading reads (names_of lists) other
+ComesOfChanges lists reads old other = ComesOfReading lists.end reads old (names_of lists) other
 
 -- the faults of each task, but for a writer that takes no more
 abbrev pub ComesOf : Task → Reading → Option (List ℕ) → Fault → Type 0

@@ -11,8 +11,9 @@ use Rattle.version_commands.specs.declared.pick.BadLines.{BadLines}
 use Rattle.version_commands.specs.declared.set.WrongSet.{WrongSet}
 use Rattle.version_lines.specs.declared.input.Trouble.{Trouble}
 use Rattle.version_lines.specs.declared.input.Trouble.TheVariants as trouble
+use Rattle.version_lines.specs.declared.lines.LineEnd.{LineEnd}
 use Rattle.version_commands.specs.Bad.{Reports}
-use Rattle.version_commands.specs.Inputs.{IsRefused, Reading}
+use Rattle.version_commands.specs.Inputs.{EndsOpen, IsFirstOpen, IsRefused, MayFail, Reading}
 use Rattle.version_commands.specs.Picked.{bad_lines, good_before, Versions}
 use Rattle.version_commands.specs.Place.{spelled}
 use Rattle.version_commands.specs.Remark.{no_version_text, others_text, IsRemark}
@@ -26,7 +27,7 @@ use Rattle.version_rules.specs.requirement.Requirements.{requirements_of}
 use Rattle.version_sets.specs.Reason.{reason_text}
 use Rattle.version_schemes.specs.declared.scheme.Scheme.{Scheme}
 use Rattle.version_commands.specs.declared.faults.Fault.{Fault}
-use Rattle.version_commands.specs.declared.faults.Fault.TheVariants.{NotVersion, NotRequirement, NotSet, NotTested, NotTestedSet, BadLine, NoNext, NoColumn, Memory, Read, Write}
+use Rattle.version_commands.specs.declared.faults.Fault.TheVariants.{NotVersion, NotRequirement, NotSet, NotTested, NotTestedSet, BadLine, NoNext, NoColumn, Unclosed, Memory, Read, Write}
 
 -- the status that a fault ends the program with
 abbrev pub status_of : Fault → ℕ
@@ -38,6 +39,7 @@ status_of (NotTestedSet wrong) = 2
 status_of (BadLine bad) = 1
 status_of (NoNext text) = 1
 status_of (NoColumn name) = 1
+status_of (Unclosed name number) = 1
 status_of Memory = 3
 status_of (Read name) = 3
 status_of (Write name) = 3
@@ -73,6 +75,8 @@ fault_text (NotTestedSet wrong) = wrong_set_text wrong
 fault_text (BadLine bad) = bad_line_text bad
 fault_text (NoNext text) = codes "no version comes next at that place: " ++ string_bytes text
 fault_text (NoColumn name) = codes "no column is named " ++ quoted name.now
+fault_text (Unclosed name number) =
+    codes "line " ++ (decimal number ++ (codes " of " ++ (quoted name.now ++ codes ": its quotes never close")))
 fault_text Memory = codes "no memory"
 fault_text (Read name) = codes "cannot be read: " ++ quoted name.now
 fault_text (Write (Some name)) = codes "cannot be written: " ++ quoted name.now
@@ -89,12 +93,23 @@ ComesOfStandard Memory = ⊤
 ComesOfStandard (Read name) = name.now ≡ codes "-"
 ComesOfStandard fault = ⊥
 
--- the faults that reading inputs of these names can end in
-abbrev pub ComesOfReading : Reading → List (List ℕ) → Fault → Type 0
-ComesOfReading reads names Memory = ⊤
-ComesOfReading reads names (Read shown) =
-    IsRefused reads names shown.now
-ComesOfReading reads names fault = ⊥
+-- the faults that reading what the input of this name holds can end in
+abbrev pub ComesOfText : Reading → List ℕ → Fault → Type 0
+ComesOfText reads name Memory = ⊤
+ComesOfText reads name (Read shown) = (shown.now ≡ name) × MayFail reads name
+ComesOfText reads name fault = ⊥
+
+-- those of reading its lines
+abbrev pub ComesOfReadingOne : LineEnd → Reading → Option (List ℕ) → List ℕ → Fault → Type 0
+ComesOfReadingOne end reads old name (Unclosed shown number) = (shown.now ≡ name) × EndsOpen end reads old name number
+ComesOfReadingOne end reads old name fault = ComesOfText reads name fault
+
+-- those of reading the inputs of these names in turn
+abbrev pub ComesOfReading : LineEnd → Reading → Option (List ℕ) → List (List ℕ) → Fault → Type 0
+ComesOfReading end reads old names Memory = ⊤
+ComesOfReading end reads old names (Read shown) = IsRefused reads names shown.now
+ComesOfReading end reads old names (Unclosed shown number) = IsFirstOpen end reads old names shown.now number
+ComesOfReading end reads old names fault = ⊥
 
 -- the faults that lines without a version can end in, of a file, before the first of which come so many with one
 abbrev pub ComesOfBadAfter : Invalid → VersionPlace → Option Column → Option (Bor (List ℕ)) → ℕ → List (List ℕ) → Fault

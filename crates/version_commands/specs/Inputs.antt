@@ -5,7 +5,7 @@ use Rattle.std.specs.Io.KnownBytes.{Consumes, IsAtEnd}
 use Rattle.std.specs.List.{flat_map, list_any, Contains}
 use Rattle.std.specs.Str.{bytes_eq}
 use Rattle.version_commands.specs.declared.inputs.Inputs.{Inputs}
-use Rattle.version_lines.specs.Lines.{lines_of}
+use Rattle.version_lines.specs.Lines.{ends_quoted, lines_of}
 use Rattle.version_lines.specs.declared.lines.LineEnd.{LineEnd}
 
 -- whether some bytes end where a line ends: they are none, or the last of them ends a line
@@ -22,16 +22,24 @@ ended end bytes = if ends_line end bytes then bytes else bytes ++ end ∷ []
 abbrev pub joined : ℕ → List (List ℕ) → List ℕ
 joined end texts = flat_map (ended end) texts
 
--- how many lines a text has among others
-abbrev pub line_count : LineEnd → List ℕ → ℕ
-line_count end text = length (lines_of end (ended end.byte text))
+-- whether the last line of an input goes on in what is read behind it: quotes of CSV open in it and never close
+abbrev pub is_open : LineEnd → List ℕ → Bool
+is_open end text = ends_quoted end (ended end.byte text)
 
--- the same of several texts but the last
+-- the lines of an input, and how many they are
+abbrev pub lines_within : LineEnd → List ℕ → List (List ℕ)
+lines_within end text = lines_of end (ended end.byte text)
+
+abbrev pub line_count : LineEnd → List ℕ → ℕ
+line_count end text = length (lines_within end text)
+
+-- how many several texts have, but the last
 abbrev pub counts_before_last : LineEnd → List (List ℕ) → List ℕ
 counts_before_last end texts = map (line_count end) (take (length texts - 1) texts)
 
--- several texts as one, as they are held
+-- several texts as one, as they are held; none of them goes on in the next
 pub record AreJoined (end : LineEnd) (texts : List (List ℕ)) (inputs : Inputs) : Type 0 where
+  pub closed : list_any (is_open end) texts ≡ false
   pub text_is : inputs.text.items ≡ joined end.byte texts
   pub counts_are : inputs.counts.items ≡ counts_before_last end texts
 
@@ -74,6 +82,26 @@ AreInputs reads old new (name ∷ names) (text ∷ texts) =
 AreInputs reads old new [] (text ∷ texts) = ⊥
 AreInputs reads old new (name ∷ names) [] = ⊥
 
+-- the last line of the input of this name goes on in what is read behind it, and this is its number
+pub record EndsOpen (end : LineEnd) (reads : Reading) (old : Option (List ℕ)) (name : List ℕ) (number : ℕ) : Type 0 where
+  pub text : List ℕ
+  pub new : Option (List ℕ)
+  pub is_input : IsInput reads old new name text
+  pub unclosed : is_open end text ≡ true
+  pub number_is : number ≡ line_count end text
+
+-- this is the first of the inputs of these names, which are read in turn, that does so
+pub record IsFirstOpen (end : LineEnd) (reads : Reading) (old : Option (List ℕ)) (names : List (List ℕ))
+    (name : List ℕ) (number : ℕ) : Type 0 where
+  pub before : List (List ℕ)
+  pub after : List (List ℕ)
+  pub texts : List (List ℕ)
+  pub between : Option (List ℕ)
+  pub names_are : names ≡ before ++ name ∷ after
+  pub texts_are : AreInputs reads old between before texts
+  pub closed : list_any (is_open end) texts ≡ false
+  pub opens : EndsOpen end reads between name number
+
 -- the names that are read: those that were given, or that of standard input
 abbrev pub names_read : List (List ℕ) → List (List ℕ)
 names_read [] = codes "-" ∷ []
@@ -83,7 +111,11 @@ names_read (name ∷ names) = name ∷ names
 abbrev pub reads_standard : List (List ℕ) → Bool
 reads_standard names = list_any is_standard names
 
--- the name is one of these, and its file may not be read
+-- reading the input of this name may fail
+abbrev pub MayFail : Reading → List ℕ → Type 0
+MayFail reads name = is_standard name ≡ false → reads name None
+
+-- the name is one of these, and reading its input may fail
 pub record IsRefused (reads : Reading) (names : List (List ℕ)) (name : List ℕ) : Type 0 where
   pub among : Contains names name
-  pub failed : is_standard name ≡ false → reads name None
+  pub failed : MayFail reads name

@@ -8,7 +8,7 @@ use Rattle.std.specs.Ordering.{nat_cmp}
 use Rattle.std.specs.Str.{bytes_eq}
 use Rattle.std.specs.declared.cmp.Ordering.{Ordering}
 use Rattle.std.specs.declared.cmp.Ordering.TheVariants.{Less, Equal, Greater}
-use Rattle.version_commands.specs.Inputs.{ended}
+use Rattle.version_commands.specs.Inputs.{lines_within}
 use Rattle.version_commands.specs.Picked.{bad_lines}
 use Rattle.version_commands.specs.Place.{column_text, line_text, reads_of}
 use Rattle.version_commands.specs.declared.lists.Named.{Named}
@@ -27,7 +27,7 @@ names_of lists = lists.old.now ∷ lists.new.now ∷ []
 
 -- the lines of a list
 abbrev pub lines_of_list : Lists → List ℕ → List (List ℕ)
-lines_of_list lists input = lines_of lists.end (ended lists.end.byte input)
+lines_of_list lists input = lines_within lists.end input
 
 -- those that have no version
 abbrev pub bad_lines_of : Lists → List ℕ → List (List ℕ)

@@ -1,12 +1,13 @@
 -- What `sort`, `newest` and `filter` write.
 use Rattle.std.proofs.Common.{Bor}
-use Rattle.std.specs.Prelude.{◌≡◌, ◌++◌, ◌∷◌, ℕ, Bool, List, [], map, Option, None, Some, if◌then◌else◌}
+use Rattle.std.specs.Prelude.{◌≡◌, ◌++◌, ◌∷◌, ℕ, Bool, false, List, [], map, Option, None, Some, if◌then◌else◌}
 use Rattle.version_commands.specs.Arranged.{arranged, placed, policy}
 use Rattle.version_commands.specs.BySchemes.{arranged_by_schemes, version_by}
 use Rattle.version_commands.specs.Choice.{keeps_of}
 use Rattle.version_commands.specs.Header.{arrangement_by, first_unnamed, last_of, options_by}
+use Rattle.std.specs.List.{flat_map, list_any}
 use Rattle.std.specs.Option.{option_map}
-use Rattle.version_commands.specs.Inputs.{joined, names_read, AreInputs, Reading}
+use Rattle.version_commands.specs.Inputs.{is_open, joined, lines_within, names_read, AreInputs, Reading}
 use Rattle.version_commands.specs.Picked.{Versions, bad_lines, has, kept_lines}
 use Rattle.version_commands.specs.Place.{group_text, line_text, reads_of}
 use Rattle.version_commands.specs.declared.options.Arrangement.{Arrangement}
@@ -108,7 +109,7 @@ pub record IsArrangedIn (arrangement : Arrangement) (options : LineOptions) (kee
   pub is_arranged : IsArrangedOf (arrangement_in arrangement options input) (options_in options input) keeps input
       leaves output
 
--- the same of a run whose inputs were read in turn
+-- the same of a run whose inputs were read in turn, and whose lines are those of each
 pub record IsOrdered (arrangement : Arrangement) (options : LineOptions) (files : Reading)
     (old new : Option (List ℕ)) (leaves : Option (List ℕ × List ℕ) → Type 0)
     (output : List ℕ) : Type 0 where
@@ -116,5 +117,7 @@ pub record IsOrdered (arrangement : Arrangement) (options : LineOptions) (files 
   pub keeps : PlainAny → Bool
   pub texts_are : AreInputs files old new (names_read (map (λ name. name.now) options.files.items))
       texts
+  pub closed : list_any (is_open options.end) texts ≡ false
+  pub apart : lines_of options.end (joined options.end.byte texts) ≡ flat_map (lines_within options.end) texts
   pub keeps_are : keeps_of options.place.scheme options.choice arrangement ≡ Some keeps
   pub is_arranged : IsArrangedIn arrangement options keeps (joined options.end.byte texts) leaves output

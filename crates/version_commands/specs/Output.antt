@@ -1,10 +1,11 @@
 -- What a task writes.
 use Rattle.std.specs.Prelude.{◌≡◌, ◌==◌, ℕ, Bool, false, true, List, [], ◌∷◌, length, map, Option, None, Some, string_bytes}
+use Rattle.std.specs.List.{list_any}
 use Rattle.version_commands.specs.Compare.{comparison_line}
 use Rattle.version_commands.specs.Difference.{difference_line}
 use Rattle.version_commands.specs.Each.{are_versions, IsAnswered, IsAsked}
 use Rattle.version_commands.specs.Explain.{explained_line}
-use Rattle.version_commands.specs.Inputs.{ended, names_read, reads_standard, AreInputs, Reading}
+use Rattle.version_commands.specs.Inputs.{ended, is_open, names_read, reads_standard, AreInputs, Reading}
 use Rattle.version_commands.specs.Label.{AreLabelled}
 use Rattle.version_commands.specs.Lists.{bad_lines_of, difference_text, names_of, rows_of}
 use Rattle.version_commands.specs.Ordered.{bad_file, IsOrdered}
@@ -35,6 +36,7 @@ pub record AreChanges (lists : Lists) (reads : Reading) (old new : Option (List 
   pub first : List ℕ
   pub second : List ℕ
   pub texts_are : AreInputs reads old new (names_of lists) (first ∷ second ∷ [])
+  pub closed : list_any (is_open lists.end) (first ∷ second ∷ []) ≡ false
   pub good_are : lists.invalid ≡ Fail → (bad_lines_of lists first ≡ []) × (bad_lines_of lists second ≡ [])
   pub output_is : output ≡ difference_text lists.end.byte
       (rows_of lists (ended lists.end.byte first)) (rows_of lists (ended lists.end.byte second))

@@ -2,13 +2,13 @@
 ghost use Rattle.std.specs.Prelude.{◌≡◌, ◌<◌, ◌+◌, [], ℕ, List, length, if◌then◌else◌, false, map, None, Some, IfErr, IfOk, IsTrue, OnOk};
 ghost use Rattle.version_commands.specs.Arranged.{arranged, is_reversed};
 ghost use Rattle.version_commands.specs.BySchemes.{arranged_by_schemes, version_by};
-ghost use Rattle.version_commands.specs.Cause.{ComesOfArranged, ComesOfArranging, ComesOfInput, IsInItsFile};
+ghost use Rattle.version_commands.specs.Cause.{ComesOfArranging, ComesOfInput, EndsArranged, IsInItsFile};
 ghost use Rattle.version_commands.specs.Choice.{is_kept};
 ghost use Rattle.version_commands.specs.Early.{IfOfWord, UnlessLate};
 ghost use Rattle.version_commands.specs.Ends.{Ends};
 ghost use Rattle.version_commands.specs.Files.{AltersAtMost, Leaves};
 ghost use Rattle.version_commands.specs.Inputs.{names_read, reads_standard};
-ghost use Rattle.version_commands.specs.Ordered.{bad_file, body_of, head_of, arranged_in, kept_in, kept_line, ordered_by, versions_by, IsArranged, IsArrangedIn, IsOrdered};
+ghost use Rattle.version_commands.specs.Ordered.{bad_file, body_of, head_of, arranged_in, kept_in, kept_line, ordered_by, versions_by, IsArrangedIn, IsOrdered};
 ghost use Rattle.version_commands.specs.Place.{group_text, reads_of};
 ghost use Rattle.version_lines.specs.KeyedLines.{lines_in, AreRead};
 ghost use Rattle.version_lines.specs.Lines.{output_by, whole_line};
@@ -123,11 +123,9 @@ fn write_told<'w, F: Files, W: Write>(
     files: &mut F,
     writer: &mut W,
 ) -> Result<(), Fault<'w>>
-    ensures ends { Ends (IsArranged (versions_by options.now.place options.now.scheme_column) options.now
-        input.now.head.now input.now.body.now (ordered_by options.now.scheme_column (is_kept chooser.now)
-        arrangement.entry options.now input.now.body.now) (Leaves F.puts files.old files.new))
-        (ComesOfArranged options.now (versions_by options.now.place options.now.scheme_column) input.now.body.now)
-        (W.contents writer.old) (W.contents writer.new) result }
+    ensures ends { EndsArranged (versions_by options.now.place options.now.scheme_column) options.now input.now
+        (ordered_by options.now.scheme_column (is_kept chooser.now) arrangement.entry options.now input.now.body.now)
+        (Leaves F.puts files.old files.new) (W.contents writer.old) (W.contents writer.new) result }
     ensures files { AltersAtMost F.alters (bad_file options.now) files.old files.new }
     ensures kept { UnlessLate (files.new ≡ files.old) result }
 {
@@ -148,11 +146,9 @@ fn write_input<'w, F: Files, W: Write>(
     files: &mut F,
     writer: &mut W,
 ) -> Result<(), Fault<'w>>
-    ensures ends { Ends (IsArranged (versions_by options.now.place options.now.scheme_column) options.now
-        input.now.head.now input.now.body.now (ordered_by options.now.scheme_column (is_kept chooser.now)
-        arrangement.entry options.now input.now.body.now) (Leaves F.puts files.old files.new))
-        (ComesOfArranged options.now (versions_by options.now.place options.now.scheme_column) input.now.body.now)
-        (W.contents writer.old) (W.contents writer.new) result }
+    ensures ends { EndsArranged (versions_by options.now.place options.now.scheme_column) options.now input.now
+        (ordered_by options.now.scheme_column (is_kept chooser.now) arrangement.entry options.now input.now.body.now)
+        (Leaves F.puts files.old files.new) (W.contents writer.old) (W.contents writer.new) result }
     ensures files { AltersAtMost F.alters (bad_file options.now) files.old files.new }
     ensures kept { UnlessLate (files.new ≡ files.old) result }
 {
@@ -211,11 +207,9 @@ fn write_arranged<'w, F: Files, W: Write>(
     files: &mut F,
     writer: &mut W,
 ) -> Result<(), Fault<'w>>
-    ensures ends { Ends (IsArranged (version_in (reads_of options.now.place)) options.now input.now.head.now
-        input.now.body.now (arranged_in (reads_of options.now.place) (is_kept chooser.now) arrangement.entry options.now
-        input.now.body.now) (Leaves F.puts files.old files.new))
-        (ComesOfArranged options.now (version_in (reads_of options.now.place)) input.now.body.now)
-        (W.contents writer.old) (W.contents writer.new) result }
+    ensures ends { EndsArranged (version_in (reads_of options.now.place)) options.now input.now
+        (arranged_in (reads_of options.now.place) (is_kept chooser.now) arrangement.entry options.now input.now.body.now)
+        (Leaves F.puts files.old files.new) (W.contents writer.old) (W.contents writer.new) result }
     ensures files { AltersAtMost F.alters (bad_file options.now) files.old files.new }
     ensures kept { UnlessLate (files.new ≡ files.old) result }
 {
@@ -268,11 +262,9 @@ fn write_keyed<'w, B: SortBy + Copy, C: Chooses, F: Files, W: Write>(
     writer: &mut W,
 ) -> Result<(), Fault<'w>>
     requires { is_reversed arrangement ≡ B.is_reversed by }
-    ensures ends { Ends (IsArranged (version_in (B.reads by)) options.now input.now.head.now
-        input.now.body.now (arranged_in (B.reads by) (C.keeps chooser.now) arrangement.entry options.now input.now.body.now)
-        (Leaves F.puts files.old files.new))
-        (ComesOfArranged options.now (version_in (B.reads by)) input.now.body.now)
-        (W.contents writer.old) (W.contents writer.new) result }
+    ensures ends { EndsArranged (version_in (B.reads by)) options.now input.now
+        (arranged_in (B.reads by) (C.keeps chooser.now) arrangement.entry options.now input.now.body.now)
+        (Leaves F.puts files.old files.new) (W.contents writer.old) (W.contents writer.new) result }
     ensures files { AltersAtMost F.alters (bad_file options.now) files.old files.new }
     ensures kept { UnlessLate (files.new ≡ files.old) result }
 {
@@ -299,12 +291,10 @@ fn write_by_schemes<'w, F: Files, W: Write>(
     files: &mut F,
     writer: &mut W,
 ) -> Result<(), Fault<'w>>
-    ensures ends { Ends (IsArranged (version_by options.now.place column.entry) options.now input.now.head.now
-        input.now.body.now (arranged_by_schemes options.now.place column.entry arrangement.entry
+    ensures ends { EndsArranged (version_by options.now.place column.entry) options.now input.now
+        (arranged_by_schemes options.now.place column.entry arrangement.entry
         (kept_in (version_by options.now.place column.entry) (is_kept chooser.now) options.now input.now.body.now))
-        (Leaves F.puts files.old files.new))
-        (ComesOfArranged options.now (version_by options.now.place column.entry) input.now.body.now)
-        (W.contents writer.old) (W.contents writer.new) result }
+        (Leaves F.puts files.old files.new) (W.contents writer.old) (W.contents writer.new) result }
     ensures files { AltersAtMost F.alters (bad_file options.now) files.old files.new }
     ensures kept { UnlessLate (files.new ≡ files.old) result }
 {
@@ -346,11 +336,9 @@ fn write_newest<'w, B: SortBy, C: Chooses, F: Files, W: Write>(
     files: &mut F,
     writer: &mut W,
 ) -> Result<(), Fault<'w>>
-    ensures ends { Ends (IsArranged (version_in (B.reads by)) options.now input.now.head.now
-        input.now.body.now (newest_alone (B.reads by) (kept_in (version_in (B.reads by)) (C.keeps chooser.now) options.now input.now.body.now))
-        (Leaves F.puts files.old files.new))
-        (ComesOfArranged options.now (version_in (B.reads by)) input.now.body.now)
-        (W.contents writer.old) (W.contents writer.new) result }
+    ensures ends { EndsArranged (version_in (B.reads by)) options.now input.now
+        (newest_alone (B.reads by) (kept_in (version_in (B.reads by)) (C.keeps chooser.now) options.now input.now.body.now))
+        (Leaves F.puts files.old files.new) (W.contents writer.old) (W.contents writer.new) result }
     ensures files { AltersAtMost F.alters (bad_file options.now) files.old files.new }
     ensures kept { UnlessLate (files.new ≡ files.old) result }
 {
@@ -416,11 +404,9 @@ fn write_kept<'w, F: Files, W: Write>(
     files: &mut F,
     writer: &mut W,
 ) -> Result<(), Fault<'w>>
-    ensures ends { Ends (IsArranged (version_in (reads_of options.now.place)) options.now input.now.head.now
-        input.now.body.now (kept_in (version_in (reads_of options.now.place)) (is_kept chooser.now) options.now input.now.body.now)
-        (Leaves F.puts files.old files.new))
-        (ComesOfArranged options.now (version_in (reads_of options.now.place)) input.now.body.now)
-        (W.contents writer.old) (W.contents writer.new) result }
+    ensures ends { EndsArranged (version_in (reads_of options.now.place)) options.now input.now
+        (kept_in (version_in (reads_of options.now.place)) (is_kept chooser.now) options.now input.now.body.now)
+        (Leaves F.puts files.old files.new) (W.contents writer.old) (W.contents writer.new) result }
     ensures files { AltersAtMost F.alters (bad_file options.now) files.old files.new }
     ensures kept { UnlessLate (files.new ≡ files.old) result }
 {

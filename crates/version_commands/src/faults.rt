@@ -32,6 +32,9 @@ pub enum Fault<'w> {
     NoNext(String),
     /// The first name of a column that the header has not.
     NoColumn(&'w str),
+    /// The first input in which quotes of CSV never close, by its name, and the number of the line that they open in; `-`
+    /// is standard input.
+    Unclosed(&'w str, usize),
     /// An allocation failed.
     Memory,
     /// The file that could not be read to its end; `-` is standard input.
@@ -44,7 +47,7 @@ impl Fault<'_> {
     ghost use Rattle.std.specs.Prelude.{◌≡◌};
     ghost use Rattle.version_commands.specs.Fault.{status_of};
 
-    /// Returns the exit status: 1 for an input that is not a version, a requirement or a set, or has no such column; 2 for such words of a task
+    /// Returns the exit status: 1 for an input that is not a version, a requirement or a set, has no such column, or doesn't close its quotes; 2 for such words of a task
     /// that answers by its status; 3 for a failure of the system.
     pub fn status(&self) -> u8
         ensures { result ≡ status_of self.now }
@@ -55,7 +58,8 @@ impl Fault<'_> {
             | Fault::NotSet(_)
             | Fault::BadLine(_)
             | Fault::NoNext(_)
-            | Fault::NoColumn(_) => 1,
+            | Fault::NoColumn(_)
+            | Fault::Unclosed(..) => 1,
             Fault::NotTested(..) | Fault::NotTestedSet(_) => 2,
             Fault::Memory | Fault::Read(_) | Fault::Write(_) => 3,
         }
@@ -83,6 +87,12 @@ impl fmt::Display for Fault<'_> {
             Fault::BadLine(bad) => write!(f, "{bad}"),
             Fault::NoNext(text) => write!(f, "no version comes next at that place: {text}"),
             Fault::NoColumn(name) => write_word(f, "no column is named ", name),
+            Fault::Unclosed(name, number) => {
+                let shown = Shown {
+                    text: name.as_bytes(),
+                };
+                write!(f, "line {number} of {shown}: its quotes never close")
+            }
             Fault::Memory => write!(f, "no memory"),
             Fault::Read(name) => write_word(f, "cannot be read: ", name),
             Fault::Write(Some(name)) => write_word(f, "cannot be written: ", name),

@@ -1,15 +1,15 @@
 //! Reading the inputs in turn.
-ghost use Rattle.std.specs.Prelude.{◌≡◌, ◌++◌, ◌∷◌, [], ℕ, List, false, length, map, IfErr, IfOk, OnOk};
+ghost use Rattle.std.specs.Prelude.{◌≡◌, ◌++◌, ◌∷◌, [], ℕ, List, true, false, length, map, IfErr, IfOk, OnOk};
 ghost use Rattle.std.specs.Io.KnownBytes.{Consumes, IsAtEnd};
-ghost use Rattle.version_commands.specs.Fault.{not_read, ComesOfReading, ComesOfStandard};
-ghost use Rattle.version_commands.specs.Inputs.{ended, ends_line, is_standard, line_in, names_read, reads_standard, AreInputs, AreJoined, IsInput, IsLineIn};
-ghost use Rattle.version_lines.specs.Lines.{lines_of};
+ghost use Rattle.version_commands.specs.Fault.{not_read, ComesOfReading, ComesOfReadingOne, ComesOfStandard, ComesOfText};
+ghost use Rattle.version_commands.specs.Inputs.{ended, ends_line, is_open, is_standard, line_in, names_read, reads_standard, AreInputs, AreJoined, IsInput, IsLineIn};
+ghost use Rattle.version_lines.specs.Lines.{ends_quoted, lines_of};
 
 use crate::faults::Fault;
 use crate::files::Files;
 use std::alloc::{AllocError, Global};
 use std::io::Read;
-use version_lines::{LineEnd, Trouble, read_all, read_onto, split_line};
+use version_lines::{LineEnd, Trouble, ends_quoted, read_all, read_onto, split_line};
 
 /// The inputs of a run, one behind another.
 #[derive(Drop)]
@@ -20,7 +20,8 @@ pub struct Inputs {
 }
 
 /// Reads the files in turn, each to its end; `-` is the reader, and so is no name at all. An input that does not end
-/// where a line ends gets the byte that ends one.
+/// where a line ends gets the byte that ends one; one that ends within quotes is a fault, since its last line would go on
+/// in the next.
 pub fn read_inputs<'w, F: Files, R: Read>(
     alloc: Global,
     names: &[&'w str],
@@ -33,7 +34,7 @@ pub fn read_inputs<'w, F: Files, R: Read>(
         (names_read (map (λ name. name.now) names.now)) texts × AreJoined end texts inputs) }
     ensures unread { reads_standard (names_read (map (λ name. name.now) names.now)) ≡ false
         → reader.new ≡ reader.old }
-    ensures faults { IfErr result (ComesOfReading (F.reads files.now)
+    ensures faults { IfErr result (ComesOfReading end (F.reads files.now) (R.remaining reader.old)
         (names_read (map (λ name. name.now) names.now))) }
 {
     match names {
@@ -56,35 +57,36 @@ fn read_after<'w, F: Files, R: Read>(
         (map (λ name. name.now) names.now ++ last.now ∷ []) texts × AreJoined end texts inputs) }
     ensures unread { reads_standard (map (λ name. name.now) names.now ++ last.now ∷ []) ≡ false
         → reader.new ≡ reader.old }
-    ensures faults { IfErr result
-        (ComesOfReading (F.reads files.now) (map (λ name. name.now) names.now ++ last.now ∷ [])) }
+    ensures faults { IfErr result (ComesOfReading end (F.reads files.now) (R.remaining reader.old)
+        (map (λ name. name.now) names.now ++ last.now ∷ [])) }
 {
     let (mut text, mut counts) = (Vec::new(alloc), Vec::new(alloc));
     for name in names {
         let start = text.len();
-        add_input(alloc, name, files, reader, &mut text, end.byte)?;
+        add_input(alloc, name, end, files, reader, &mut text)?;
         add_count(&mut counts, count_lines(end, &text.as_slice()[start..]))?;
     }
-    add_input(alloc, last, files, reader, &mut text, end.byte)?;
+    add_input(alloc, last, end, files, reader, &mut text)?;
     Ok(Inputs { text, counts })
 }
 
-/// Reads one input to its end, with the byte that ends a line behind it if it does not end where one ends.
+/// Reads one input to its end, with the byte that ends a line behind it if it does not end where one ends; one that ends
+/// within quotes is a fault.
 pub fn read_input<'w, F: Files, R: Read>(
     alloc: Global,
     name: &'w str,
-    end: u8,
+    end: LineEnd,
     files: &F,
     reader: &mut R,
 ) -> Result<Vec<u8>, Fault<'w>>
     ensures input { IfOk result (λ input. (text : List ℕ)
         × IsInput (F.reads files.now) (R.remaining reader.old) (R.remaining reader.new) name.now text
-        × (input.items ≡ ended end text)) }
+        × (input.items ≡ ended end.byte text) × (is_open end text ≡ false)) }
     ensures unread { is_standard name.now ≡ false → reader.new ≡ reader.old }
-    ensures faults { IfErr result (ComesOfReading (F.reads files.now) (name.now ∷ [])) }
+    ensures faults { IfErr result (ComesOfReadingOne end (F.reads files.now) (R.remaining reader.old) name.now) }
 {
     let mut input = Vec::new(alloc);
-    add_input(alloc, name, files, reader, &mut input, end)?;
+    add_input(alloc, name, end, files, reader, &mut input)?;
     Ok(input)
 }
 
@@ -127,21 +129,33 @@ pub fn line_in<'w>(names: &[&'w str], counts: &[usize], number: usize) -> (Optio
 fn add_input<'w, F: Files, R: Read>(
     alloc: Global,
     name: &'w str,
+    end: LineEnd,
     files: &F,
     reader: &mut R,
     input: &mut Vec<u8>,
-    end: u8,
 ) -> Result<(), Fault<'w>>
     ensures text { OnOk result ((text : List ℕ)
         × IsInput (F.reads files.now) (R.remaining reader.old) (R.remaining reader.new) name.now text
-        × (input.new.items ≡ input.old.items ++ ended end text)) }
+        × (input.new.items ≡ input.old.items ++ ended end.byte text) × (is_open end text ≡ false)) }
     ensures unread { is_standard name.now ≡ false → reader.new ≡ reader.old }
-    ensures faults { IfErr result (ComesOfReading (F.reads files.now) (name.now ∷ [])) }
+    ensures faults { IfErr result (ComesOfReadingOne end (F.reads files.now) (R.remaining reader.old) name.now) }
 {
     let start = input.len();
     add_text(alloc, name, files, reader, input)?;
-    if !ends_line(end, &input.as_slice()[start..]) {
-        add_end(input, end)?;
+    if !ends_line(end.byte, &input.as_slice()[start..]) {
+        add_end(input, end.byte)?;
+    }
+    refuse_open(name, end, &input.as_slice()[start..])
+}
+
+// Fails with an input that ends within quotes, and with the line that they open in.
+fn refuse_open<'w>(name: &'w str, end: LineEnd, input: &[u8]) -> Result<(), Fault<'w>>
+    ensures closed { OnOk result (ends_quoted end input.now ≡ false) }
+    ensures open { IfErr result (λ fault. (ends_quoted end input.now ≡ true)
+        × (fault ≡ Fault.Unclosed name.entry (length (lines_of end input.now)))) }
+{
+    if ends_quoted(end, input) {
+        return Err(Fault::Unclosed(name, count_lines(end, input)));
     }
     Ok(())
 }
@@ -166,7 +180,7 @@ fn add_text<'w, F: Files, R: Read>(
         × IsInput (F.reads files.now) (R.remaining reader.old) (R.remaining reader.new) name.now text
         × (input.new.items ≡ input.old.items ++ text)) }
     ensures unread { is_standard name.now ≡ false → reader.new ≡ reader.old }
-    ensures faults { IfErr result (ComesOfReading (F.reads files.now) (name.now ∷ [])) }
+    ensures faults { IfErr result (ComesOfText (F.reads files.now) name.now) }
 {
     if name == "-" {
         return match read_onto(alloc, reader, input) {

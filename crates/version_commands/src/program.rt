@@ -195,8 +195,8 @@ fn changes<'w, F: Files, R: Read>(
     ensures unread { reads_standard (names_of lists.now) ≡ false → reader.new ≡ reader.old }
     ensures faults { IfErr result (ComesOfChanges lists.now (F.reads files.now) (R.remaining reader.old)) }
 {
-    let old = read_input(alloc, lists.old, lists.end.byte, files, reader)?;
-    let new = read_input(alloc, lists.new, lists.end.byte, files, reader)?;
+    let old = read_input(alloc, lists.old, lists.end, files, reader)?;
+    let new = read_input(alloc, lists.new, lists.end, files, reader)?;
     let (old_names, old_bad) = read_names(alloc, lists, old.as_slice())?;
     let (new_names, new_bad) = read_names(alloc, lists, new.as_slice())?;
     refuse_of_list(alloc, lists, lists.old, &old_bad)?;

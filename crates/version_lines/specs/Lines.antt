@@ -1,8 +1,8 @@
 -- The lines of an input, and an output that is made line by line.
-use Rattle.std.specs.Prelude.{ℕ, zero, suc, ◌-◌, List, [], ◌∷◌, ◌++◌, None, length, take, if◌then◌else◌}
+use Rattle.std.specs.Prelude.{ℕ, Bool, false, zero, suc, ◌-◌, List, [], ◌∷◌, ◌++◌, None, length, take, if◌then◌else◌}
 use Rattle.std.specs.List.{flat_map}
 use Rattle.std.specs.Option.{option_map_or}
-use Rattle.version_lines.specs.Csv.{next, stops}
+use Rattle.version_lines.specs.Csv.{is_quoted, next, stops}
 use Rattle.version_lines.specs.declared.csv.FieldState.{FieldState}
 use Rattle.version_lines.specs.declared.csv.FieldState.TheVariants.{Start}
 use Rattle.version_lines.specs.declared.lines.Answer.{Answer}
@@ -36,6 +36,20 @@ lines_from end state (byte ∷ bytes) =
 
 abbrev pub lines_of : LineEnd → List ℕ → List (List ℕ)
 lines_of end bytes = lines_from end Start bytes
+
+-- where the byte after this one stands, which begins a line if this one ends one
+abbrev pub state_behind : LineEnd → FieldState → ℕ → FieldState
+state_behind end state byte = if stops end.byte state byte then Start else state_after end state byte
+
+-- whether the last of some bytes stands in quotes of CSV, so that their last line goes on in what follows them; if there
+-- is none, this is said of the byte before
+abbrev pub ends_quoted_from : LineEnd → Bool → FieldState → List ℕ → Bool
+ends_quoted_from end before state [] = before
+ends_quoted_from end before state (byte ∷ bytes) =
+    ends_quoted_from end (is_quoted state) (state_behind end state byte) bytes
+
+abbrev pub ends_quoted : LineEnd → List ℕ → Bool
+ends_quoted end bytes = ends_quoted_from end false Start bytes
 
 -- what follows the first line of some bytes
 abbrev pub after_line_from : LineEnd → FieldState → List ℕ → List ℕ

@@ -18,8 +18,8 @@ pub enum FieldState {
 }
 
 impl FieldState {
-    // Returns where the byte after this one stands.
-    fn next(self, separator: u8, byte: u8) -> FieldState
+    /// Returns where the byte after this one stands.
+    pub fn next(self, separator: u8, byte: u8) -> FieldState
         ensures { result ≡ next separator self byte }
     {
         match self {
@@ -32,8 +32,8 @@ impl FieldState {
         }
     }
 
-    // Whether it is between quotes.
-    fn is_quoted(self) -> bool
+    /// Whether it is between quotes.
+    pub fn is_quoted(self) -> bool
         ensures { result ≡ is_quoted self }
     {
         matches!(self, FieldState::Quoted)

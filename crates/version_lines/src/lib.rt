@@ -13,7 +13,7 @@ mod sort;
 
 pub use column::{Column, Separators};
 pub use input::{Trouble, read_all, read_onto};
-pub use lines::{Answer, LineCommand, LineEnd, after_lines, answer_lines, split_line};
+pub use lines::{Answer, LineCommand, LineEnd, after_lines, answer_lines, ends_quoted, split_line};
 pub use output::{NotWritten, make_buffer, put, put_line, write_whole};
 pub use sort::by::{SortBy, WholeLines};
 pub use sort::keyed_lines::KeyedLines;

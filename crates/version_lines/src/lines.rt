@@ -1,10 +1,10 @@
 //! The lines of an input, and outputs in which what is written for a line depends on that line alone.
 ghost use Rattle.std.specs.Prelude.{◌≡◌, ℕ, ◌<◌, ◌≤◌, ◌+◌, List, [], ◌∷◌, ◌++◌, drop, length, take, OnOk, OnErr};
 ghost use Rattle.std.specs.Io.KnownBytes.{Appends};
-ghost use Rattle.version_lines.specs.Lines.{after_line, after_lines, answer_text, lines_of, output_by, plain_end};
+ghost use Rattle.version_lines.specs.Lines.{after_line, after_lines, answer_text, ends_quoted, lines_of, output_by, plain_end};
 ghost use Rattle.version_lines.specs.Output.{AppendsProperBeginning, AppendsUpTo};
 
-use crate::csv::length_before;
+use crate::csv::{FieldState, length_before};
 use crate::output::{NotWritten, put_line, write_whole};
 use memchr::memchr;
 use std::io::Write;
@@ -109,6 +109,25 @@ pub fn after_lines(end: LineEnd, count: usize, text: &[u8]) -> &[u8]
         rest = split_line(end, rest).1;
     }
     rest
+}
+
+/// Whether the last byte of a text stands in quotes of CSV, so that its last line goes on in what follows the text.
+pub fn ends_quoted(end: LineEnd, text: &[u8]) -> bool
+    ensures { result ≡ ends_quoted end text.now }
+{
+    let Some(separator) = end.csv else {
+        return false;
+    };
+    let (mut state, mut quoted) = (FieldState::Start, false);
+    for byte in text {
+        quoted = state.is_quoted();
+        state = if *byte == end.byte && !quoted {
+            FieldState::Start
+        } else {
+            state.next(separator, *byte)
+        };
+    }
+    quoted
 }
 
 // Adds the answer for a line to the buffer.

@@ -1,9 +1,9 @@
 -- Two lists that were read in turn, and what changed between them.
-use Rattle.std.proofs.Common.{◌+◌, ◌≡◌, ℕ, zero, suc, arith, List, [], ◌∷◌, Option, None, Some, map, refl, sym, subst, ap, ◌∙◌, Bor}
-use Rattle.std.specs.List.{Contains}
+use Rattle.std.proofs.Common.{◌+◌, ◌≡◌, ℕ, false, arith, List, [], ◌∷◌, Option, None, Some, map, refl, sym, ap, ◌∙◌, Bor}
+use Rattle.std.specs.List.{list_any}
 use Rattle.version_commands.specs.Cause.{ComesOfChanges, ComesOfEither, ComesOfOne}
 use Rattle.version_commands.specs.Fault.{ComesOfBad, ComesOfReading}
-use Rattle.version_commands.specs.Inputs.{ended, IsInput, Reading}
+use Rattle.version_commands.specs.Inputs.{ended, is_open, IsInput, Reading}
 use Rattle.version_commands.specs.Lists.{bad_lines_of, difference_text, names_of, rows_of}
 use Rattle.version_commands.specs.Output.{AreChanges}
 use Rattle.version_commands.specs.Picked.{bad_lines, AreBadOf}
@@ -22,14 +22,16 @@ pub are-changes : (lists : Lists) (reads : Reading) (old between new : Option (L
     (first second before after output : List ℕ)
     → IsInput reads old between lists.old.now first → before ≡ ended lists.end.byte first
     → IsInput reads between new lists.new.now second → after ≡ ended lists.end.byte second
+    → list_any (is_open lists.end) (first ∷ second ∷ []) ≡ false
     → (lists.invalid ≡ Fail → (bad_lines_of lists first ≡ []) × (bad_lines_of lists second ≡ []))
     → output ≡ difference_text lists.end.byte (rows_of lists before) (rows_of lists after)
     → AreChanges lists reads old new output
 are-changes lists reads old between new first second before after output read is_old read_more is_new
-    good is = record {
+    closed good is = record {
       first = first;
       second = second;
       texts_are = (between, read, (new, read_more, refl));
+      closed = closed;
       good_are = good;
       output_is = is
           ∙ (λ i. difference_text lists.end.byte (rows_of lists (is_old i)) (rows_of lists (is_new i)));
@@ -72,18 +74,9 @@ changes-bad lists reads old between new file first second bad one other of_eithe
       of_either (BadLine line) is.0 is,
     ))
 
--- a name among those of one list is among those of both
-pub of-first : (first second name : List ℕ) → Contains (first ∷ []) name
-    → Contains (first ∷ second ∷ []) name
-of-first first second name (zero, within, same) = (zero, omega arith, same)
-of-first first second name (suc k, within, same) = absurd (omega (arith, within))
-
-pub of-second : (first second name : List ℕ) → Contains (second ∷ []) name
-    → Contains (first ∷ second ∷ []) name
-of-second first second name (k, within, same) = (suc k, omega (arith, within), same)
-
 -- the faults of reading the two lists are among those of the whole
 pub changes-reading : (lists : Lists) (reads : Reading) (old : Option (List ℕ)) (fault : Fault)
-    → ComesOfReading reads (names_of lists) fault → ComesOfChanges lists reads old fault
+    → ComesOfReading lists.end reads old (names_of lists) fault → ComesOfChanges lists reads old fault
 changes-reading lists reads old =
-    reading-cases (ComesOfChanges lists reads old) reads (names_of lists) tt (λ name is. is)
+    reading-cases (ComesOfChanges lists reads old) lists.end reads old (names_of lists) tt (λ name is. is)
+    (λ name number is. is)

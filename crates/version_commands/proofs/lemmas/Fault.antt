@@ -1,17 +1,19 @@
 -- What is written at a fault, and what it comes of.
-use Rattle.std.proofs.Common.{◌≡◌, ◌+◌, ℕ, Bool, Bor, List, Option, ap, subst, arith}
+use Rattle.std.proofs.Common.{◌≡◌, ◌+◌, ◌++◌, ◌∷◌, ℕ, Bool, Bor, List, Option, ap, false, subst}
 use Rattle.version_commands.specs.declared.bad.Blamed.{Blamed}
 use Rattle.version_commands.specs.declared.options.VersionPlace.{VersionPlace}
 use Rattle.version_lines.specs.declared.column.Column.{Column}
 use Rattle.version_commands.specs.Cause.{IsInItsFile}
-use Rattle.version_commands.specs.Fault.{ComesOfBad, ComesOfBadAfter, ComesOfLines, ComesOfReading}
+use Rattle.version_commands.specs.Fault.{ComesOfBad, ComesOfBadAfter, ComesOfLines, ComesOfReading, ComesOfReadingOne}
 use Rattle.version_commands.specs.Picked.{bad_lines, AreBadOf, Versions}
-use Rattle.std.specs.List.{Contains}
-use Rattle.version_commands.specs.Inputs.{Reading}
+use Rattle.std.specs.List.{list_any}
+use Rattle.version_commands.specs.Inputs.{is_open, AreInputs, Reading}
+use Rattle.version_commands.proofs.lemmas.Inputs.{is-among}
+use Rattle.version_lines.specs.declared.lines.LineEnd.{LineEnd}
 use Rattle.version_commands.specs.declared.options.Invalid.{Invalid}
 use Rattle.version_commands.specs.declared.pick.BadLines.{BadLines}
 use Rattle.version_commands.specs.declared.faults.Fault.{Fault}
-use Rattle.version_commands.specs.declared.faults.Fault.TheVariants.{NotVersion, NotRequirement, NotSet, NotTested, NotTestedSet, BadLine, NoNext, NoColumn, Memory, Read, Write}
+use Rattle.version_commands.specs.declared.faults.Fault.TheVariants.{NotVersion, NotRequirement, NotSet, NotTested, NotTestedSet, BadLine, NoNext, NoColumn, Unclosed, Memory, Read, Write}
 
 -- the faults of lines without a version, by the lines themselves
 pub lines-bad : (invalid : Invalid) (place : VersionPlace) (schemes : Option Column) (file : Option (Bor (List ℕ)))
@@ -37,33 +39,62 @@ bad-cases Follows policy place schemes file before bad memory line (NotTestedSet
 bad-cases Follows policy place schemes file before bad memory line (BadLine blamed) is = line blamed is
 bad-cases Follows policy place schemes file before bad memory line (NoNext text) is = absurd is
 bad-cases Follows policy place schemes file before bad memory line (NoColumn name) is = absurd is
+bad-cases Follows policy place schemes file before bad memory line (Unclosed name number) is = absurd is
 bad-cases Follows policy place schemes file before bad memory line Memory is = memory
 bad-cases Follows policy place schemes file before bad memory line (Read name) is = absurd is
 bad-cases Follows policy place schemes file before bad memory line (Write name) is = absurd is
 
--- What follows from refused memory, and from an input that can't be read, follows from each fault of
--- reading.
-pub reading-cases : (Follows : Fault → Type 0) (reads : Reading) (names : List (List ℕ))
-    → Follows Memory
-    → ((name : Bor (List ℕ)) → ComesOfReading reads names (Read name) → Follows (Read name))
-    → (fault : Fault) → ComesOfReading reads names fault → Follows fault
-reading-cases Follows reads names memory read (NotVersion text remark) is = absurd is
-reading-cases Follows reads names memory read (NotRequirement text) is = absurd is
-reading-cases Follows reads names memory read (NotSet wrong) is = absurd is
-reading-cases Follows reads names memory read (NotTested text remark) is = absurd is
-reading-cases Follows reads names memory read (NotTestedSet wrong) is = absurd is
-reading-cases Follows reads names memory read (BadLine line) is = absurd is
-reading-cases Follows reads names memory read (NoNext text) is = absurd is
-reading-cases Follows reads names memory read (NoColumn name) is = absurd is
-reading-cases Follows reads names memory read Memory is = memory
-reading-cases Follows reads names memory read (Read name) is = read name is
-reading-cases Follows reads names memory read (Write name) is = absurd is
+-- What follows from refused memory, from an input that can't be read, and from one that ends within quotes, follows from
+-- each fault of reading.
+pub reading-cases : (Follows : Fault → Type 0) (end : LineEnd) (reads : Reading) (old : Option (List ℕ))
+    (names : List (List ℕ)) → Follows Memory
+    → ((name : Bor (List ℕ)) → ComesOfReading end reads old names (Read name) → Follows (Read name))
+    → ((name : Bor (List ℕ)) (number : ℕ) → ComesOfReading end reads old names (Unclosed name number)
+    → Follows (Unclosed name number))
+    → (fault : Fault) → ComesOfReading end reads old names fault → Follows fault
+reading-cases Follows end reads old names memory read unclosed (NotVersion text remark) is = absurd is
+reading-cases Follows end reads old names memory read unclosed (NotRequirement text) is = absurd is
+reading-cases Follows end reads old names memory read unclosed (NotSet wrong) is = absurd is
+reading-cases Follows end reads old names memory read unclosed (NotTested text remark) is = absurd is
+reading-cases Follows end reads old names memory read unclosed (NotTestedSet wrong) is = absurd is
+reading-cases Follows end reads old names memory read unclosed (BadLine line) is = absurd is
+reading-cases Follows end reads old names memory read unclosed (NoNext text) is = absurd is
+reading-cases Follows end reads old names memory read unclosed (NoColumn name) is = absurd is
+reading-cases Follows end reads old names memory read unclosed (Unclosed name number) is = unclosed name number is
+reading-cases Follows end reads old names memory read unclosed Memory is = memory
+reading-cases Follows end reads old names memory read unclosed (Read name) is = read name is
+reading-cases Follows end reads old names memory read unclosed (Write name) is = absurd is
 
--- the faults of reading inputs of these names are those of reading inputs of others too
-pub reading-weaker : (reads : Reading) (names others : List (List ℕ))
-    → ((name : List ℕ) → Contains names name → Contains others name) → (fault : Fault)
-    → ComesOfReading reads names fault → ComesOfReading reads others fault
-reading-weaker reads names others among = grind (arith, reading-cases)
+-- the faults of reading one input, behind others that end as they should, are those of all that are read in turn
+module _ (end : LineEnd) (reads : Reading) (old between : Option (List ℕ)) (names before after texts : List (List ℕ))
+    (name : List ℕ) (are : names ≡ before ++ name ∷ after) (read : AreInputs reads old between before texts)
+    (closed : list_any (is_open end) texts ≡ false) where
+  pub reading-at : (fault : Fault) → ComesOfReadingOne end reads between name fault
+      → ComesOfReading end reads old names fault
+  reading-at (NotVersion text remark) is = absurd is
+  reading-at (NotRequirement text) is = absurd is
+  reading-at (NotSet wrong) is = absurd is
+  reading-at (NotTested text remark) is = absurd is
+  reading-at (NotTestedSet wrong) is = absurd is
+  reading-at (BadLine line) is = absurd is
+  reading-at (NoNext text) is = absurd is
+  reading-at (NoColumn name) is = absurd is
+  reading-at (Unclosed shown number) (same, opens) = record {
+    before = before;
+    after = after;
+    texts = texts;
+    between = between;
+    names_are = rw same are;
+    texts_are = read;
+    closed = closed;
+    opens = rw same opens;
+  }
+  reading-at Memory is = tt
+  reading-at (Read shown) (same, failed) = record {
+    among = rw (same, are) (is-among before after name);
+    failed = rw same failed;
+  }
+  reading-at (Write shown) is = absurd is
 
 -- a fault told by its file is as the one of all files, where lines to blame are alike
 pub told-alike : (test : Fault → Bool) → ((a b : Blamed) → test (BadLine a) ≡ test (BadLine b))
@@ -77,6 +108,7 @@ told-alike test alike names counts (BadLine bad) (NotTestedSet wrong) same = ap 
 told-alike test alike names counts (BadLine bad) (BadLine told) same = alike told bad
 told-alike test alike names counts (BadLine bad) (NoNext text) same = ap test same
 told-alike test alike names counts (BadLine bad) (NoColumn name) same = ap test same
+told-alike test alike names counts (BadLine bad) (Unclosed name number) same = ap test same
 told-alike test alike names counts (BadLine bad) Memory same = ap test same
 told-alike test alike names counts (BadLine bad) (Read name) same = ap test same
 told-alike test alike names counts (BadLine bad) (Write name) same = ap test same
@@ -87,6 +119,7 @@ told-alike test alike names counts (NotTested text remark) told same = ap test s
 told-alike test alike names counts (NotTestedSet wrong) told same = ap test same
 told-alike test alike names counts (NoNext text) told same = ap test same
 told-alike test alike names counts (NoColumn name) told same = ap test same
+told-alike test alike names counts (Unclosed name number) told same = ap test same
 told-alike test alike names counts Memory told same = ap test same
 told-alike test alike names counts (Read name) told same = ap test same
 told-alike test alike names counts (Write name) told same = ap test same

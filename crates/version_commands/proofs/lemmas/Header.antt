@@ -10,7 +10,7 @@ use Rattle.version_commands.specs.Picked.{Versions}
 use Rattle.std.proofs.lemmas.List.{length-take}
 use Rattle.version_commands.specs.Ordered.{arrangement_in, body_of, head_of, name_missing, names_line, options_in, ordered_by, versions_by, IsArranged, IsArrangedIn}
 use Rattle.version_commands.specs.declared.faults.Fault.{Fault}
-use Rattle.version_commands.specs.declared.faults.Fault.TheVariants.{NotVersion, NotRequirement, NotSet, NotTested, NotTestedSet, BadLine, NoNext, NoColumn, Memory, Read, Write}
+use Rattle.version_commands.specs.declared.faults.Fault.TheVariants.{NotVersion, NotRequirement, NotSet, NotTested, NotTestedSet, BadLine, NoNext, NoColumn, Unclosed, Memory, Read, Write}
 use Rattle.version_commands.specs.declared.options.Arrangement.{Arrangement}
 use Rattle.version_commands.specs.declared.options.Arrangement.TheVariants.{Sort, Newest, Filter}
 use Rattle.version_commands.specs.declared.options.ColumnNames.{ColumnNames}
@@ -158,6 +158,7 @@ module _ (arrangement asked : Arrangement) (options made : LineOptions) (keeps :
   faults-in (BadLine bad) comes = (has, by-numbers (BadLine bad) comes)
   faults-in (NoNext text) comes = (has, by-numbers (NoNext text) comes)
   faults-in (NoColumn name) comes = absurd comes
+  faults-in (Unclosed name number) comes = (has, by-numbers (Unclosed name number) comes)
   faults-in Memory comes = tt
   faults-in (Read name) comes = (has, by-numbers (Read name) comes)
   faults-in (Write name) comes = (has, by-numbers (Write name) comes)

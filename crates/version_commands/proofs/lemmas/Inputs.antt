@@ -1,13 +1,17 @@
 -- Inputs that were read in turn.
-use Rattle.std.proofs.Common.{◌≡◌, ◌==◌, ◌<◌, ◌-◌, ◌≤◌, ◌||◌, drop, ℕ, zero, suc, Bool, false, true, List, [], ◌∷◌, ◌++◌, length, get_or, map, take, Option, Some, refl, sym, subst, ap, ◌∙◌, arith, append-nil}
-use Rattle.std.specs.List.{slice_get, Contains}
+use Rattle.std.proofs.Common.{◌≡◌, ◌==◌, ◌<◌, ◌-◌, ◌≤◌, ◌||◌, drop, ℕ, zero, suc, Bool, false, true, List, [], ◌∷◌, ◌++◌, length, get_or, map, take, Option, Some, refl, sym, subst, ap, ◌∙◌, arith, append-nil, inl, inr}
+use Rattle.std.specs.List.{flat_map, list_any, slice_get, Contains}
 use Rattle.std.specs.Option.{option_map_or}
-use Rattle.std.proofs.Math.ListN.{drop_of_length-le, get_or-append}
+use Rattle.std.proofs.Math.ListN.{drop_of_length-le}
 use Rattle.std.proofs.Math.Seq.{take-append_seam}
-use Rattle.std.proofs.lemmas.Bool.{le-leb, lt-leb}
+use Rattle.std.proofs.lemmas.Bool.{cases_Bool, eq-eqb, le-leb, lt-leb}
 use Rattle.std.proofs.lemmas.Grind.{flat_map-append}
-use Rattle.std.proofs.lemmas.List.{get_or-map, length-append, length-map}
-use Rattle.version_commands.specs.Inputs.{counts_before_last, ended, ends_line, is_standard, joined, line_count, line_in, reads_standard, AreInputs, IsInput, Reading}
+use Rattle.std.proofs.lemmas.List.{length-append}
+use Rattle.version_commands.specs.Inputs.{counts_before_last, ended, ends_line, is_open, is_standard, joined, line_count, line_in, lines_within, reads_standard, AreInputs, IsInput, Reading}
+use Rattle.version_lines.specs.Csv.{is_quoted, stops}
+use Rattle.version_lines.specs.Lines.{before_lines, ends_quoted, ends_quoted_from, lines_from, lines_of, state_after}
+use Rattle.version_lines.specs.declared.csv.FieldState.{FieldState}
+use Rattle.version_lines.specs.declared.csv.FieldState.TheVariants.{Start}
 use Rattle.version_lines.specs.declared.lines.LineEnd.{LineEnd}
 
 -- one more input was read after the others
@@ -34,6 +38,84 @@ pub counts-push : (end : LineEnd) (texts : List (List ℕ)) (text : List ℕ)
 counts-push end texts text =
     let long : length (texts ++ text ∷ []) - 1 ≡ length texts = omega (arith, length-append texts (text ∷ [])) in
     ap (map (line_count end)) (ap (λ (n : ℕ). take n (texts ++ text ∷ [])) long ∙ take-append_seam texts (text ∷ []))
+
+-- where neither is so, none of both is
+either-none : (one other : Bool) → one || other ≡ false → (one ≡ false) × (other ≡ false)
+either-none true other wrong = cc wrong
+either-none false other same = (refl, same)
+
+-- bytes that don't end where a line ends do so with the byte that ends it
+end-ends : (end : ℕ) (bytes : List ℕ) → ends_line end (bytes ++ end ∷ []) ≡ true
+end-ends end [] = eq-eqb end end refl
+end-ends end (byte ∷ []) = eq-eqb end end refl
+end-ends end (byte ∷ next ∷ bytes) = end-ends end (next ∷ bytes)
+
+ended-ends : (end : ℕ) (bytes : List ℕ) → ends_line end (ended end bytes) ≡ true
+ended-ends end bytes =
+    elim (cases_Bool (ends_line end bytes)) [
+      | inl ends ↦ rw (ends, ends) refl
+      | inr other ↦ rw other (end-ends end bytes)
+    ]
+
+-- none of some texts and one more goes on in what follows
+pub closed-push : (end : LineEnd) (texts : List (List ℕ)) (text : List ℕ) → list_any (is_open end) texts ≡ false
+    → is_open end text ≡ false → list_any (is_open end) (texts ++ text ∷ []) ≡ false
+closed-push end [] text closed here = rw here refl
+closed-push end (first ∷ texts) text closed here =
+    let (before, others) = either-none (is_open end first) _ closed in
+    rw (before, closed-push end texts text others here) refl
+
+-- ---- the lines of each input
+
+module _ (end : LineEnd) where
+  -- each byte is of some line, and one that ends none goes before the first of some lines
+  lines-some : (state : FieldState) (byte : ℕ) (bytes : List ℕ) → 1 ≤ length (lines_from end state (byte ∷ bytes))
+  lines-some state byte bytes =
+      elim (cases_Bool (stops end.byte state byte)) [
+        | inl here ↦ rw here (omega arith)
+        | inr other ↦ rw other (one-more (lines_from end (state_after end state byte) bytes))
+      ] where
+        one-more : (lines : List (List ℕ)) → 1 ≤ length (before_lines byte lines)
+        one-more [] = omega arith
+        one-more (line ∷ lines) = omega arith
+
+  before-more : (byte : ℕ) (lines more : List (List ℕ)) → 1 ≤ length lines
+      → before_lines byte (lines ++ more) ≡ before_lines byte lines ++ more
+  before-more byte [] more some = absurd (omega (arith, some))
+  before-more byte (line ∷ lines) more some = refl
+
+  -- where bytes end where a line ends, and not in quotes, what follows them begins a line
+  apart-from : (state : FieldState) (before : Bool) (byte : ℕ) (bytes rest : List ℕ)
+      → ends_line end.byte (byte ∷ bytes) ≡ true → ends_quoted_from end before state (byte ∷ bytes) ≡ false
+      → lines_from end state ((byte ∷ bytes) ++ rest) ≡ lines_from end state (byte ∷ bytes) ++ lines_of end rest
+  apart-from state before byte [] rest ends closed = rw (closed, ends) refl
+  apart-from state before byte (following ∷ bytes) rest ends closed =
+      elim (cases_Bool (stops end.byte state byte)) [
+        | inl here ↦
+            rw here (ap (λ (lines : List (List ℕ)). [] ∷ lines)
+            (apart-from Start (is_quoted state) following bytes rest ends (rw here at closed)))
+        | inr other ↦
+            let next = state_after end state byte in
+            rw other (ap (before_lines byte)
+            (apart-from next (is_quoted state) following bytes rest ends (rw other at closed))
+            ∙ before-more byte (lines_from end next (following ∷ bytes)) (lines_of end rest)
+            (lines-some next following bytes))
+      ]
+
+  apart : (bytes rest : List ℕ) → ends_line end.byte bytes ≡ true → ends_quoted end bytes ≡ false
+      → lines_of end (bytes ++ rest) ≡ lines_of end bytes ++ lines_of end rest
+  apart [] rest ends closed = refl
+  apart (byte ∷ bytes) rest ends closed = apart-from Start false byte bytes rest ends closed
+
+  pub texts-apart : (texts : List (List ℕ)) → list_any (is_open end) texts ≡ false
+      → lines_of end (joined end.byte texts) ≡ flat_map (lines_within end) texts
+  texts-apart [] closed = refl
+  texts-apart (text ∷ texts) closed =
+      let (here, others) = either-none (is_open end text) _ closed in
+      apart (ended end.byte text) (joined end.byte texts) (ended-ends end.byte text) here
+      ∙ ap (λ (lines : List (List ℕ)). lines_within end text ++ lines) (texts-apart texts others)
+
+-- ---- the input of a line
 
 -- a line stands in the input at a place, unless that has too few lines
 pub in-input : (names : List (List ℕ)) (counts : List ℕ) (left i : ℕ) → i < length names
@@ -70,34 +152,20 @@ ends_line-last end (byte ∷ next ∷ bytes) =
     ∙ ap (λ (i : ℕ). option_map_or (λ b. b == end) (slice_get (byte ∷ next ∷ bytes) i) true)
     (sym place)
 
--- the name at a place is one of the names
-pub name-among : {X : Type 0} (f : X → List ℕ) (names : List X) (i : ℕ) (d : X)
-    → i < length names → (name : List ℕ) → Contains (f (get_or names i d) ∷ []) name
-    → Contains (map f names) name
-name-among f names i d inside name (zero, within, same) =
-    let long : length (map f names) ≡ length names = length-map names f in
-    (i, omega (arith, inside), get_or-map f names i d name inside ∙ same)
-name-among f names i d inside name (suc k, within, same) = absurd (omega (arith, within))
-
--- a name among some is among them and one more, and so is that one
-pub among-both : (names : List (List ℕ)) (last name : List ℕ) → Contains names name → Contains (names ++ last ∷ []) name
-among-both names last name (i, within, same) = (
-  i,
-  omega (arith, within, length-append names (last ∷ [])),
-  get_or-append names (last ∷ []) name i within ∙ same,
-)
-
-pub last-among : (names : List (List ℕ)) (last name : List ℕ) → Contains (last ∷ []) name
-    → Contains (names ++ last ∷ []) name
-last-among [] last name among = among
-last-among (first ∷ names) last name among =
-    let (i, within, same) = last-among names last name among in
+-- a name among others is one of them
+pub is-among : (before after : List (List ℕ)) (name : List ℕ) → Contains (before ++ name ∷ after) name
+is-among [] after name = (zero, omega arith, refl)
+is-among (first ∷ before) after name =
+    let (i, within, same) = is-among before after name in
     (suc i, omega (arith, within), same)
 
--- where neither is so, none of both is
-either-none : (one other : Bool) → one || other ≡ false → (one ≡ false) × (other ≡ false)
-either-none true other wrong = cc wrong
-either-none false other same = (refl, same)
+-- the names of some inputs and of more, about the one at a place
+pub parts-around : {X : Type 0} (f : X → List ℕ) (names : List X) (i : ℕ) (d : X) (more : List (List ℕ)) → i < length names
+    → map f names ++ more ≡ map f (take i names) ++ f (get_or names i d) ∷ (map f (drop (suc i) names) ++ more)
+parts-around f [] i d more inside = absurd (omega (arith, inside))
+parts-around f (name ∷ names) zero d more inside = refl
+parts-around f (name ∷ names) (suc i) d more inside =
+    ap (λ (others : List (List ℕ)). f name ∷ others) (parts-around f names i d more (omega (arith, inside)))
 
 -- where standard input is none of the inputs, the one at a place isn't
 pub none-standard : {X : Type 0} (f : X → List ℕ) (names : List X) (i : ℕ) (d : X)

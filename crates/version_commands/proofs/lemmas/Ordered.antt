@@ -1,17 +1,19 @@
 -- The lines that are written, in their order.
-use Rattle.std.proofs.Common.{◌≡◌, ◌++◌, ◌∷◌, List, [], ℕ, Bool, true, Option, None, Some, flat_map, map, refl, subst, sym, ap, Bor, arith}
+use Rattle.std.proofs.Common.{◌≡◌, ◌++◌, ◌∷◌, List, [], ℕ, Bool, true, false, Option, None, Some, flat_map, map, refl, subst, sym, ap, Bor, arith}
 use Rattle.version_commands.specs.Arranged.{policy}
 use Rattle.version_commands.specs.Cause.{ComesOfArranged, ComesOfArranging, ComesOfInput, IsInItsFile}
 use Rattle.version_commands.specs.Choice.{is_kept, keeps_of}
 use Rattle.version_commands.specs.Fault.{ComesOfPut}
-use Rattle.version_commands.specs.Inputs.{counts_before_last, joined, names_read, AreInputs, Reading}
+use Rattle.version_commands.specs.Inputs.{counts_before_last, is_open, joined, names_read, AreInputs, Reading}
+use Rattle.version_commands.proofs.lemmas.Inputs.{texts-apart}
+use Rattle.std.specs.List.{list_any}
 use Rattle.version_commands.specs.Ordered.{arranged_in, kept_in, kept_line, IsArranged, IsArrangedIn, IsOrdered, IsPlaced}
 use Rattle.version_commands.specs.Picked.{Versions, bad_lines, has, kept_lines}
 use Rattle.version_commands.specs.Place.{reads_of}
 use Rattle.version_commands.specs.declared.bad.Blamed.{Blamed}
 use Rattle.version_commands.specs.declared.choice.Chooser.{Chooser}
 use Rattle.version_commands.specs.declared.faults.Fault.{Fault}
-use Rattle.version_commands.specs.declared.faults.Fault.TheVariants.{NotVersion, NotRequirement, NotSet, NotTested, NotTestedSet, BadLine, NoNext, NoColumn, Memory, Read, Write}
+use Rattle.version_commands.specs.declared.faults.Fault.TheVariants.{NotVersion, NotRequirement, NotSet, NotTested, NotTestedSet, BadLine, NoNext, NoColumn, Unclosed, Memory, Read, Write}
 use Rattle.version_commands.specs.declared.options.Arrangement.{Arrangement}
 use Rattle.version_commands.specs.declared.options.Invalid.TheVariants.{Fail, Skip}
 use Rattle.version_commands.specs.declared.options.LineOptions.{LineOptions}
@@ -59,6 +61,7 @@ put-faults options versions input (NotTestedSet wrong) is = absurd is
 put-faults options versions input (BadLine bad) is = absurd is
 put-faults options versions input (NoNext text) is = absurd is
 put-faults options versions input (NoColumn name) is = absurd is
+put-faults options versions input (Unclosed name number) is = absurd is
 put-faults options versions input Memory is = is
 put-faults options versions input (Read name) is = absurd is
 put-faults options versions input (Write name) is = is
@@ -77,6 +80,7 @@ module _ (arrangement : Arrangement) (options : LineOptions) (files : Reading)
     (texts : List (List ℕ)) (names : List (Bor (List ℕ))) (input : List ℕ)
     (same : names ≡ options.files.items)
     (are : AreInputs files old new (names_read (map (λ name. name.now) names)) texts)
+    (closed : list_any (is_open options.end) texts ≡ false)
     (is : keeps_of options.place.scheme options.choice arrangement ≡ Some keeps)
     (whole : input ≡ joined options.end.byte texts) where
   read : AreInputs files old new (names_read (map (λ name. name.now) options.files.items)) texts
@@ -89,6 +93,8 @@ module _ (arrangement : Arrangement) (options : LineOptions) (files : Reading)
     texts = texts;
     keeps = keeps;
     texts_are = read;
+    closed = closed;
+    apart = texts-apart options.end texts closed;
     keeps_are = is;
     is_arranged = subst (λ (i : List ℕ). IsArrangedIn arrangement options keeps i leaves output) whole arranged;
   }
@@ -115,6 +121,7 @@ module _ (arrangement : Arrangement) (options : LineOptions) (files : Reading)
   blamed bad (BadLine told) in_file comes = since-read (BadLine bad) (BadLine told) in_file comes
   blamed bad (NoNext text) same comes = cc same
   blamed bad (NoColumn name) same comes = cc same
+  blamed bad (Unclosed name number) same comes = cc same
   blamed bad Memory same comes = cc same
   blamed bad (Read name) same comes = cc same
   blamed bad (Write name) same comes = cc same
@@ -132,6 +139,7 @@ module _ (arrangement : Arrangement) (options : LineOptions) (files : Reading)
   in-its-file (NoColumn name) told same comes =
       subst (ComesOfArranging arrangement options files old) (sym same)
       (since-read (NoColumn name) (NoColumn name) refl comes)
+  in-its-file (Unclosed name number) told same comes = absurd comes.1
   in-its-file Memory told same comes = subst (ComesOfArranging arrangement options files old) (sym same) tt
   in-its-file (Read name) told same comes = absurd comes.1
   in-its-file (Write name) told same comes =

@@ -8,7 +8,7 @@ use Rattle.version_commands.specs.Fault.{ComesOfSet, ComesOfSets}
 use Rattle.version_commands.specs.Sets.{HasAny, keys_of, reading_of, set_of}
 use Rattle.version_commands.specs.Why.{members_text, why_text}
 use Rattle.version_commands.specs.declared.faults.Fault.{Fault}
-use Rattle.version_commands.specs.declared.faults.Fault.TheVariants.{NotVersion, NotRequirement, NotSet, NotTested, NotTestedSet, BadLine, NoNext, NoColumn, Memory, Read, Write}
+use Rattle.version_commands.specs.declared.faults.Fault.TheVariants.{NotVersion, NotRequirement, NotSet, NotTested, NotTestedSet, BadLine, NoNext, NoColumn, Unclosed, Memory, Read, Write}
 use Rattle.version_schemes.specs.Scheme.{rules}
 use Rattle.version_schemes.specs.any.Order.{PlainAny}
 use Rattle.version_schemes.specs.declared.scheme.Scheme.{Scheme}
@@ -80,6 +80,7 @@ of_word scheme word (NotTestedSet wrong) comes = absurd comes
 of_word scheme word (BadLine bad) comes = absurd comes
 of_word scheme word (NoNext text) comes = absurd comes
 of_word scheme word (NoColumn name) comes = absurd comes
+of_word scheme word (Unclosed name number) comes = absurd comes
 of_word scheme word (Read name) comes = absurd comes
 of_word scheme word (Write name) comes = absurd comes
 
@@ -96,6 +97,7 @@ of_first scheme None other (NotTestedSet wrong) comes = absurd comes
 of_first scheme None other (BadLine bad) comes = absurd comes
 of_first scheme None other (NoNext text) comes = absurd comes
 of_first scheme None other (NoColumn name) comes = absurd comes
+of_first scheme None other (Unclosed name number) comes = absurd comes
 of_first scheme None other (Read name) comes = absurd comes
 of_first scheme None other (Write name) comes = absurd comes
 

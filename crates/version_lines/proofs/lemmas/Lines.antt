@@ -1,12 +1,12 @@
 -- The first line of some bytes, and the lines after it.
-use Rattle.std.proofs.Common.{◌≡◌, ℕ, zero, suc, ◌<◌, ◌≤◌, true, List, [], ◌∷◌, ◌++◌, Option, None, Some, length, take, drop, get_or, append-nil, add-one, ◌+◌, ◌-◌, ap, ◌∙◌, arith, inl, inr, nat_eq, refl}
+use Rattle.std.proofs.Common.{◌≡◌, ℕ, zero, suc, ◌<◌, ◌≤◌, true, false, List, [], ◌∷◌, ◌++◌, Option, None, Some, length, take, drop, get_or, append-nil, add-one, ◌+◌, ◌-◌, ap, ◌∙◌, arith, inl, inr, nat_eq, refl, sym}
 use Rattle.std.proofs.lemmas.Bool.{cases_Bool, false_from_ne_true}
 use Rattle.std.proofs.lemmas.List.{take_all}
 use Rattle.std.proofs.Math.ListN.{drop_of_length-le}
 use Rattle.std.specs.Option.{unwrap_or}
 use Rattle.memchr.specs.Find.{is_byte, IsFirstByte}
 use Rattle.version_lines.specs.Csv.{length_before, next, stops}
-use Rattle.version_lines.specs.Lines.{after_line, after_line_from, after_lines, before_lines, lines_from, lines_of, lines_output, plain_end}
+use Rattle.version_lines.specs.Lines.{after_line, after_line_from, after_lines, before_lines, ends_quoted, lines_from, lines_of, lines_output, plain_end}
 use Rattle.version_lines.specs.declared.csv.FieldState.{FieldState}
 use Rattle.version_lines.specs.declared.csv.FieldState.TheVariants.{Start}
 use Rattle.version_lines.specs.declared.lines.LineEnd.{LineEnd}
@@ -74,6 +74,22 @@ plain-line end text None plain some nowhere =
     (rw (plain-is end plain) (lines_of-last end.byte text some nowhere)))
 plain-line end text (Some place) plain some (found, here) =
     rw (add-one place) (rw (plain-is end plain) (lines_of-before end.byte text place found.high here found.before))
+
+-- in such lines nothing stands in quotes
+never-quoted : (end : ℕ) (bytes : List ℕ) → ends_quoted (plain_end end) bytes ≡ false
+never-quoted end [] = refl
+never-quoted end (byte ∷ bytes) =
+    elim (cases_Bool (stops end Start byte)) [
+      | inl here ↦ rw here (never-quoted end bytes)
+      | inr other ↦ rw other (never-quoted end bytes)
+    ]
+
+pub plain-unquoted : (end : LineEnd) (bytes : List ℕ) → ((separator : ℕ) → end.csv ≡ Some separator → ⊥)
+    → false ≡ ends_quoted end bytes
+plain-unquoted end bytes other = by end.csv refl where
+  by : (csv : Option ℕ) → end.csv ≡ csv → false ≡ ends_quoted end bytes
+  by None plain = rw (plain-is end plain) (sym (never-quoted end.byte bytes))
+  by (Some separator) is = absurd (other separator is)
 
 -- ---- lines of CSV
 

@@ -22,7 +22,7 @@ returns-in-Ok-clause-ends g c =
     c.in-Ok.ensures.ends input c.split_head-input.ensures.head c.split_head-input.ensures.body in (
       output,
       is-ordered c.args.arrangement options reads old new leaves keeps texts c.as_slice.result.now input
-          c.as_slice.ensures.value are c.in_ok-chooser.ensures.ok whole output is,
+          c.as_slice.ensures.value are joined.closed c.in_ok-chooser.ensures.ok whole output is,
       written,
     )
 
@@ -43,9 +43,9 @@ returns-clause-ends g c =
     rw (told-alike takes_no_more (λ a b. refl) _ _ fault told c.in_its_file.ensures)
     (stops-weaker (takes_no_more fault) _ _ _ _ _ _
     (is-ordered c.args.arrangement options reads old new leaves keeps texts c.as_slice.result.now input
-    c.as_slice.ensures.value are c.in_ok-chooser.ensures.ok whole)
+    c.as_slice.ensures.value are joined.closed c.in_ok-chooser.ensures.ok whole)
     (ordered-faults c.args.arrangement options reads old new leaves keeps texts c.as_slice.result.now input
-    c.as_slice.ensures.value are c.in_ok-chooser.ensures.ok whole c.as_slice-counts.result.now
+    c.as_slice.ensures.value are joined.closed c.in_ok-chooser.ensures.ok whole c.as_slice-counts.result.now
     (c.as_slice-counts.ensures.value ∙ joined.counts_are) c.as_slice-names.result.now c.as_slice-names.ensures.value
     fault told c.in_its_file.ensures)
     ends)

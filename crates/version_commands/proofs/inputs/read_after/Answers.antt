@@ -1,19 +1,19 @@
-use Rattle.std.proofs.Common.{◌≡◌, ◌<◌, ◌-◌, ◌++◌, ◌∷◌, drop, ℕ, List, [], length, map, take, get_or, refl, rules, sym, subst, ap, ◌∙◌, Bor, arith}
+use Rattle.std.proofs.Common.{◌≡◌, ◌<◌, ◌-◌, ◌++◌, ◌∷◌, drop, ℕ, suc, List, [], length, map, take, get_or, refl, rules, sym, subst, ap, ◌∙◌, Bor, arith}
 use Rattle.std.proofs.Math.Seq.{drop-append_seam}
 use Rattle.std.proofs.lemmas.List.{length-drop, map-append, take_all}
 use Rattle.std.proofs.lemmas.Result.{IfErr-weaker}
 use Rattle.version_commands.specs.Inputs.{ended, line_count, AreInputs}
-use Rattle.version_commands.specs.Fault.{ComesOfReading}
-use Rattle.version_commands.proofs.lemmas.Fault.{reading-weaker}
-use Rattle.version_commands.proofs.lemmas.Inputs.{among-both, counts-push, inputs-push, joined-next, last-among, name-among, none-of-both, none-standard}
+use Rattle.version_commands.specs.Fault.{ComesOfReadingOne}
+use Rattle.version_commands.proofs.lemmas.Fault.{reading-at}
+use Rattle.version_commands.proofs.lemmas.Inputs.{closed-push, counts-push, inputs-push, joined-next, none-of-both, none-standard, parts-around}
 use Rattle.version_commands.proofs.lemmas.Pieces.{texts-next}
 use Rattle.version_lines.specs.Lines.{lines_of}
 use Rattle.version_commands.proofs.inputs.read_after.Goals as goal
 
 pub loop-name-preserved : goal.loop-name-preserved
 loop-name-preserved g c =
-    let ((texts, read, same, counted), kept) = c.loop-name.invariant in
-    let (text, is, added) = c.in_ok-add_input.ensures.text in
+    let ((texts, read, closed, same, counted), kept) = c.loop-name.invariant in
+    let (text, is, added, here) = c.in_ok-add_input.ensures.text in
     let names = c.args.names.now in
     let end = c.args.end in
     let i = c.loop-name.name-index in
@@ -37,6 +37,7 @@ loop-name-preserved g c =
         subst (λ (n : List (List ℕ)). AreInputs reads old new n (texts ++ text ∷ [])) (sym next)
             (inputs-push reads old _ new (map (λ (n : Bor (List ℕ)). n.now) (take i names)) texts
             (get_or names i d).now text read is),
+        closed-push end texts text closed here,
         joined-next end.byte texts text _ _ same added,
         c.in_ok-add_count.ensures ∙ ap (λ (l : List ℕ). l ++ c.count_lines.result ∷ []) counted
             ∙ ap (λ (n : ℕ). map (line_count end) texts ++ n ∷ []) lines
@@ -48,8 +49,8 @@ loop-name-preserved g c =
 
 pub returns-clause-input : goal.returns-clause-input
 returns-clause-input g c =
-    let ((texts, read, same, counted), kept) = c.loop-name.invariant in
-    let (text, is, added) = c.in_ok-add_input-2.ensures.text in
+    let ((texts, read, closed, same, counted), kept) = c.loop-name.invariant in
+    let (text, is, added, here) = c.in_ok-add_input-2.ensures.text in
     let names = c.args.names.now in
     let reads = g.F.Files.reads c.args.files.now in
     let old = g.R.Read.remaining c.args.reader.now in
@@ -59,13 +60,14 @@ returns-clause-input g c =
       inputs-push reads old _ new (map (λ (n : Bor (List ℕ)). n.now) names) texts c.args.last.now text
           (rw all at read) is,
       record {
+        closed = closed-push c.args.end texts text closed here;
         text_is = joined-next c.args.end.byte texts text _ _ same added;
         counts_are = counted ∙ sym (counts-push c.args.end texts text);
       },
     )
 
 pub loop-name-init : goal.loop-name-init
-loop-name-init g c = (([], refl, c.new-text.ensures.items, c.new-counts.ensures.items), λ none. refl)
+loop-name-init g c = (([], refl, refl, c.new-text.ensures.items, c.new-counts.ensures.items), λ none. refl)
 
 pub returns-in_err-add_input-clause-unread : goal.returns-in_err-add_input-clause-unread
 returns-in_err-add_input-clause-unread g c none =
@@ -89,22 +91,31 @@ returns-in_err-add_count-clause-unread g c none =
 
 pub returns-in_err-add_input-clause-faults : goal.returns-in_err-add_input-clause-faults
 returns-in_err-add_input-clause-faults g c =
+    let ((texts, read, closed, same, counted), kept) = c.loop-name.invariant in
+    let now : Bor (List ℕ) → List ℕ = λ n. n.now in
     let names = c.args.names.now in
     let i = c.loop-name.name-index in
     let d : Bor (List ℕ) = record { ref_ptr = (0, 0); now = [] } in
     let inside : i < length names = search rules in
-    let now : Bor (List ℕ) → List ℕ = λ n. n.now in
     let reads = g.F.Files.reads c.args.files.now in
-    IfErr-weaker c.from_residual.result (ComesOfReading reads (now (get_or names i d) ∷ [])) _
-    (reading-weaker reads (now (get_or names i d) ∷ []) (map now names ++ c.args.last.now ∷ [])
-    (λ name among. among-both (map now names) c.args.last.now name (name-among now names i d inside name among)))
+    let old = g.R.Read.remaining c.args.reader.now in
+    let between = g.R.Read.remaining c.loop-name.reader in
+    let last = c.args.last.now ∷ [] in
+    IfErr-weaker c.from_residual.result (ComesOfReadingOne c.args.end reads between (now (get_or names i d))) _
+    (reading-at c.args.end reads old between (map now names ++ last) (map now (take i names)) (map now (drop (suc i) names) ++ last)
+    texts (now (get_or names i d)) (parts-around now names i d last inside) read closed)
     (search rules)
 
 pub returns-in_err-add_input-2-clause-faults : goal.returns-in_err-add_input-2-clause-faults
 returns-in_err-add_input-2-clause-faults g c =
+    let ((texts, read, closed, same, counted), kept) = c.loop-name.invariant in
     let now : Bor (List ℕ) → List ℕ = λ n. n.now in
-    let names = map now c.args.names.now in
+    let names = c.args.names.now in
+    let all : take c.loop-name.name-index names ≡ names = take_all c.loop-name.name-index names (search rules) in
     let reads = g.F.Files.reads c.args.files.now in
-    IfErr-weaker c.from_residual-in_err-add_input-2.result (ComesOfReading reads (c.args.last.now ∷ [])) _
-    (reading-weaker reads (c.args.last.now ∷ []) (names ++ c.args.last.now ∷ []) (last-among names c.args.last.now))
+    let old = g.R.Read.remaining c.args.reader.now in
+    let between = g.R.Read.remaining c.loop-name.reader in
+    IfErr-weaker c.from_residual-in_err-add_input-2.result (ComesOfReadingOne c.args.end reads between c.args.last.now) _
+    (reading-at c.args.end reads old between (map now names ++ c.args.last.now ∷ []) (map now names) [] texts c.args.last.now refl
+    (rw all at read) closed)
     (search rules)

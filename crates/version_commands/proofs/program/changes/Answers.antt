@@ -1,9 +1,9 @@
-use Rattle.std.proofs.Common.{◌++◌, ◌∷◌, [], ℕ, List, rules, ap, ◌∙◌, arith}
+use Rattle.std.proofs.Common.{◌++◌, ◌∷◌, [], ℕ, List, refl, rules, ap, ◌∙◌, arith}
 use Rattle.std.proofs.lemmas.Result.{IfErr-weaker}
-use Rattle.version_commands.specs.Fault.{ComesOfReading}
+use Rattle.version_commands.specs.Fault.{ComesOfReadingOne}
 use Rattle.version_commands.specs.Lists.{difference_text, names_of, rows_of}
-use Rattle.version_commands.proofs.lemmas.Fault.{reading-weaker}
-use Rattle.version_commands.proofs.lemmas.Changes.{are-changes, changes-bad, changes-reading, input-bad, input-good, of-first, of-second}
+use Rattle.version_commands.proofs.lemmas.Fault.{reading-at}
+use Rattle.version_commands.proofs.lemmas.Changes.{are-changes, changes-bad, changes-reading, input-bad, input-good}
 use Rattle.version_commands.proofs.program.changes.Goals as goal
 
 pub returns-clause-output : goal.returns-clause-output
@@ -15,14 +15,14 @@ returns-clause-output g c =
     let end = g.R.Read.remaining c.read_input-2.new.reader in
     let before = c.as_slice.result.now in
     let after = c.as_slice-2.result.now in
-    let (first, one, old_is) = c.in_ok-old.ensures.input in
-    let (second, other, new_is) = c.in_ok-new.ensures.input in
+    let (first, one, old_is, old_closed) = c.in_ok-old.ensures.input in
+    let (second, other, new_is, new_closed) = c.in_ok-new.ensures.input in
     let first_is = c.as_slice.ensures.value ∙ old_is in
     let second_is = c.as_slice-2.ensures.value ∙ new_is in
     let added = c.in_ok-add_lists.ensures (rows_of lists before) (rows_of lists after)
     c.in_ok-old_names.ensures.names c.in_ok-new_names.ensures.names in
     are-changes lists reads start between end first second before after c.add_lists.new.output.items
-    one first_is other second_is
+    one first_is other second_is (rw (old_closed, new_closed) refl)
     (λ asked. (
       input-good lists first before c.in_ok-old_names.old_bad first_is
           c.in_ok-old_names.ensures.bad (c.in_ok-refuse_of_list.ensures.none asked),
@@ -35,16 +35,25 @@ returns-clause-output g c =
 
 pub returns-in_err-old-clause-faults : goal.returns-in_err-old-clause-faults
 returns-in_err-old-clause-faults g c =
-    grind (arith, IfErr-weaker, changes-reading, reading-weaker, of-first)
+    let lists = c.args.lists.now in
+    let reads = g.F.Files.reads c.args.files.now in
+    let start = g.R.Read.remaining c.args.reader.now in
+    IfErr-weaker c.from_residual.result (ComesOfReadingOne lists.end reads start lists.old.now) _
+    (λ fault is. changes-reading lists reads start fault
+    (reading-at lists.end reads start start (names_of lists) [] (lists.new.now ∷ []) [] lists.old.now refl refl refl fault is))
+    (search rules)
 
 pub returns-in_err-new-clause-faults : goal.returns-in_err-new-clause-faults
 returns-in_err-new-clause-faults g c =
     let lists = c.args.lists.now in
     let reads = g.F.Files.reads c.args.files.now in
-    let new = lists.new.now in
-    IfErr-weaker c.from_residual-in_err-new.result (ComesOfReading reads (new ∷ [])) _
-    (λ fault is. changes-reading lists reads (g.R.Read.remaining c.args.reader.now) fault
-    (reading-weaker reads (new ∷ []) (names_of lists) (of-second lists.old.now new) fault is))
+    let start = g.R.Read.remaining c.args.reader.now in
+    let between = g.R.Read.remaining c.read_input.new.reader in
+    let (first, one, old_is, closed) = c.in_ok-old.ensures.input in
+    IfErr-weaker c.from_residual-in_err-new.result (ComesOfReadingOne lists.end reads between lists.new.now) _
+    (λ fault is. changes-reading lists reads start fault
+    (reading-at lists.end reads start between (names_of lists) (lists.old.now ∷ []) [] (first ∷ []) lists.new.now refl
+    (between, one, refl) (rw closed refl) fault is))
     (search rules)
 
 pub returns-in_err-refuse_of_list-clause-faults : goal.returns-in_err-refuse_of_list-clause-faults
