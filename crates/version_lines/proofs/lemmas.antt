@@ -4,7 +4,6 @@ pub mod FirstOfEach
 pub mod Kept
 pub mod KeyedLines
 pub mod Lines
-pub mod Named
 pub mod Newest
 pub mod NewestLine
 pub mod Output

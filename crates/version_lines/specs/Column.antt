@@ -1,7 +1,6 @@
 -- The columns of a line.
 use Rattle.std.specs.Prelude.{◌==◌, ◌||◌, ℕ, Bool, List, [], ◌∷◌, not, map, true, false, Option, option_map, if◌then◌else◌}
 use Rattle.std.specs.List.{filter, list_any, position, slice_get, slice_split}
-use Rattle.std.specs.Option.{option_map_or}
 use Rattle.std.specs.Str.{bytes_eq}
 use Rattle.version_lines.specs.Csv.{field_text, is_whole, raw_fields}
 use Rattle.version_lines.specs.declared.column.Column.{Column}
@@ -32,16 +31,29 @@ words_of line = filter has_bytes (slice_split is_blank line)
 abbrev pub is_among : List ℕ → ℕ → Bool
 is_among bytes byte = list_any (λ b. byte == b) bytes
 
--- the fields of a record of CSV, without their quotes; none if one of them goes on after its quotes, or they never close
-abbrev pub fields_of : ℕ → List ℕ → List (List ℕ)
-fields_of separator line =
-    if is_whole separator Start line then map field_text (raw_fields separator Start line) else []
+-- whether a line has columns: a record of CSV has none if one of its fields goes on after its quotes, or they never close
+abbrev pub has_columns : Separators → List ℕ → Bool
+has_columns Blanks line = true
+has_columns (Bytes bytes) line = true
+has_columns (Csv separator) line = is_whole separator Start line
 
--- the pieces between separators, empty ones too; between blanks none that is empty
+-- the columns as they stand in a line that has some: the pieces between separators, empty ones too; between blanks none
+-- that is empty; of CSV with their quotes
+abbrev pub raw_columns : Separators → List ℕ → List (List ℕ)
+raw_columns Blanks line = words_of line
+raw_columns (Bytes bytes) line = slice_split (is_among bytes.now) line
+raw_columns (Csv separator) line = raw_fields separator Start line
+
+-- the text of such a column
+abbrev pub raw_text : Separators → List ℕ → List ℕ
+raw_text Blanks column = column
+raw_text (Bytes bytes) column = column
+raw_text (Csv separator) column = field_text column
+
+-- the texts of a line's columns
 abbrev pub columns_of : Separators → List ℕ → List (List ℕ)
-columns_of Blanks line = words_of line
-columns_of (Bytes bytes) line = slice_split (is_among bytes.now) line
-columns_of (Csv separator) line = fields_of separator line
+columns_of separators line =
+    if has_columns separators line then map (raw_text separators) (raw_columns separators line) else []
 
 -- the column of a line, if it has so many; the first has the number 0
 abbrev pub column_of : Column → List ℕ → Option (List ℕ)
@@ -51,27 +63,3 @@ column_of column line = slice_get (columns_of column.separators line) column.num
 abbrev pub column_named : Column → List ℕ → List ℕ → Option Column
 column_named column name line = option_map (λ number. record column { number = number })
     (position (λ text. bytes_eq text name) (columns_of column.separators line))
-
--- ---- as they stand in the line
-
--- whether a line has columns: a record of CSV has none if one of its fields goes on after its quotes, or they never close
-abbrev pub has_columns : Separators → List ℕ → Bool
-has_columns Blanks line = true
-has_columns (Bytes bytes) line = true
-has_columns (Csv separator) line = is_whole separator Start line
-
--- the columns of a line that has some, those of CSV with their quotes
-abbrev pub raw_columns : Separators → List ℕ → List (List ℕ)
-raw_columns Blanks line = words_of line
-raw_columns (Bytes bytes) line = slice_split (is_among bytes.now) line
-raw_columns (Csv separator) line = raw_fields separator Start line
-
--- those of the rest of a line, if there is one
-abbrev pub raw_rest : Separators → Option (List ℕ) → List (List ℕ)
-raw_rest separators rest = option_map_or (raw_columns separators) rest []
-
--- the text of such a column
-abbrev pub raw_text : Separators → List ℕ → List ℕ
-raw_text Blanks column = column
-raw_text (Bytes bytes) column = column
-raw_text (Csv separator) column = field_text column

@@ -1,9 +1,9 @@
 //! The columns of a line.
-ghost use Rattle.std.specs.Prelude.{◌≡◌, ◌==◌, ◌≤◌, ◌+◌, [], ◌∷◌, drop, length};
-ghost use Rattle.std.specs.List.{prefix_len, slice_get, slice_split};
-ghost use Rattle.std.specs.Option.{option_map, option_map_or};
+ghost use Rattle.std.specs.Prelude.{◌≡◌, ◌==◌, ◌<◌, ◌≤◌, ◌+◌, [], ◌∷◌, drop, length, option_map, IfSome};
+ghost use Rattle.std.specs.List.{prefix_len, slice_split};
+ghost use Rattle.std.specs.Option.{option_map_or};
 ghost use Rattle.memchr.specs.Find.{IsFirstByte};
-ghost use Rattle.version_lines.specs.Column.{column_of, fields_of, is_among, is_blank_or_not, words_of};
+ghost use Rattle.version_lines.specs.Column.{column_named, column_of, has_columns, is_among, is_blank_or_not, raw_columns, raw_text, words_of};
 ghost use Rattle.version_lines.specs.Csv.{raw_fields};
 
 use crate::csv::{FieldState, field_text, is_whole, length_before};
@@ -34,32 +34,83 @@ impl Column<'_> {
     pub fn of<'a>(&self, line: &'a [u8]) -> Option<&'a [u8]>
         ensures { option_map (λ text. text.now) result ≡ column_of self.now line.now }
     {
+        if !self.has_columns(line) {
+            return None;
+        }
+        let mut rest = line;
+        for _ in 0..self.number {
+            let (_, after) = self.cut(rest)?;
+            rest = after?;
+        }
+        let (column, _) = self.cut(rest)?;
+        Some(self.raw_text(column))
+    }
+
+    /// Returns the first column of a header whose text is this name, or None if it has none. The columns of a line are
+    /// those of this column, whatever its number. Does not allocate.
+    pub fn named(&self, name: &[u8], header: &[u8]) -> Option<Self>
+        ensures { result ≡ column_named self.now name.now header.now }
+    {
+        if !self.has_columns(header) {
+            return None;
+        }
+        let mut rest = header;
+        let mut number = 0;
+        loop {
+            let (column, after) = self.cut(rest)?;
+            if self.raw_text(column) == name {
+                return Some(Column { number, ..*self });
+            }
+            rest = after?;
+            number += 1;
+        }
+    }
+
+    // Whether a line has columns.
+    fn has_columns(&self, line: &[u8]) -> bool
+        ensures { result ≡ has_columns self.now.separators line.now }
+    {
         match self.separators {
-            Separators::Blanks => word(line, self.number),
-            Separators::Bytes(bytes) => piece(line, bytes, self.number),
-            Separators::Csv(separator) => field(line, separator, self.number),
+            Separators::Blanks | Separators::Bytes(_) => true,
+            Separators::Csv(separator) => is_whole(separator, line),
+        }
+    }
+
+    // Returns the text of a column as it stands in its line.
+    fn raw_text<'a>(&self, column: &'a [u8]) -> &'a [u8]
+        ensures { result.now ≡ raw_text self.now.separators column.now }
+    {
+        match self.separators {
+            Separators::Blanks | Separators::Bytes(_) => column,
+            Separators::Csv(_) => field_text(column),
+        }
+    }
+
+    // Cuts off the first column of a text. Returns it and what follows it, if anything does, or None if the text has no
+    // column.
+    #[inline(always)]
+    fn cut<'a>(&self, text: &'a [u8]) -> Option<(&'a [u8], Option<&'a [u8]>)>
+        ensures columns { raw_columns self.now.separators text.now
+            ≡ option_map_or (λ cut. cut.0.now
+            ∷ option_map_or (λ rest. raw_columns self.now.separators rest.now) cut.1 []) result [] }
+        ensures shorter { IfSome result (λ cut. IfSome cut.1 (λ rest. length rest.now < length text.now)) }
+    {
+        match self.separators {
+            Separators::Blanks => {
+                let (word, after) = cut_word(text)?;
+                Some((word, Some(after)))
+            }
+            Separators::Bytes(bytes) => Some(cut_piece(text, bytes)),
+            Separators::Csv(separator) => Some(cut_field(text, separator)),
         }
     }
 }
 
-// Returns the piece of this number between the bytes of a line that are among these.
-fn piece<'a>(line: &'a [u8], bytes: &[u8], number: usize) -> Option<&'a [u8]>
-    ensures { option_map (λ text. text.now) result
-        ≡ slice_get (slice_split (is_among bytes.now) line.now) number }
-{
-    let (mut first, mut rest) = cut_piece(line, bytes);
-    for _ in 0..number {
-        let (next, after) = cut_piece(rest?, bytes);
-        first = next;
-        rest = after;
-    }
-    Some(first)
-}
-
-/// Cuts a text at its first byte that is among these. Returns what stands before it, and what follows it, if there is one.
-pub fn cut_piece<'a>(text: &'a [u8], bytes: &[u8]) -> (&'a [u8], Option<&'a [u8]>)
-    ensures { slice_split (is_among bytes.now) text.now ≡ result.0.now
+// Cuts a text at its first byte that is among these. Returns what stands before it, and what follows it, if there is one.
+fn cut_piece<'a>(text: &'a [u8], bytes: &[u8]) -> (&'a [u8], Option<&'a [u8]>)
+    ensures pieces { slice_split (is_among bytes.now) text.now ≡ result.0.now
         ∷ option_map_or (λ rest. slice_split (is_among bytes.now) rest.now) result.1 [] }
+    ensures shorter { IfSome result.1 (λ rest. length rest.now < length text.now) }
 {
     match find_among(bytes, text) {
         Some(end) => (&text[..end], Some(&text[end + 1..])),
@@ -98,34 +149,12 @@ fn is_among(bytes: &[u8], byte: u8) -> bool
     bytes.iter().any(|b| byte == *b)
 }
 
-// Returns the text of the field of this number of a record of CSV.
-fn field(line: &[u8], separator: u8, number: usize) -> Option<&[u8]>
-    ensures { option_map (λ text. text.now) result ≡ slice_get (fields_of separator line.now) number }
-{
-    if !is_whole(separator, line) {
-        return None;
-    }
-    Some(field_text(raw_field(line, separator, number)?))
-}
-
-// Returns the field as it stands, quotes and all.
-fn raw_field(line: &[u8], separator: u8, number: usize) -> Option<&[u8]>
-    ensures { option_map (λ text. text.now) result ≡ slice_get (raw_fields separator FieldState.Start line.now) number }
-{
-    let (mut first, mut rest) = cut_field(line, separator);
-    for _ in 0..number {
-        let (next, after) = cut_field(rest?, separator);
-        first = next;
-        rest = after;
-    }
-    Some(first)
-}
-
-/// Cuts a text at its first separator that stands in no quotes. Returns what stands before it, and what follows it, if
-/// there is one.
-pub fn cut_field(text: &[u8], separator: u8) -> (&[u8], Option<&[u8]>)
-    ensures { raw_fields separator FieldState.Start text.now ≡ result.0.now
+// Cuts a text at its first separator that stands in no quotes. Returns what stands before it, and what follows it, if
+// there is one.
+fn cut_field(text: &[u8], separator: u8) -> (&[u8], Option<&[u8]>)
+    ensures fields { raw_fields separator FieldState.Start text.now ≡ result.0.now
         ∷ option_map_or (λ rest. raw_fields separator FieldState.Start rest.now) result.1 [] }
+    ensures shorter { IfSome result.1 (λ rest. length rest.now < length text.now) }
 {
     let end = length_before(separator, separator, text);
     if end < text.len() {
@@ -135,23 +164,11 @@ pub fn cut_field(text: &[u8], separator: u8) -> (&[u8], Option<&[u8]>)
     }
 }
 
-// Returns the piece of this number between the runs of blanks of a line.
-fn word(line: &[u8], number: usize) -> Option<&[u8]>
-    ensures { option_map (λ text. text.now) result ≡ slice_get (words_of line.now) number }
-{
-    let (mut first, mut rest) = cut_word(line)?;
-    for _ in 0..number {
-        let (next, after) = cut_word(rest)?;
-        first = next;
-        rest = after;
-    }
-    Some(first)
-}
-
-/// Returns the first piece between the runs of blanks of a text and what follows it, or None if the text is blank.
-pub fn cut_word(text: &[u8]) -> Option<(&[u8], &[u8])>
-    ensures { words_of text.now
+// Returns the first piece between the runs of blanks of a text and what follows it, or None if the text is blank.
+fn cut_word(text: &[u8]) -> Option<(&[u8], &[u8])>
+    ensures words { words_of text.now
         ≡ option_map_or (λ cut. cut.0.now ∷ words_of cut.1.now) result [] }
+    ensures shorter { IfSome result (λ cut. length cut.1.now < length text.now) }
 {
     let start = run_end(text, 0, true);
     if start == text.len() {

@@ -7,7 +7,6 @@ mod csv;
 mod input;
 mod laws;
 mod lines;
-mod named;
 mod output;
 mod sort;
 
