@@ -2,6 +2,7 @@ pub mod BySchemes
 pub mod Changes
 pub mod Each
 pub mod Ends
+pub mod Explain
 pub mod Fault
 pub mod Fields
 pub mod Header

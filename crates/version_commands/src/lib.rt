@@ -18,6 +18,7 @@ mod inputs;
 mod json;
 mod key;
 mod label;
+mod laws;
 mod lists;
 mod matched;
 mod next;
