@@ -67,7 +67,7 @@ extern "C" {
 #define VERSIONS_NO_MEMORY 9        /* memory allocation failed; reserved: no call allocates, and none returns this */
 #define VERSIONS_NULL 10            /* a pointer is null, and what it should point to is not empty */
 #define VERSIONS_NO_FIELD 11        /* the version has no such field */
-#define VERSIONS_NO_WRONG_MEMBER 12 /* each member of the list is a requirement, or the text is a set or a version */
+#define VERSIONS_NO_WRONG_MEMBER 12 /* each member of the list is a requirement, or the text is a set */
 #define VERSIONS_LARGE_EPOCH 13     /* the epoch is above 9223372036854775807 */
 #define VERSIONS_UNKNOWN_FIELD 14   /* no field has that number */
 #define VERSIONS_ALL_MATCH 15       /* each member of the list matches the version */
@@ -78,6 +78,7 @@ extern "C" {
 #define VERSIONS_NO_SCHEME 20       /* no scheme has that number */
 #define VERSIONS_OTHER_SCHEME 21    /* the two sets are of different schemes */
 #define VERSIONS_NO_INTERVAL 22     /* the set has no interval at that place */
+#define VERSIONS_IS_VERSION 23      /* the text is a version */
 
 /* The kinds. */
 #define VERSIONS_NONE 0    /* not a version */
@@ -562,7 +563,7 @@ int versions_scheme_has(uint32_t scheme, const char *text, size_t text_len, bool
  * ends at 6, after a hyphen; 1..2 has an empty part at 2, and 1.2.3 with a space after it a blank at 5. What stands
  * before the place is ASCII.
  *
- * Returns VERSIONS_OK, VERSIONS_NO_SCHEME, or VERSIONS_NO_WRONG_MEMBER if the text is a version.
+ * Returns VERSIONS_OK, VERSIONS_NO_SCHEME, or VERSIONS_IS_VERSION if the text is one.
  */
 int versions_wrong(uint32_t scheme, const char *text, size_t text_len, size_t *place, uint32_t *reason);
 
@@ -574,7 +575,7 @@ int versions_wrong(uint32_t scheme, const char *text, size_t text_len, size_t *p
  * *why_len, also with VERSIONS_NO_ROOM. 100 bytes are always enough. To get the length alone, pass room 0 and a null
  * pointer.
  *
- * Returns VERSIONS_OK, VERSIONS_NO_SCHEME, VERSIONS_NO_WRONG_MEMBER if the text is a version, or VERSIONS_NO_ROOM.
+ * Returns VERSIONS_OK, VERSIONS_NO_SCHEME, VERSIONS_IS_VERSION if the text is one, or VERSIONS_NO_ROOM.
  */
 int versions_wrong_text(uint32_t scheme, const char *text, size_t text_len, char *why, size_t room, size_t *why_len);
 

@@ -1543,7 +1543,7 @@ static void bad_offsets(void) {
 // Every status has its own text, its comment in the header up to a semicolon.
 static void statuses(void) {
   CHECK(strcmp(versions_status_text(VERSIONS_NO_MEMORY), "memory allocation failed") == 0);
-  for (int a = VERSIONS_OK; a <= VERSIONS_NO_INTERVAL + 1; a++) {
+  for (int a = VERSIONS_OK; a <= VERSIONS_IS_VERSION + 1; a++) {
     CHECK(strlen(versions_status_text(a)) > 5);
     for (int b = VERSIONS_OK; b < a; b++) CHECK(strcmp(versions_status_text(a), versions_status_text(b)) != 0);
   }
@@ -1850,7 +1850,7 @@ static void worked_flaws(void) {
   static const char *const right[] = {"1.0.0", "1.0-1", "1.0-1", "1.0-1", "1.0.0", "1.0-1"};
   for (uint32_t scheme = 0; scheme <= 7; scheme++) {
     const char *text = scheme % 7 == 0 ? "" : right[scheme - 1];
-    int status = scheme % 7 == 0 ? VERSIONS_NO_SCHEME : VERSIONS_NO_WRONG_MEMBER;
+    int status = scheme % 7 == 0 ? VERSIONS_NO_SCHEME : VERSIONS_IS_VERSION;
     CHECK(versions_wrong(scheme, text, strlen(text), &place, &reason) == status);
     CHECK(versions_wrong_text(scheme, text, strlen(text), why, 1, &written) == status);
     CHECK(place == 77 && reason == 77 && written == 77 && why[0] == '?');

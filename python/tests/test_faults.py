@@ -166,9 +166,11 @@ class FakeLibrary(WithFolder):
             self.set(type=ctypes.c_size_t, place=len(text[:place].encode("utf-8", "surrogatepass")))
             for call in (module.wrong_set, module.wrong_version):
                 self.assertEqual(call(text, "mixed"), (place, "!" * 100))
-        self.set(status=12)
-        for call in (module.wrong_set, module.wrong_version):
+        for right, other, call in ((12, 23, module.wrong_set), (23, 12, module.wrong_version)):
+            self.set(status=right)
             self.assertIsNone(call(text, "deb"))
+            self.set(status=other)
+            self.assertRaisesRegex(RuntimeError, f"returned status {other}$", call, text, "deb")
 
     def test_statuses_of_sets(self):
         module = self.load()

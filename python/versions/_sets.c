@@ -480,25 +480,32 @@ static Py_ssize_t characters_of(const char *bytes, size_t size) {
 typedef int wrong_place(uint32_t, const char *, size_t, size_t *, uint32_t *);
 typedef int wrong_text(uint32_t, const char *, size_t, char *, size_t, size_t *);
 
+/* The calls of sets, or of versions, and the status of a text that is not wrong. */
+struct wrong_calls {
+  wrong_place *ask_place;
+  wrong_text *ask_text;
+  int right;
+};
+
 /* Where the bytes of a text are wrong, in characters, and why; None where they are not. */
-static PyObject *wrong_in(wrong_place *ask_place, wrong_text *ask_text, uint32_t scheme, const char *bytes, size_t size) {
+static PyObject *wrong_in(struct wrong_calls calls, uint32_t scheme, const char *bytes, size_t size) {
   PyThreadState *thread = let_go(size);
   size_t place = 0, length = 0;
   uint32_t number = 0;
   Py_ssize_t start;
   char why[100];
-  int status = ask_place(scheme, bytes, size, &place, &number);
+  int status = calls.ask_place(scheme, bytes, size, &place, &number);
 
-  if (status == VERSIONS_OK) status = ask_text(scheme, bytes, size, why, sizeof why, &length);
+  if (status == VERSIONS_OK) status = calls.ask_text(scheme, bytes, size, why, sizeof why, &length);
   take_again(thread);
-  if (status == VERSIONS_NO_WRONG_MEMBER) Py_RETURN_NONE;
+  if (status == calls.right) Py_RETURN_NONE;
   if (status != VERSIONS_OK) return raise_status(status);
   start = characters_of(bytes, place);
   return start < 0 ? NULL : Py_BuildValue("(nN)", start, PyUnicode_FromStringAndSize(why, (Py_ssize_t)length));
 }
 
 /* The same of the text and the scheme that a call of the module has. */
-static PyObject *wrong_of(wrong_place *ask_place, wrong_text *ask_text, const char *form, PyObject *args) {
+static PyObject *wrong_of(struct wrong_calls calls, const char *form, PyObject *args) {
   PyObject *object, *name, *bytes, *answer;
   struct text text;
   uint32_t scheme;
@@ -508,19 +515,23 @@ static PyObject *wrong_of(wrong_place *ask_place, wrong_text *ask_text, const ch
   /* A lone surrogate becomes three bytes that are not UTF-8, so its piece is wrong. */
   bytes = PyUnicode_AsEncodedString(object, "utf-8", "surrogatepass");
   if (bytes == NULL) return NULL;
-  answer = wrong_in(ask_place, ask_text, scheme, PyBytes_AsString(bytes), (size_t)PyBytes_Size(bytes));
+  answer = wrong_in(calls, scheme, PyBytes_AsString(bytes), (size_t)PyBytes_Size(bytes));
   Py_DECREF(bytes);
   return answer;
 }
 
 /* wrong_set(text, scheme): where the first wrong piece begins and why it is wrong; None where the text is a set */
 PyObject *wrong_set(PyObject *Py_UNUSED(module), PyObject *args) {
-  return wrong_of(versions_set_wrong, versions_set_wrong_text, "OO:wrong_set", args);
+  struct wrong_calls calls = {versions_set_wrong, versions_set_wrong_text, VERSIONS_NO_WRONG_MEMBER};
+
+  return wrong_of(calls, "OO:wrong_set", args);
 }
 
 /* wrong_version(text, scheme): how far the text could become a version, and why no further; None where it is one */
 PyObject *wrong_version(PyObject *Py_UNUSED(module), PyObject *args) {
-  return wrong_of(versions_wrong, versions_wrong_text, "OO:wrong_version", args);
+  struct wrong_calls calls = {versions_wrong, versions_wrong_text, VERSIONS_IS_VERSION};
+
+  return wrong_of(calls, "OO:wrong_version", args);
 }
 
 /*

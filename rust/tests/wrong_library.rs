@@ -504,7 +504,7 @@ fn statuses_of_schemes_and_sets() {
         assert_eq!(text, unexpected(call, "status 99"));
     }
     // What another call has, or this one where it was asked something else.
-    for number in [1, 7, 10, 12, 18, 19, 20, 21, 22] {
+    for number in [1, 7, 10, 12, 18, 19, 20, 21, 22, 23] {
         let status = format!("status {number}");
         let text = format!("s{number}");
         let made = || set(&text);

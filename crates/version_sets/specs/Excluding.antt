@@ -1,5 +1,5 @@
 -- Which members of a set leave a key out.
-use Rattle.std.specs.Prelude.{◌≡◌, ◌+◌, ℕ, suc, List, [], ◌∷◌, if◌then◌else◌, length, Option, Some, None}
+use Rattle.std.specs.Prelude.{◌≡◌, ◌+◌, ◌≤◌, ⊤, ℕ, suc, List, [], ◌∷◌, if◌then◌else◌, length, Option, Some, None}
 use Rattle.version_texts.specs.declared.keyed.Words.{Words}
 use Rattle.version_texts.specs.keyed.Keyed.{PlainKeyed}
 use Rattle.version_sets.specs.Ends.{has}
@@ -32,6 +32,15 @@ found_or (Some span) next = Some span
 abbrev pub leave_out : List ℕ → List (List Member) → List Span
 leave_out key [] = []
 leave_out key (first ∷ others) = with_found (first_out key first) (leave_out key others)
+
+-- a text, of which something is left, ends at a place
+abbrev pub EndsAt : ℕ → Option Pieces → Type 0
+EndsAt end None = ⊤
+EndsAt end (Some left) = left.place + length left.left.now ≡ end
+
+-- a member stands before a place
+abbrev pub StandsBefore : ℕ → Span → Type 0
+StandsBefore end span = (span.start ≤ span.end) × (span.end ≤ end)
 
 -- how many bytes are left, and one more where any may be
 abbrev pub steps_left : Option Pieces → ℕ

@@ -1,5 +1,5 @@
 -- A set as bytes.
-use Rattle.std.specs.Prelude.{◌+◌, ◌-◌, ◌*◌, ◌||◌, ℕ, zero, suc, List, [], ◌∷◌, ◌++◌, drop, if◌then◌else◌, length, map, nat_lt, take}
+use Rattle.std.specs.Prelude.{◌+◌, ◌-◌, ◌*◌, ◌||◌, ℕ, zero, suc, Bool, List, [], ◌∷◌, ◌++◌, drop, if◌then◌else◌, length, map, nat_lt, take}
 use Rattle.std.specs.Int.{from_le_bytes, to_le_bytes, w64}
 use Rattle.std.specs.List.{concat, flat_map, range_with_len}
 
@@ -18,6 +18,14 @@ form_bytes order ends =
     order ∷ (number (length ends) ++ (flat_map number (places 0 ends) ++ concat ends))
 
 -- ---- what any bytes are read as
+
+-- how many ends bytes tell, behind the number of an order
+abbrev pub count_told : List ℕ → ℕ
+count_told bytes = from_le_bytes w64 (take 8 (drop 1 bytes))
+
+-- whether bytes end too early for a set: before the last number that tells where an end is over
+abbrev pub ends_early : List ℕ → Bool
+ends_early bytes = nat_lt (length bytes) (9 + 8 * count_told bytes)
 
 -- the number at a place of a row of numbers
 abbrev pub number_at : List ℕ → ℕ → ℕ
@@ -44,6 +52,6 @@ ends_in count row bytes = map (end_at row bytes) (range_with_len 0 count)
 -- the ends that the bytes of a set hold
 abbrev pub form_ends : List ℕ → List (List ℕ)
 form_ends bytes =
-    let count = from_le_bytes w64 (take 8 (drop 1 bytes)) in
+    let count = count_told bytes in
     let rest = drop 9 bytes in
     ends_in count (take (8 * count) rest) (drop (8 * count) rest)

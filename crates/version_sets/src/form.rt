@@ -1,8 +1,8 @@
 //! Sets as bytes.
 
-ghost use Rattle.std.specs.Prelude.{◌≡◌, ◌∷◌, ◌++◌, ◌+◌, ◌*◌, ◌^◌, ◌<◌, ◌≤◌, [], IfNone, IfSome, List, drop, length, ℕ};
+ghost use Rattle.std.specs.Prelude.{◌≡◌, ◌∷◌, ◌++◌, ◌+◌, ◌*◌, ◌^◌, ◌<◌, ◌≤◌, [], IfNone, IfSome, List, drop, false, length, true, ℕ};
 ghost use Rattle.std.specs.Option.{IsSomeAnd};
-ghost use Rattle.version_sets.specs.Form.{between, form_bytes, number, over_at};
+ghost use Rattle.version_sets.specs.Form.{between, ends_early, form_bytes, number, over_at};
 
 pub(crate) mod intervals;
 mod whole;
@@ -26,6 +26,9 @@ impl<'a> Form<'a> {
     pub fn of(bytes: &'a [u8]) -> Option<(u8, Form<'a>)>
         ensures form { (order : ℕ) (ends : List (List ℕ)) → bytes.now ≡ form_bytes order ends
             → IsSomeAnd result (λ set. (set.0 ≡ order) × (ends_of set.1 ≡ ends)) }
+
+        ensures early { IfNone result (ends_early bytes.now ≡ true) }
+        ensures long { IfSome result (λ _. ends_early bytes.now ≡ false) }
 
         // What is read are these bytes, taken apart, and no others.
         ensures read { IfSome result (λ set. bytes.now

@@ -128,6 +128,7 @@ impl<'a> Merge<'a> {
     pub fn next(&mut self) -> Option<&'a [u8]>
         ensures some { IfSome result (λ end. left self.old ≡ end.now ∷ left self.new) }
         ensures none { IfNone result (left self.old ≡ []) }
+        ensures ended { IfNone result (left self.new ≡ []) }
         ensures nearer { IfSome result (λ _. merge_left self.new < merge_left self.old) }
     {
         'ends: loop {
@@ -168,6 +169,7 @@ impl<'a> Merge<'a> {
         ensures some { IfSome result (λ end. left self.old
             ≡ kept (has_here self.old) (has_here self.new) end.now (left self.new)) }
         ensures none { IfNone result (left self.old ≡ []) }
+        ensures ended { IfNone result (left self.new ≡ []) }
         ensures nearer { IfSome result (λ _. merge_left self.new < merge_left self.old) }
     {
         match (self.one.end(), self.other.end()) {

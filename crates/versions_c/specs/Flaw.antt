@@ -8,11 +8,11 @@ use Rattle.version_viable.specs.declared.flaw.Reason.{Reason}
 use Rattle.version_viable.specs.declared.flaw.Reason.TheVariants.{Blank, Control, Empty, EmptyPart, LeadingZero, NotAscii, NothingAfter, Other, Unfinished}
 use Rattle.versions_c.specs.Written.{IsWritten}
 use Rattle.versions_c.specs.declared.flaw.TheConstants as reason
-use Rattle.versions_c.specs.declared.status.TheConstants.{NO_WRONG_MEMBER, OK}
+use Rattle.versions_c.specs.declared.status.TheConstants.{IS_VERSION, OK}
 
 -- the status by whether the text is a version, when what is wrong is asked for
 abbrev pub wrong_status : Bool → ℤ
-wrong_status true = NO_WRONG_MEMBER
+wrong_status true = IS_VERSION
 wrong_status false = OK
 
 -- the number of a reason

@@ -8,7 +8,7 @@ ghost use Rattle.version_viable.specs.declared.flaw.Reason.TheVariants.{NothingA
 ghost use Rattle.versions_c.specs.Flaw.{IsWhyWritten, reason_code, wrong_status};
 
 use crate::schemes::write_text;
-use crate::status::{NO_ROOM, NO_SCHEME, NO_WRONG_MEMBER, OK};
+use crate::status::{IS_VERSION, NO_ROOM, NO_SCHEME, OK};
 use version_schemes::Scheme;
 use version_viable::{Flaw, Mark, Reason};
 
@@ -75,7 +75,7 @@ fn put_wrong(scheme: Scheme, text: &[u8], place: &mut usize, reason: &mut u32) -
     ensures kept_reason { result ≢ OK → reason.new ≡ reason.old }
 {
     let Some(flaw) = Flaw::of(scheme, text) else {
-        return NO_WRONG_MEMBER;
+        return IS_VERSION;
     };
     *place = flaw.place;
     *reason = reason_code(flaw.reason);
@@ -93,7 +93,7 @@ pub extern "C" fn versions_wrong_text(
     ensures why { IfSome (numbered scheme) (λ scheme. is_version scheme text.now ≡ false →
         IsWhyWritten scheme text.now why.old why.new why_len.new result) }
     ensures right { IfSome (numbered scheme)
-        (λ scheme. is_version scheme text.now ≡ true → result ≡ NO_WRONG_MEMBER) }
+        (λ scheme. is_version scheme text.now ≡ true → result ≡ IS_VERSION) }
     ensures no_scheme { numbered scheme ≡ None → result ≡ NO_SCHEME }
     ensures kept { result ≢ OK → why.new ≡ why.old }
     ensures no_length { result ≢ OK → result ≢ NO_ROOM → why_len.new ≡ why_len.old }
@@ -108,12 +108,12 @@ pub extern "C" fn versions_wrong_text(
 fn put_wrong_text(scheme: Scheme, text: &[u8], why: &mut [u8], why_len: &mut usize) -> i32
     ensures why { is_version scheme text.now ≡ false →
         IsWhyWritten scheme text.now why.old why.new why_len.new result }
-    ensures right { is_version scheme text.now ≡ true → result ≡ NO_WRONG_MEMBER }
+    ensures right { is_version scheme text.now ≡ true → result ≡ IS_VERSION }
     ensures kept { result ≢ OK → why.new ≡ why.old }
     ensures no_length { result ≢ OK → result ≢ NO_ROOM → why_len.new ≡ why_len.old }
 {
     let Some(flaw) = Flaw::of(scheme, text) else {
-        return NO_WRONG_MEMBER;
+        return IS_VERSION;
     };
     write_text(flaw.reason.text().as_bytes(), why, why_len)
 }

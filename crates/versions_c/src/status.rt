@@ -20,7 +20,7 @@ pub const NO_ROOM: i32 = 7;
 pub const BAD_OFFSETS: i32 = 8;
 /// The version has no such field.
 pub const NO_FIELD: i32 = 11;
-/// Each member of the list is a requirement.
+/// Each member of the list is a requirement, or the text is a set.
 pub const NO_WRONG_MEMBER: i32 = 12;
 /// The epoch is above the largest signed number of 64 bits.
 pub const LARGE_EPOCH: i32 = 13;
@@ -42,3 +42,5 @@ pub const NO_SCHEME: i32 = 20;
 pub const OTHER_SCHEME: i32 = 21;
 /// The set has no interval at that place.
 pub const NO_INTERVAL: i32 = 22;
+/// The text is a version.
+pub const IS_VERSION: i32 = 23;

@@ -1,12 +1,12 @@
 -- Alternatives that leave a key out: what a reading says of the members behind a piece.
-use Rattle.std.proofs.Common.{◌≡◌, ◌∙◌, ◌≤◌, ◌<◌, ◌||◌, ◌&&◌, ℕ, suc, Bool, true, false, not, List, [], ◌∷◌, length, Option, Some, None, IfSome, ap, arith, refl, sym}
+use Rattle.std.proofs.Common.{◌≡◌, ◌∙◌, ◌≤◌, ◌+◌, ◌<◌, ◌||◌, ◌&&◌, ℕ, suc, Bool, true, false, not, List, [], ◌∷◌, length, Option, Some, None, IfSome, ap, arith, refl, subst, sym}
 use Rattle.std.specs.List.{list_all}
 use Rattle.std.specs.Option.{is_some}
 use Rattle.version_texts.specs.declared.keyed.Words.{Words}
 use Rattle.version_texts.specs.keyed.Keyed.{PlainKeyed}
 use Rattle.version_sets.specs.Comparison.{ends_with}
 use Rattle.version_sets.specs.Ends.{has}
-use Rattle.version_sets.specs.Excluding.{AreLeft, first_out, found_or, leave_out, left_read, room_left, span_of, steps_left, with_found}
+use Rattle.version_sets.specs.Excluding.{AreLeft, EndsAt, StandsBefore, first_out, found_or, leave_out, left_read, room_left, span_of, steps_left, with_found}
 use Rattle.version_sets.specs.Pieces.{pieces}
 use Rattle.version_sets.specs.Reading.{Asked, Member, Not, Reading, Right, With, Wrong, answered, pieces_room, set_has, with_member}
 use Rattle.version_sets.specs.declared.read.comparison.Comparison.{Comparison}
@@ -90,6 +90,21 @@ behind_one read_as words key found here after reads all left =
       is.1,
       ap (leave_out key) left.2 ∙ ap (λ found. with_found found (leave_out key left.1)) (sym is.0),
     )
+
+-- what is left behind an alternative ends where the text did
+pub ends_still : (here : Pieces) (after : Option Pieces) (end : ℕ)
+    → IfSome after (λ after. after.place + length after.left.now ≡ here.place + length here.left.now)
+    → EndsAt end (Some here) → EndsAt end after
+ends_still here None end same ends = tt
+ends_still here (Some after) end same ends = same ∙ ends
+
+-- a member that stands in what is left stands in the text
+pub before_end : (here : Pieces) (found : Option Span) (Old : ℕ → Type 0)
+    → IfSome found (StandsBefore (here.place + length here.left.now))
+    → ((end : ℕ) → Old end → EndsAt end (Some here))
+    → IfSome found (λ span. (end : ℕ) → Old end → StandsBefore end span)
+before_end here None Old within ends = tt
+before_end here (Some span) Old within ends = λ end old. subst (λ end. StandsBefore end span) (ends end old) within
 
 pub no_span : (found : Option Span) (more : List Span) → is_some found ≡ false → with_found found more ≡ more
 no_span None more e = refl

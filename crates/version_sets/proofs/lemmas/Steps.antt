@@ -1,5 +1,6 @@
 -- What a step tells of its piece, and what was asked.
-use Rattle.std.proofs.Common.{◌≡◌, ◌∙◌, ◌+◌, ◌-◌, ◌*◌, ◌≤◌, ◌==◌, ◌&&◌, ◌⊎◌, ℕ, Bool, true, false, not, List, [], ◌∷◌, ◌++◌, Option, Some, None, ap, arith, inl, inr, length, length-append, refl}
+use Rattle.std.proofs.Common.{◌≡◌, ◌∙◌, ◌+◌, ◌-◌, ◌*◌, ◌≤◌, ◌==◌, ◌&&◌, ◌⊎◌, ℕ, Bool, true, false, not, List, [], ◌∷◌, ◌++◌, Option, Some, None, ap, arith, inl, inr, length, length-append, refl, subst}
+use Rattle.std.specs.Prelude.{⊤}
 use Rattle.std.proofs.lemmas.Bool.{cases_Bool}
 use Rattle.std.proofs.lemmas.List.{length-map}
 use Rattle.std.specs.List.{concat}
@@ -15,7 +16,7 @@ use Rattle.version_sets.specs.Comparison.{asks_bare, asks_doubled, asks_parts, b
 use Rattle.version_sets.specs.Form.{form_bytes}
 use Rattle.version_sets.specs.Pieces.{PlainPiece, Bar, Bars, Comma, Word}
 use Rattle.version_sets.specs.Reading.{Asked, With, allowed, asked, piece_room, unless_slip, with_version}
-use Rattle.version_sets.specs.Steps.{All, Asks, begin_member, is_all, step}
+use Rattle.version_sets.specs.Steps.{All, Asks, Goes, begin_member, is_all, step}
 use Rattle.version_sets.specs.declared.read.comparison.Comparison.{Comparison}
 use Rattle.version_sets.specs.declared.read.steps.State.{State}
 use Rattle.version_sets.specs.declared.read.steps.State.TheVariants.{Come, Opened, Wanted}
@@ -130,6 +131,76 @@ asks_word (Opened first start) place Bar c from at text e = cc e
 asks_word Come place Comma c from at text e = cc e
 asks_word Come place Bars c from at text e = cc e
 asks_word Come place Bar c from at text e = cc e
+
+-- an operator that waits for its version begins before a place, at the latest
+abbrev pub StartsBy : ℕ → State → Type 0
+StartsBy place (Opened c start) = start ≤ place
+StartsBy place other = ⊤
+
+begin_goes : (place end : ℕ) (word : List ℕ) (next : State) → place ≤ end
+    → begin_member place word ≡ Goes next → StartsBy end next
+begin_goes place end word next before e = by (comparison_front word) refl
+  where
+    by : (front : Option (Comparison × List ℕ)) → comparison_front word ≡ front → StartsBy end next
+    by None is = none (cases_Bool (is_all word))
+      where
+        none : (is_all word ≡ true) ⊎ (is_all word ≡ false) → StartsBy end next
+        none (inl all) = cc (rw (is, all) at e)
+        none (inr other) = cc (rw (is, other) at e)
+    by (Some (found, [])) is =
+        let same : Opened found place ≡ next = cc (rw is at e) in subst (StartsBy end) same before
+    by (Some (found, b ∷ rest)) is = cc (rw is at e)
+
+-- a piece leads to a state in which nothing waits that begins behind it
+pub goes_on : (state : State) (place end : ℕ) (piece : PlainPiece) (next : State) → place ≤ end
+    → step state place piece ≡ Goes next → StartsBy end next
+goes_on Wanted place end (Word word) next before e = begin_goes place end word next before e
+goes_on Come place end (Word word) next before e = begin_goes place end word next before e
+goes_on Come place end Comma next before e = let same : Wanted ≡ next = cc e in subst (StartsBy end) same tt
+goes_on (Opened first start) place end (Word word) next before e = cc e
+goes_on Wanted place end Comma next before e = cc e
+goes_on Wanted place end Bars next before e = cc e
+goes_on Wanted place end Bar next before e = cc e
+goes_on (Opened first start) place end Comma next before e = cc e
+goes_on (Opened first start) place end Bars next before e = cc e
+goes_on (Opened first start) place end Bar next before e = cc e
+goes_on Come place end Bars next before e = cc e
+goes_on Come place end Bar next before e = cc e
+
+begin_from : (place : ℕ) (word : List ℕ) (c : Comparison) (from at : ℕ) (text : List ℕ)
+    → begin_member place word ≡ Asks c from at text → from ≤ at
+begin_from place word c from at text e = by (comparison_front word) refl
+  where
+    by : (front : Option (Comparison × List ℕ)) → comparison_front word ≡ front → from ≤ at
+    by None is = none (cases_Bool (is_all word))
+      where
+        none : (is_all word ≡ true) ⊎ (is_all word ≡ false) → from ≤ at
+        none (inl all) = cc (rw (is, all) at e)
+        none (inr other) = cc (rw (is, other) at e)
+    by (Some (found, [])) is = cc (rw is at e)
+    by (Some (found, b ∷ rest)) is =
+        let begins : place + (length word - length (b ∷ rest)) ≡ at = cc (rw is at e) in
+        let same : place ≡ from = cc (rw is at e) in
+        omega (arith, begins, same)
+
+-- a member begins before its version
+pub asks_from : (state : State) (opened place : ℕ) (piece : PlainPiece) (c : Comparison) (from at : ℕ)
+    (text : List ℕ) → StartsBy opened state → opened ≤ place → step state place piece ≡ Asks c from at text → from ≤ at
+asks_from Wanted opened place (Word word) c from at text starts before e = begin_from place word c from at text e
+asks_from Come opened place (Word word) c from at text starts before e = begin_from place word c from at text e
+asks_from (Opened first start) opened place (Word word) c from at text starts before e =
+    let begins : place ≡ at = cc e in
+    let same : start ≡ from = cc e in
+    omega (arith, starts, before, begins, same)
+asks_from Wanted opened place Comma c from at text starts before e = cc e
+asks_from Wanted opened place Bars c from at text starts before e = cc e
+asks_from Wanted opened place Bar c from at text starts before e = cc e
+asks_from (Opened first start) opened place Comma c from at text starts before e = cc e
+asks_from (Opened first start) opened place Bars c from at text starts before e = cc e
+asks_from (Opened first start) opened place Bar c from at text starts before e = cc e
+asks_from Come opened place Comma c from at text starts before e = cc e
+asks_from Come opened place Bars c from at text starts before e = cc e
+asks_from Come opened place Bar c from at text starts before e = cc e
 
 -- a member that has all is a word
 pub all_room : (most : ℕ → ℕ) (state : State) (place at : ℕ) (piece : PlainPiece)

@@ -1,9 +1,9 @@
 //! Which members of a set leave a version out.
 
-ghost use Rattle.std.specs.Prelude.{◌≡◌, ◌∷◌, ◌+◌, ◌*◌, ◌≤◌, ◌<◌, ◌^◌, [], length, not, true, Bool, IfErr, IfNone, IfOk, IfSome, List, Option, ℕ};
+ghost use Rattle.std.specs.Prelude.{◌≡◌, ◌∷◌, ◌+◌, ◌*◌, ◌≤◌, ◌<◌, ◌^◌, [], length, not, true, Bool, IfErr, IfNone, IfOk, IfSome, List, None, Option, ℕ};
 ghost use Rattle.std.proofs.Props.{props};
 ghost use Rattle.version_sets.specs.Ends.{has};
-ghost use Rattle.version_sets.specs.Excluding.{first_out, leave_out, left_read, room_left, steps_left, AreLeft};
+ghost use Rattle.version_sets.specs.Excluding.{first_out, leave_out, left_read, room_left, steps_left, AreLeft, EndsAt, StandsBefore};
 ghost use Rattle.version_sets.specs.Comparison.{asks_parts, ends_with};
 ghost use Rattle.version_sets.specs.Form.{form_bytes};
 ghost use Rattle.version_sets.specs.Pieces.{pieces, Word};
@@ -46,6 +46,7 @@ impl<'t> Alternatives<'t> {
         ensures all { (read_as : List ℕ → Option PlainKeyed) (words : Words) (first : List Member)
             (others : List (List Member)) → read_set read_as words text.now ≡ Right first others
             → AreLeft read_as words result.left (first ∷ others) }
+        ensures end { EndsAt (length text.now) result.left }
         ensures room { (most : ℕ → ℕ) → set_room most text.now ≡ 2 * room_left most result.left }
     {
         Alternatives {
@@ -70,6 +71,17 @@ impl<'t> Alternatives<'t> {
             × (leave_out (V.plain version.now).key all ≡ span ∷ leave_out (V.plain version.now).key rest))) }
         ensures none { IfOk result (λ found. IfNone found ((all : List (List Member))
             → AreLeft V.read_as V.words self.old.left all → leave_out (V.plain version.now).key all ≡ [])) }
+
+        // A member stands in the text. After the last one nothing is left, and where the room is too small nothing that
+        // leaves the version out is passed.
+        ensures within { IfOk result (λ found. IfSome found (λ span. (end : ℕ)
+            → EndsAt end self.old.left → StandsBefore end span)) }
+        ensures end { (end : ℕ) → EndsAt end self.old.left → EndsAt end self.new.left }
+        ensures ended { IfOk result (λ found. IfNone found (self.new.left ≡ None)) }
+        ensures stays { IfErr result (λ _. (all : List (List Member))
+            → AreLeft V.read_as V.words self.old.left all → (rest : List (List Member))
+            × AreLeft V.read_as V.words self.new.left rest
+            × (leave_out (V.plain version.now).key all ≡ leave_out (V.plain version.now).key rest)) }
         ensures nearer { IfOk result (λ found.
             IfSome found (λ _. steps_left self.new.left < steps_left self.old.left)) }
         ensures room { IfErr result (λ _. length room.old < room_left V.most self.old.left) }
@@ -100,6 +112,8 @@ fn first_excluding<'t, V: Keyed<'t>>(
         × AreLeft V.read_as V.words found.1 others) }
     ensures end { IfOk result (λ found. IfSome found.1 (λ after. after.place + length after.left.now
         ≡ left.entry.place + length left.entry.left.now)) }
+    ensures within { IfOk result (λ found. IfSome found.0
+        (StandsBefore (left.entry.place + length left.entry.left.now))) }
     ensures nearer { IfOk result (λ found.
         IfSome found.1 (λ after. length after.left.now < length left.entry.left.now)) }
     ensures room { IfOk result (λ found. IfSome found.1 (λ after. pieces_room V.most (pieces after.place after.left.now)

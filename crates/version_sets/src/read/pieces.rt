@@ -33,7 +33,8 @@ impl<'t> Pieces<'t> {
             ≡ (next.0, plain_piece next.1) ∷ pieces self.new.place self.new.left.now) }
         ensures none { IfNone result (pieces self.old.place self.old.left.now ≡ []) }
 
-        // A piece lies before what is left, and where the text ends stays the same.
+        // A piece lies between what was passed and what is left, and where the text ends stays the same.
+        ensures behind { IfSome result (λ next. self.old.place ≤ next.0) }
         ensures piece { IfSome result (λ next. next.0 + piece_length (plain_piece next.1) ≡ self.new.place) }
         ensures end { self.new.place + length self.new.left.now
             ≡ self.old.place + length self.old.left.now }

@@ -1,9 +1,10 @@
-use Rattle.std.proofs.Common.{◌++◌, ◌∷◌, ℕ, List, get_or, inl, inr, subst, suc, ◌≡◌, ◌∙◌, ◌*◌, ◌<◌, ◌^◌, ap, arith, drop, length, sym, take}
+use Rattle.std.proofs.Common.{◌++◌, ◌∷◌, ℕ, List, get_or, inl, inr, subst, suc, ◌≡◌, ◌∙◌, ◌+◌, ◌*◌, ◌<◌, ◌^◌, ap, arith, drop, length, sym, take}
 use Rattle.version_sets.proofs.lemmas.Form.{are_read, ends_are, number_told}
-use Rattle.std.proofs.lemmas.Bool.{cases_lt}
+use Rattle.std.proofs.lemmas.Bool.{cases_lt, le-ltb, lt-ltb}
 use Rattle.std.proofs.lemmas.List.{get_or-take, get_or_past, length-take, length-take-le, take-append-drop}
 use Rattle.std.proofs.lemmas.Nat.{le_bytes_8}
-use Rattle.version_sets.specs.Form.{ends_in, form_bytes, number}
+use Rattle.std.specs.Int.{from_le_bytes, w64}
+use Rattle.version_sets.specs.Form.{count_told, ends_in, form_bytes, number}
 use Rattle.version_sets.proofs.form.Form.of.Goals as goal
 
 pub returns-in_err-order-clause-form : goal.returns-in_err-order-clause-form
@@ -37,6 +38,55 @@ returns-in_err-numbers-clause-form c order ends is =
       c.in_err-numbers.ensures.cases,
       c.in_ok-checked_mul.ensures.1,
       c.in_ok-count.ensures.cases.2,
+    ))
+
+pub returns-in_err-order-clause-early : goal.returns-in_err-order-clause-early
+returns-in_err-order-clause-early c =
+    rw c.from_residual.ensures
+    (lt-ltb (length c.args.bytes.now) (9 + 8 * count_told c.args.bytes.now) (omega (arith, c.in_err-order.ensures.cases)))
+
+pub returns-in_err-count-clause-early : goal.returns-in_err-count-clause-early
+returns-in_err-count-clause-early c =
+    rw c.from_residual-in_err-count.ensures
+    (lt-ltb (length c.args.bytes.now) (9 + 8 * count_told c.args.bytes.now)
+    (omega (arith, c.in_ok-order.ensures.cases.1, c.in_err-count.ensures.cases)))
+
+pub returns-in_err-checked_mul-clause-early : goal.returns-in_err-checked_mul-clause-early
+returns-in_err-checked_mul-clause-early c =
+    let bytes = c.args.bytes.now in
+    let told = c.from_le_bytes-count.ensures ∙ ap (from_le_bytes w64) c.in_ok-count.ensures.cases.0
+    ∙ sym (ap count_told c.in_ok-order.ensures.cases.0) in
+    rw c.from_residual-in_err-checked_mul.ensures (elim (cases_lt (length bytes) (9 + 8 * count_told bytes)) [
+      | inl short ↦ lt-ltb (length bytes) (9 + 8 * count_told bytes) short
+      | inr long ↦ absurd (c.in_err-checked_mul.ensures (omega (arith, told, long, c.well_formed.0.0)))
+    ])
+
+pub returns-in_err-numbers-clause-early : goal.returns-in_err-numbers-clause-early
+returns-in_err-numbers-clause-early c =
+    let bytes = c.args.bytes.now in
+    let told = c.from_le_bytes-count.ensures ∙ ap (from_le_bytes w64) c.in_ok-count.ensures.cases.0
+    ∙ sym (ap count_told c.in_ok-order.ensures.cases.0) in
+    rw c.from_residual-in_err-numbers.ensures (lt-ltb (length bytes) (9 + 8 * count_told bytes) (omega (
+      arith,
+      told,
+      c.in_err-numbers.ensures.cases,
+      c.in_ok-checked_mul.ensures.1,
+      c.in_ok-count.ensures.cases.2,
+      c.in_ok-order.ensures.cases.1,
+    )))
+
+pub returns-clause-long : goal.returns-clause-long
+returns-clause-long c =
+    let bytes = c.args.bytes.now in
+    let told = c.from_le_bytes-count.ensures ∙ ap (from_le_bytes w64) c.in_ok-count.ensures.cases.0
+    ∙ sym (ap count_told c.in_ok-order.ensures.cases.0) in
+    le-ltb (length bytes) (9 + 8 * count_told bytes) (omega (
+      arith,
+      told,
+      c.in_ok-numbers.ensures.cases.4,
+      c.in_ok-checked_mul.ensures.1,
+      c.in_ok-count.ensures.cases.2,
+      c.in_ok-order.ensures.cases.1,
     ))
 
 pub returns-clause-form : goal.returns-clause-form

@@ -2,10 +2,10 @@ use Rattle.std.proofs.Common.{◌≡◌, ◌∙◌, ◌+◌, suc, [], ◌∷◌,
 use Rattle.version_sets.specs.Excluding.{first_out, found_or}
 use Rattle.version_sets.specs.Pieces.{piece_length, pieces, plain_piece}
 use Rattle.version_sets.specs.Reading.{Member, after_step, piece_room, pieces_room, read_pieces}
-use Rattle.version_sets.specs.Steps.{All, Asks, step}
+use Rattle.version_sets.specs.Steps.{All, Asks, Goes, step}
 use Rattle.version_sets.specs.declared.read.steps.State.TheVariants.{Come}
 use Rattle.version_sets.proofs.lemmas.Excluding.{all_has, is_asked, none_found, not_false, not_true, once_found, one_more, passes, stops}
-use Rattle.version_sets.proofs.lemmas.Steps.{asks_word}
+use Rattle.version_sets.proofs.lemmas.Steps.{asks_from, asks_word, goes_on}
 use Rattle.version_sets.proofs.read.excluding.first_excluding.Goals.{else-is_none-via-then-is_none+else-excludes, else-is_none-via-else-is_none}
 use Rattle.version_sets.proofs.read.excluding.first_excluding.Goals as goal
 
@@ -19,6 +19,8 @@ loop-place-preserved-in-All g c =
     sym c.step.ensures ∙ rw c.in-All.is refl in
     record {
       end = omega (arith, c.in-Some.ensures.end, c.loop-place.invariant.end);
+      opened = tt;
+      within = c.loop-place.invariant.within;
       nearer = omega (arith, c.in-Some.ensures.nearer, c.loop-place.invariant.nearer);
       room = omega (arith, ap (pieces_room V.most) c.in-Some.ensures.some, c.loop-place.invariant.room);
       size = c.loop-place.invariant.size;
@@ -33,6 +35,32 @@ loop-place-preserved-in-All g c =
             ap (λ end. read_pieces V.read_as V.words end Come behind) c.in-Some.ensures.end ∙ found.rest_is,
             reads.2 ∙ ap (found_or c.loop-place.found)
                 (ap (first_out key) found.first_is ∙ passes key all found.more (all_has key)),
+          );
+    }
+
+pub loop-place-preserved-in-Goes : goal.loop-place-preserved-in-Goes
+loop-place-preserved-in-Goes g c =
+    let V = g.V.Keyed in
+    let end = c.loop-place.pieces.place + length c.loop-place.pieces.left.now in
+    let behind = pieces c.next.new.self.place c.next.new.self.left.now in
+    let is : step c.loop-place.state c.in-Some.place (plain_piece c.in-Some.piece) ≡ Goes c.in-Goes.next =
+    sym c.step.ensures ∙ rw c.in-Goes.is refl in
+    record {
+      end = omega (arith, c.in-Some.ensures.end, c.loop-place.invariant.end);
+      opened = goes_on c.loop-place.state c.in-Some.place _ (plain_piece c.in-Some.piece) c.in-Goes.next
+          (omega (arith, c.in-Some.ensures.piece)) is;
+      within = c.loop-place.invariant.within;
+      nearer = omega (arith, c.in-Some.ensures.nearer, c.loop-place.invariant.nearer);
+      room = omega (arith, ap (pieces_room V.most) c.in-Some.ensures.some, c.loop-place.invariant.room);
+      size = c.loop-place.invariant.size;
+      reads = λ first others e.
+          let reads = c.loop-place.invariant.reads first others e in
+          let stepped =
+          sym (ap (after_step V.read_as V.words (λ next. read_pieces V.read_as V.words end next behind)) is)
+          ∙ ap (read_pieces V.read_as V.words end c.loop-place.state) (sym c.in-Some.ensures.some) ∙ reads.1 in (
+            reads.0,
+            ap (λ end. read_pieces V.read_as V.words end c.in-Goes.next behind) c.in-Some.ensures.end ∙ stepped,
+            reads.2,
           );
     }
 
@@ -88,8 +116,26 @@ loop-place-preserved-then-excludes g c =
     let is : step c.loop-place.state c.in-Some.place (plain_piece c.in-Some.piece)
     ≡ Asks c.in-Asks.comparison c.in-Asks.start c.in-Asks.place c.in-Asks.text.now =
     sym c.step.ensures ∙ rw c.in-Asks.is refl in
+    let word = asks_word c.loop-place.state c.in-Some.place (plain_piece c.in-Some.piece) c.in-Asks.comparison
+    c.in-Asks.start c.in-Asks.place c.in-Asks.text.now is in
     record {
       end = omega (arith, c.in-Some.ensures.end, c.loop-place.invariant.end);
+      opened = tt;
+      within = (
+        omega (
+          arith,
+          asks_from c.loop-place.state c.loop-place.pieces.place c.in-Some.place (plain_piece c.in-Some.piece) _ _ _ _
+              c.loop-place.invariant.opened c.in-Some.ensures.behind is,
+        ),
+        omega (
+          arith,
+          word.over,
+          ap piece_length word.is,
+          c.in-Some.ensures.piece,
+          c.in-Some.ensures.end,
+          c.loop-place.invariant.end,
+        ),
+      );
       nearer = omega (arith, c.in-Some.ensures.nearer, c.loop-place.invariant.nearer);
       room = omega (arith, ap (pieces_room V.most) c.in-Some.ensures.some, c.loop-place.invariant.room);
       size = c.excludes.ensures.same ∙ c.loop-place.invariant.size;
@@ -120,6 +166,8 @@ loop-place-preserved g c =
     sym c.step.ensures ∙ rw c.in-Asks.is refl in
     record {
       end = omega (arith, c.in-Some.ensures.end, c.loop-place.invariant.end);
+      opened = tt;
+      within = c.loop-place.invariant.within;
       nearer = omega (arith, c.in-Some.ensures.nearer, c.loop-place.invariant.nearer);
       room = omega (arith, ap (pieces_room V.most) c.in-Some.ensures.some, c.loop-place.invariant.room);
       size =

@@ -1,14 +1,17 @@
-use Rattle.std.proofs.Common.{◌≡◌, ◌+◌, ◌≤◌, List, length}
-use Rattle.version_sets.specs.Excluding.{first_out, found_or, left_read}
+use Rattle.std.proofs.Common.{◌≡◌, ◌+◌, ◌≤◌, IfSome, List, length}
+use Rattle.version_sets.specs.Excluding.{StandsBefore, first_out, found_or, left_read}
 use Rattle.version_sets.specs.Pieces.{pieces}
 use Rattle.version_sets.specs.Reading.{Member, Right, pieces_room}
 use Rattle.version_sets.specs.declared.read.steps.State.TheVariants.{Wanted}
+use Rattle.version_sets.proofs.lemmas.Steps.{StartsBy}
 use Rattle.version_sets.proofs.read.excluding.first_excluding.Given as goal
 
 -- what is left of the alternative, and what was found before it
 abbrev pub invariant-loop-place : goal.invariant-loop-place
 invariant-loop-place g l = record {
   end : l.pieces.place + length l.pieces.left.now ≡ l.fn.left.place + length l.fn.left.left.now;
+  opened : StartsBy l.pieces.place l.state;
+  within : IfSome l.found (StandsBefore (l.fn.left.place + length l.fn.left.left.now));
   nearer : length l.pieces.left.now ≤ length l.fn.left.left.now;
   room : pieces_room g.V.Keyed.most (pieces l.pieces.place l.pieces.left.now)
       ≤ pieces_room g.V.Keyed.most (pieces l.fn.left.place l.fn.left.left.now);

@@ -15,8 +15,10 @@ returns-in-Some-clause-out g c =
     let version = V.plain member.1 in
     let bytes = begins_room c.args.room.now c.write_member-size.new.room _ c.write_member-size.result c.requires.room
     c.write_member-size.ensures.end c.write_member-size.ensures.bytes in
-    let some : ¬ (version.key ≡ []) = search rules in
-    let begins : V.words ≡ Parts → (kept : Kept) → BeginsKey (version.begun kept) version.key = search rules in
+    let laws = g.met.V.Keyed c.lifetimes (search rules) in
+    let some : ¬ (version.key ≡ []) = laws.some member.1 in
+    let begins : V.words ≡ Parts → (kept : Kept) → BeginsKey (version.begun kept) version.key =
+    λ is kept. laws.begins is member.1 kept in
     let rise : Rise (ends_with member.0 version) = rises member.0 version some (λ asks. begins (c.requires.parts asks)) in
     let form = c.in-Some.ensures.form 0 (ends_with member.0 version) bytes in
     ap not (c.has.ensures (subst Rise (sym form.1) rise) ∙ ap (λ ends. has ends (V.plain c.args.version.now).key) form.1)

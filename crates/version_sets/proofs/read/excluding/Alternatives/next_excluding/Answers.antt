@@ -1,9 +1,9 @@
 use Rattle.std.proofs.Common.{◌≡◌, ◌∙◌, ◌∷◌, IfSome, List, Option, Some, None, ap, arith, rules, subst}
-use Rattle.version_sets.specs.Excluding.{AreLeft, leave_out, room_left, steps_left, with_found}
+use Rattle.version_sets.specs.Excluding.{AreLeft, EndsAt, StandsBefore, leave_out, room_left, steps_left, with_found}
 use Rattle.version_sets.specs.Pieces.{pieces}
 use Rattle.version_sets.specs.Reading.{Member, pieces_room}
 use Rattle.version_sets.specs.declared.read.excluding.Span.{Span}
-use Rattle.version_sets.proofs.lemmas.Excluding.{behind_one, fewer, no_span, room_kept}
+use Rattle.version_sets.proofs.lemmas.Excluding.{before_end, behind_one, ends_still, fewer, no_span, room_kept}
 use Rattle.version_sets.proofs.read.excluding.Alternatives.next_excluding.Goals as goal
 
 pub returns-then-is_some-clause-some : goal.returns-then-is_some-clause-some
@@ -24,6 +24,15 @@ returns-then-is_some-clause-some g c =
         × (leave_out (g.V.Keyed.plain c.args.version.now).key all ≡ span ∷ leave_out (g.V.Keyed.plain c.args.version.now).key rest))
     by None all = tt
     by (Some span) all = all
+
+pub returns-then-is_some-clause-within : goal.returns-then-is_some-clause-within
+returns-then-is_some-clause-within g c =
+    before_end c.in-Some.pieces c.in_ok-found.found (λ end. EndsAt end c.args.self.now.left) c.in_ok-found.ensures.within
+    (λ end ends. subst (EndsAt end) c.in-Some.is (c.loop-self.invariant.end end ends))
+
+pub returns-then-is_some-clause-end : goal.returns-then-is_some-clause-end
+returns-then-is_some-clause-end g c = λ end ends. ends_still c.in-Some.pieces c.in_ok-found.left end
+    c.in_ok-found.ensures.end (subst (EndsAt end) c.in-Some.is (c.loop-self.invariant.end end ends))
 
 pub loop-self-preserved : goal.loop-self-preserved
 loop-self-preserved g c =
@@ -46,6 +55,8 @@ loop-self-preserved g c =
         c.loop-self.invariant.nearer,
       );
       size = c.first_excluding.ensures.same ∙ c.loop-self.invariant.size;
+      end = λ end ends. ends_still c.in-Some.pieces c.in_ok-found.left end c.in_ok-found.ensures.end
+          (subst (EndsAt end) c.in-Some.is (c.loop-self.invariant.end end ends));
       reads = λ all left.
           let before = c.loop-self.invariant.reads all left in
           let here = subst (λ l. AreLeft V.read_as V.words l before.0) c.in-Some.is before.1 in
