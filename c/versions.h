@@ -402,13 +402,13 @@ int versions_after_prefix(const char *prefix, size_t prefix_len, const char *tag
  * ASCII letters, in upper or lower case:
  *
  *     VERSIONS_DEV    dev, devel, snapshot, nightly, canary
- *     VERSIONS_ALPHA  alpha, pre, preview, prerelease, milestone, eap, ea
+ *     VERSIONS_ALPHA  alpha, pre, preview, prerelease, milestone, eap
  *     VERSIONS_BETA   beta
  *     VERSIONS_RC     rc, cr
  *
  * A whole run of letters and digits counts too if it is one to three digits, a, b or c, and one or two digits: it is
- * alpha, beta or rc, as 1.0b2 is beta. One that is m and digits is alpha, as 2.0-M1. Metadata of strict and general
- * versions does not count.
+ * alpha, beta or rc, as 1.0b2 is beta. One that is m and digits, or ea alone, is alpha, as 2.0-M1 and 22-ea. Metadata of
+ * strict and general versions does not count.
  *
  * A strict version with a pre-release and none of these is alpha if the first part of the pre-release begins with a
  * letter or a hyphen, as 1.2.3-x.y, and isn't r and digits, as in 1.2.3-r0. Every other version is stable. Each of these

@@ -1122,6 +1122,7 @@ static void worked_stabilities(void) {
       {"1.2.3-x.y", VERSIONS_ALPHA},
       {"1.0.0--x", VERSIONS_ALPHA},
       {"22-ea", VERSIONS_ALPHA},
+      {"0.0~git20171103.1ea1667-1", VERSIONS_STABLE},
       {"22-EA.7", VERSIONS_ALPHA},
       {"22-sea", VERSIONS_STABLE},
       {"0.0~git20170716.74609b8-1.1", VERSIONS_STABLE},
