@@ -144,8 +144,9 @@ extern "C" {
 #define VERSIONS_WRONG_CONTROL 11          /* another control character */
 #define VERSIONS_WRONG_NOT_ASCII 12        /* a character past ASCII */
 #define VERSIONS_WRONG_EMPTY_PART 13       /* a mark of the scheme, first or after another: a part is empty */
-#define VERSIONS_WRONG_LEADING_ZERO 14     /* a digit after a zero, which its number begins with */
+#define VERSIONS_WRONG_LEADING_ZERO 14     /* a number with a leading zero: a digit stands there, or what ends it */
 #define VERSIONS_WRONG_OTHER 15            /* another character */
+#define VERSIONS_WRONG_LATE_COLON 16       /* a colon after the hyphen, which a revision or release can't have */
 
 /* Why a text is not a set. */
 #define VERSIONS_SET_NO_MEMBER 1    /* a member has to come: first, or after a comma or || */
@@ -403,13 +404,13 @@ int versions_after_prefix(const char *prefix, size_t prefix_len, const char *tag
  * ASCII letters, in upper or lower case:
  *
  *     VERSIONS_DEV    dev, devel, snapshot, nightly, canary
- *     VERSIONS_ALPHA  alpha, pre, preview, prerelease, milestone, eap, ea
+ *     VERSIONS_ALPHA  alpha, pre, preview, prerelease, milestone, eap
  *     VERSIONS_BETA   beta
  *     VERSIONS_RC     rc, cr
  *
  * A whole run of letters and digits counts too if it is one to three digits, a, b or c, and one or two digits: it is
- * alpha, beta or rc, as 1.0b2 is beta. One that is m and digits is alpha, as 2.0-M1. Metadata of strict and general
- * versions does not count.
+ * alpha, beta or rc, as 1.0b2 is beta. One that is m and digits, or ea alone, is alpha, as 2.0-M1 and 22-ea. Metadata of
+ * strict and general versions does not count.
  *
  * A strict version with a pre-release and none of these is alpha if the first part of the pre-release begins with a
  * letter or a hyphen, as 1.2.3-x.y, and isn't r and digits, as in 1.2.3-r0. Every other version is stable. Each of these
@@ -559,7 +560,7 @@ int versions_scheme_has(uint32_t scheme, const char *text, size_t text_len, bool
  * Finds how far a text could become a version of a scheme, and why no further, for those who mend it.
  *
  * Sets *place to the length in bytes of its longest beginning that something put after it makes a version, and *reason
- * to what stands there, or to how the text ends there: VERSIONS_WRONG_EMPTY to VERSIONS_WRONG_OTHER. In mixed 1.2.3-
+ * to what stands there, or to how the text ends there: VERSIONS_WRONG_EMPTY to VERSIONS_WRONG_LATE_COLON. In mixed 1.2.3-
  * ends at 6, after a hyphen; 1..2 has an empty part at 2, and 1.2.3 with a space after it a blank at 5. What stands
  * before the place is ASCII.
  *

@@ -1122,6 +1122,7 @@ static void worked_stabilities(void) {
       {"1.2.3-x.y", VERSIONS_ALPHA},
       {"1.0.0--x", VERSIONS_ALPHA},
       {"22-ea", VERSIONS_ALPHA},
+      {"0.0~git20171103.1ea1667-1", VERSIONS_STABLE},
       {"22-EA.7", VERSIONS_ALPHA},
       {"22-sea", VERSIONS_STABLE},
       {"0.0~git20170716.74609b8-1.1", VERSIONS_STABLE},
@@ -1771,13 +1772,14 @@ static void worked_schemes(void) {
 static void worked_flaws(void) {
   enum {
     EMPTY = 1, HYPHEN, PLUS, DOT, COLON, UNDERSCORE, TILDE, EXCLAMATION, UNFINISHED, BLANK, CONTROL, NOT_ASCII, PART, ZERO,
-    OTHER
+    OTHER, LATE_COLON
   };
   static const char *const words[] = {
       "", "nothing", "nothing after the hyphen", "nothing after the plus", "nothing after the dot",
       "nothing after the colon", "nothing after the underscore", "nothing after the tilde",
       "nothing after the exclamation mark", "an end too early", "a blank", "a control character",
       "a character past ASCII", "an empty part", "a number with a leading zero", "a character that can't stand there",
+      "a colon after the hyphen",
   };
   static const struct {
     uint32_t scheme;
@@ -1801,6 +1803,9 @@ static void worked_flaws(void) {
       {VERSIONS_DEB, "1_0", 1, OTHER},          {VERSIONS_DEB, "1.0:1", 3, OTHER},
       {VERSIONS_DEB, "2147483648:1", 10, OTHER}, {VERSIONS_DEB, ".1", 0, OTHER},
       {VERSIONS_DEB, "-1", 0, PART},            {VERSIONS_DEB, "1.0 ", 3, BLANK},
+      {VERSIONS_DEB, "1:1-2:3", 7, LATE_COLON}, {VERSIONS_DEB, "1-2:3", 3, LATE_COLON},
+      {VERSIONS_DEB, "1:1-2:", 6, COLON},       {VERSIONS_DEB, "1:1-2:3_", 7, OTHER},
+      {VERSIONS_DEB, "1-02:3", 4, LATE_COLON},  {VERSIONS_RPM, "1-2:3", 3, LATE_COLON},
       {VERSIONS_RPM, "", 0, EMPTY},             {VERSIONS_RPM, "1-", 2, HYPHEN},
       {VERSIONS_RPM, "1:", 2, COLON},           {VERSIONS_RPM, "1-2-3", 3, OTHER},
       {VERSIONS_RPM, "a:1", 1, OTHER},          {VERSIONS_RPM, "1--2", 2, PART},
@@ -1814,8 +1819,10 @@ static void worked_flaws(void) {
       {VERSIONS_SEMVER, "", 0, EMPTY},          {VERSIONS_SEMVER, "1.2", 3, UNFINISHED},
       {VERSIONS_SEMVER, "1.2.", 4, DOT},        {VERSIONS_SEMVER, "1.2.3-", 6, HYPHEN},
       {VERSIONS_SEMVER, "1.2.3+", 6, PLUS},     {VERSIONS_SEMVER, "01.0.0", 1, ZERO},
-      {VERSIONS_SEMVER, "1.00.0", 3, ZERO},     {VERSIONS_SEMVER, "1.0.0-01", 8, UNFINISHED},
-      {VERSIONS_SEMVER, "1.0.0-01.a", 8, OTHER}, {VERSIONS_SEMVER, "1.0.0-a..b", 8, PART},
+      {VERSIONS_SEMVER, "1.00.0", 3, ZERO},     {VERSIONS_SEMVER, "1.0.0-01", 8, ZERO},
+      {VERSIONS_SEMVER, "1.0.0-01.5", 8, ZERO}, {VERSIONS_SEMVER, "1.0.0-a.00+1", 10, ZERO},
+      {VERSIONS_SEMVER, "1.0.0-01!", 8, OTHER}, {VERSIONS_SEMVER, "1.0.0+01+b", 8, OTHER},
+      {VERSIONS_SEMVER, "1.0.0-01.a", 8, ZERO}, {VERSIONS_SEMVER, "1.0.0-a..b", 8, PART},
       {VERSIONS_SEMVER, "v1.0.0", 0, OTHER},    {VERSIONS_SEMVER, "1.0.0+a+b", 7, OTHER},
       {VERSIONS_GEM, "", 0, EMPTY},             {VERSIONS_GEM, "1.", 2, DOT},
       {VERSIONS_GEM, "1-", 2, HYPHEN},          {VERSIONS_GEM, "1..0", 2, PART},

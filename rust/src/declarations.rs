@@ -86,6 +86,7 @@ pub const WRONG_NOT_ASCII: u32 = 12;
 pub const WRONG_EMPTY_PART: u32 = 13;
 pub const WRONG_LEADING_ZERO: u32 = 14;
 pub const WRONG_OTHER: u32 = 15;
+pub const WRONG_LATE_COLON: u32 = 16;
 
 pub const SET_NO_MEMBER: u32 = 1;
 pub const SET_NO_VERSION: u32 = 2;

@@ -15,7 +15,7 @@ from checks import TOP
 PAGE = (TOP / "docs/SCHEMES.md").read_text()
 SPAN = re.compile("`([^`]+)`")
 # What is said of a member that asks for parts.
-(ASKS_FOR_PARTS,) = re.findall(r"^\| `~[^`]*` \| \d+ \| (.*) \|$", PAGE, re.M)
+(ASKS_FOR_PARTS,) = re.findall(r"^\| each of these \| `~[^`]*` \| \d+ \| (.*) \|$", PAGE, re.M)
 # Which orders of a version and the member's version each operator has.
 OPERATORS = {"=": (0,), "==": (0,), "!=": (-1, 1), "<": (-1,), "<=": (-1, 0), ">": (1,), ">=": (0, 1)}
 # What a text has that can't be a version in a set.
@@ -42,6 +42,18 @@ def sets_of(name):
     """The page's sets of a scheme, each with versions that it has, and that it has not."""
     for text, *cells in re.findall(rf"^\| `{name}` \| `(.*)` \| (`.*`) \| (`.*`) \|$", PAGE, re.M):
         yield text.replace("\\|", "|"), *map(SPAN.findall, cells)
+
+
+def wrong_of(name):
+    """The page's texts that are no sets of a scheme, each with the place and what is said."""
+    rows = re.findall(rf"^\| (?:each of these|`{name}`) \| `([^`]*)` \| (\d+) \| (.*) \|$", PAGE, re.M)
+    return [(text, int(place), said) for text, place, said in rows]
+
+
+def specifiers():
+    """The page's specifiers of pip, with the versions that each has there alone, and here alone."""
+    rows = re.findall(r"^\| `([=!<>]+[0-9.]+)` \| ([^|]*) ?\| ([^|]*) ?\|$", PAGE, re.M)
+    return [(text, SPAN.findall(there), SPAN.findall(here)) for text, there, here in rows]
 
 
 def sign(number):
@@ -272,6 +284,8 @@ class Pypi(System):
     def __init__(self):
         found = importlib.import_module("packaging.version")
         self.version, self.invalid = found.Version, found.InvalidVersion
+        # PEP 440, appendix B: the pattern, which packaging prints, and how it is used.
+        self.pattern = re.compile(rf"\s*{found.VERSION_PATTERN}\s*", re.VERBOSE | re.IGNORECASE)
 
     def takes(self, text):
         try:
@@ -287,8 +301,14 @@ class Pypi(System):
         return (a > b) - (a < b)
 
     def tries(self, random):
-        least = importlib.import_module("packaging.specifiers").SpecifierSet("<2.0")
-        yield "pip's <2.0 leaves 2.0rc1 out", not least.contains("2.0rc1", prereleases=True)
+        texts = [self.neighbour(random, self.draw(random)) for _ in range(5000)]
+        odd = [text for text in texts if self.takes(text) != (self.pattern.fullmatch(text) is not None)]
+        read = sum(map(self.takes, texts))
+        yield f"appendix B's pattern, {read} of {len(texts)} read", min(read, len(texts) - read) > 500 and not odd, odd
+        specifier = importlib.import_module("packaging.specifiers").SpecifierSet
+        for text, there, here in specifiers():
+            found = [specifier(text).contains(version, prereleases=True) for version in (*there, *here)]
+            yield f"pip's {text} on the page", found == [True] * len(there) + [False] * len(here), found
 
 
 class SemVer(System):

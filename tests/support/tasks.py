@@ -9,7 +9,7 @@ IDEAL, GENERAL, COMPLEX = 1, 2, 3
 # The words that name a stability, and the runs of letters and digits.
 NAMES = [
     ("dev|devel|snapshot|nightly|canary", "dev"),
-    ("alpha|pre|preview|prerelease|milestone|eap|ea", "[0-9]{1,3}a[0-9]{1,2}|m[0-9]+"),
+    ("alpha|pre|preview|prerelease|milestone|eap", "[0-9]{1,3}a[0-9]{1,2}|m[0-9]+|ea"),
     ("beta", "[0-9]{1,3}b[0-9]{1,2}"),
     ("rc|cr", "[0-9]{1,3}c[0-9]{1,2}"),
 ]

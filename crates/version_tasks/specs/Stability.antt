@@ -1,6 +1,6 @@
 -- How stable a version is, by the words that stand in it. The rule is one of habit, as Composer has
 -- it, and not of SemVer.
-use Rattle.std.specs.Prelude.{◌==◌, ◌&&◌, ℕ, Bool, false, List, [], ◌∷◌, drop, fold, length, map, nat_le, nat_lt, not, codes, if◌then◌else◌}
+use Rattle.std.specs.Prelude.{◌==◌, ◌&&◌, ◌||◌, ℕ, Bool, false, List, [], ◌∷◌, drop, fold, length, map, nat_le, nat_lt, not, codes, if◌then◌else◌}
 use Rattle.std.specs.Char.{is_ascii_alphabetic, is_ascii_alphanumeric, is_ascii_digit, to_ascii_lowercase}
 use Rattle.std.specs.List.{list_any, prefix_len, slice_split, take_while}
 use Rattle.std.specs.Option.{unwrap_or}
@@ -43,7 +43,7 @@ names Dev =
     codes "dev" ∷ codes "devel" ∷ codes "snapshot" ∷ codes "nightly" ∷ codes "canary" ∷ []
 names Alpha =
     codes "alpha" ∷ codes "pre" ∷ codes "preview" ∷ codes "prerelease" ∷ codes "milestone"
-    ∷ codes "eap" ∷ codes "ea" ∷ []
+    ∷ codes "eap" ∷ []
 names Beta = codes "beta" ∷ []
 names Rc = codes "rc" ∷ codes "cr" ∷ []
 names Stable = []
@@ -83,10 +83,14 @@ abbrev pub is_milestone : List ℕ → Bool
 is_milestone [] = false
 is_milestone (letter ∷ digits) = to_ascii_lowercase letter == 109 && is_digits digits
 
+-- whether a run of letters and digits is `ea` alone, early access: a hash such as `1ea1667` has these letters too
+abbrev pub is_early_access : List ℕ → Bool
+is_early_access run = str_eq_ignore_ascii_case run (codes "ea")
+
 -- the stability of a run of letters and digits
 abbrev pub of_run : List ℕ → Stability
 of_run run =
-    if is_milestone run then Alpha else
+    if is_milestone run || is_early_access run then Alpha else
     if is_short 3 (take_while is_ascii_digit run)
     then of_lettered (drop (prefix_len is_ascii_digit run) run)
     else Stable

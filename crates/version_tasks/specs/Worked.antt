@@ -90,6 +90,10 @@ stabilities =
     ∷ (Alpha, codes "1.2.3-x.y")
     ∷ (Alpha, codes "1.0.0--x")
     ∷ (Alpha, codes "22-ea")
+    ∷ (Alpha, codes "1.0~EA-1")
+    ∷ (Stable, codes "0.0~git20171103.1ea1667-1")
+    ∷ (Stable, codes "1.0ea")
+    ∷ (Stable, codes "1.0-ea1")
     ∷ (Stable, codes "0.0~git20170716.74609b8-1.1")
     ∷ (Stable, codes "0.1.1+git1-1")
     ∷ []

@@ -6,7 +6,7 @@ ghost use Rattle.std.specs.Char.{is_ascii_alphabetic, is_ascii_alphanumeric, is_
 ghost use Rattle.std.specs.List.{list_any, prefix_len};
 ghost use Rattle.std.specs.Str.{str_eq_ignore_ascii_case};
 ghost use Rattle.version_rules.specs.grammar.DigitRun.{is_digits};
-ghost use Rattle.version_tasks.specs.Stability.{counted_text, is_early, is_milestone, is_revision, is_short, lower, lowest, of_letter, of_lettered, of_run, of_text, of_word, pre_release_text, runs, stability_of};
+ghost use Rattle.version_tasks.specs.Stability.{counted_text, is_early, is_early_access, is_milestone, is_revision, is_short, lower, lowest, of_letter, of_lettered, of_run, of_text, of_word, pre_release_text, runs, stability_of};
 ghost use Rattle.version_texts.specs.order.Piece.{first_piece};
 ghost use Rattle.version_texts.specs.versioning_ref.VersioningRef.{plain_versioning_ref};
 
@@ -34,7 +34,7 @@ pub enum Stability {
 /// | stability | words | runs |
 /// |---|---|---|
 /// | `Dev` | `dev`, `devel`, `snapshot`, `nightly`, `canary` | |
-/// | `Alpha` | `alpha`, `pre`, `preview`, `prerelease`, `milestone`, `eap`, `ea` | `0a1`, `m2` |
+/// | `Alpha` | `alpha`, `pre`, `preview`, `prerelease`, `milestone`, `eap` | `0a1`, `m2`, `ea` |
 /// | `Beta` | `beta` | `0b1` |
 /// | `Rc` | `rc`, `cr` | `0c1` |
 ///
@@ -127,15 +127,7 @@ fn of_word(word: &[u8]) -> Stability
     }
     if is_one_of(
         word,
-        &[
-            "alpha",
-            "pre",
-            "preview",
-            "prerelease",
-            "milestone",
-            "eap",
-            "ea",
-        ],
+        &["alpha", "pre", "preview", "prerelease", "milestone", "eap"],
     ) {
         return Stability::Alpha;
     }
@@ -161,7 +153,7 @@ fn is_one_of(word: &[u8], names: &[&str]) -> bool
 fn of_run(run: &[u8]) -> Stability
     ensures { result ≡ of_run run.now }
 {
-    if is_milestone(run) {
+    if is_milestone(run) || is_early_access(run) {
         return Stability::Alpha;
     }
     let (digits, rest) = split_run(run, Class::Digit);
@@ -192,6 +184,13 @@ fn of_letter(letter: u8) -> Stability
         b'c' => Stability::Rc,
         _ => Stability::Stable,
     }
+}
+
+// Whether a run of letters and digits is `ea` alone: a hash such as `1ea1667` has these letters too.
+fn is_early_access(run: &[u8]) -> bool
+    ensures { result ≡ is_early_access run.now }
+{
+    run.eq_ignore_ascii_case(b"ea")
 }
 
 // Whether a text is an `m` and digits.

@@ -1,12 +1,13 @@
 //! Why a text is no version: what stands where it could become one no more.
 
-ghost use Rattle.std.specs.Prelude.{◌≡◌, false, true, IfNone, IfSome};
+ghost use Rattle.std.specs.Prelude.{◌≡◌, ◌≤◌, false, length, true, IfNone, IfSome};
 ghost use Rattle.std.specs.Option.{option_map_or};
 ghost use Rattle.version_viable.specs.declared.flaw.Reason.TheVariants.{Empty, NothingAfter};
-ghost use Rattle.version_viable.specs.Flaw.{IsFlaw, byte_before, is_blank, is_control, is_mark, is_version, is_zero, reason_after, reason_at, reason_of_byte, reason_text};
+ghost use Rattle.version_viable.specs.Flaw.{IsFlaw, byte_before, ends_in_zero_led, has_byte, has_late_colon, has_wrong_number, is_blank, is_control, is_mark, is_version, is_zero, reason_after, reason_at, reason_of_byte, reason_of_mark, reason_text, reason_unfinished};
 
 use crate::viable::viable_length;
 use version_schemes::{AnyVersion, Scheme};
+use version_texts::is_digits;
 
 /// A mark, which stands between the parts of a version.
 #[derive(Clone, Copy, Debug, PartialEq, Eq)]
@@ -37,8 +38,11 @@ pub enum Reason {
     NotAscii,
     /// A mark of the scheme at the beginning, or after another.
     EmptyPart,
-    /// A digit after a zero that a number can't begin with.
+    /// A digit after a zero that a number can't begin with; or the text ends or has a mark after a number with a leading
+    /// zero, which letters may follow.
     LeadingZero,
+    /// A colon after a hyphen, or the text ends and has one: what follows the last hyphen has no colon.
+    LateColon,
     /// Another byte.
     Other,
 }
@@ -60,7 +64,7 @@ impl Flaw {
         ensures none { IfNone result (is_version scheme text.now ≡ true) }
         ensures some { IfSome result (λ flaw. IsFlaw scheme text.now flaw.place flaw.reason) }
     {
-        if AnyVersion::read(scheme, text).is_some() {
+        if is_version(scheme, text) {
             return None;
         }
         let place = viable_length(scheme, text);
@@ -71,14 +75,22 @@ impl Flaw {
     }
 }
 
+// Returns whether a text is a version.
+fn is_version(scheme: Scheme, text: &[u8]) -> bool
+    ensures { result ≡ is_version scheme text.now }
+{
+    AnyVersion::read(scheme, text).is_some()
+}
+
 // Returns why a text that could become a version up to a place is none.
 fn reason_at(scheme: Scheme, text: &[u8], place: usize) -> Reason
+    requires { place ≤ length text.now }
     ensures { result ≡ reason_at scheme text.now place }
 {
     let last = byte_before(text, place);
     match text.get(place) {
-        Some(byte) => reason_of_byte(scheme, last, *byte),
-        None => reason_of_end(last),
+        Some(byte) => reason_of_byte(scheme, &text[..place], last, *byte),
+        None => reason_of_end(scheme, text, last),
     }
 }
 
@@ -92,9 +104,9 @@ fn byte_before(text: &[u8], place: usize) -> Option<u8>
     text.get(place - 1).copied()
 }
 
-// Returns the reason by the byte that a text can't go on with, and the one before it.
-fn reason_of_byte(scheme: Scheme, last: Option<u8>, byte: u8) -> Reason
-    ensures { result ≡ reason_of_byte scheme last byte }
+// Returns the reason by the byte that a text can't go on with, what it begins with, and the last byte of that.
+fn reason_of_byte(scheme: Scheme, begun: &[u8], last: Option<u8>, byte: u8) -> Reason
+    ensures { result ≡ reason_of_byte scheme begun.now last byte }
 {
     if is_blank(byte) {
         return Reason::Blank;
@@ -111,7 +123,67 @@ fn reason_of_byte(scheme: Scheme, last: Option<u8>, byte: u8) -> Reason
     if byte.is_ascii_digit() && ends_in_zero(last) {
         return Reason::LeadingZero;
     }
+    if is_mark(scheme, byte) {
+        return reason_of_mark(scheme, begun, byte);
+    }
     Reason::Other
+}
+
+// Returns the reason by a mark that a text can't go on with after what it begins with.
+fn reason_of_mark(scheme: Scheme, begun: &[u8], byte: u8) -> Reason
+    ensures { result ≡ reason_of_mark scheme begun.now byte }
+{
+    if has_wrong_number(scheme, begun) {
+        return Reason::LeadingZero;
+    }
+    if byte == b':' && has_byte(begun, b'-') {
+        return Reason::LateColon;
+    }
+    Reason::Other
+}
+
+// Whether a number at its end keeps a text from being a version.
+fn has_wrong_number(scheme: Scheme, text: &[u8]) -> bool
+    ensures { result ≡ has_wrong_number scheme text.now }
+{
+    !is_version(scheme, text) && ends_in_zero_led(text)
+}
+
+// Whether a text ends in a number with a leading zero. Each run of digits is looked at once more.
+fn ends_in_zero_led(text: &[u8]) -> bool
+    ensures { result ≡ ends_in_zero_led false text.now }
+{
+    let mut digit_before = false;
+    let mut left = text;
+    while let [byte, rest @ ..] = left {
+        if !digit_before && *byte == b'0' && is_digits(rest) {
+            return true;
+        }
+        digit_before = byte.is_ascii_digit();
+        left = rest;
+    }
+    false
+}
+
+// Whether a text has a byte.
+fn has_byte(text: &[u8], wanted: u8) -> bool
+    ensures { result ≡ has_byte wanted text.now }
+{
+    text.iter().any(|byte| *byte == wanted)
+}
+
+// Whether a text has a colon after a hyphen.
+fn has_late_colon(text: &[u8]) -> bool
+    ensures { result ≡ has_late_colon text.now }
+{
+    let mut left = text;
+    while let [byte, rest @ ..] = left {
+        if *byte == b'-' {
+            return has_byte(rest, b':');
+        }
+        left = rest;
+    }
+    false
 }
 
 // Whether there is no byte, or it is a mark.
@@ -161,19 +233,19 @@ fn is_control(byte: u8) -> bool
     byte < 32 || byte == 127
 }
 
-// Returns the reason by the last byte of a text that has to go on.
-fn reason_of_end(last: Option<u8>) -> Reason
-    ensures { result ≡ option_map_or reason_after last Empty }
+// Returns the reason by a text that has to go on, and its last byte.
+fn reason_of_end(scheme: Scheme, text: &[u8], last: Option<u8>) -> Reason
+    ensures { result ≡ option_map_or (reason_after scheme text.now) last Empty }
 {
     match last {
         None => Reason::Empty,
-        Some(last) => reason_after(last),
+        Some(last) => reason_after(scheme, text, last),
     }
 }
 
-// Returns the reason by the last byte of a text that has to go on.
-fn reason_after(last: u8) -> Reason
-    ensures { result ≡ reason_after last }
+// Returns the reason by a text that has to go on, and its last byte.
+fn reason_after(scheme: Scheme, text: &[u8], last: u8) -> Reason
+    ensures { result ≡ reason_after scheme text.now last }
 {
     match last {
         b'-' => Reason::NothingAfter(Mark::Hyphen),
@@ -183,8 +255,21 @@ fn reason_after(last: u8) -> Reason
         b'_' => Reason::NothingAfter(Mark::Underscore),
         b'~' => Reason::NothingAfter(Mark::Tilde),
         b'!' => Reason::NothingAfter(Mark::Exclamation),
-        _ => Reason::Unfinished,
+        _ => reason_unfinished(scheme, text),
     }
+}
+
+// Returns the reason by a text that ends in no mark, and has to go on.
+fn reason_unfinished(scheme: Scheme, text: &[u8]) -> Reason
+    ensures { result ≡ reason_unfinished scheme text.now }
+{
+    if has_wrong_number(scheme, text) {
+        return Reason::LeadingZero;
+    }
+    if has_late_colon(text) {
+        return Reason::LateColon;
+    }
+    Reason::Unfinished
 }
 
 impl Reason {
@@ -201,6 +286,7 @@ impl Reason {
             Reason::NotAscii => "a character past ASCII",
             Reason::EmptyPart => "an empty part",
             Reason::LeadingZero => "a number with a leading zero",
+            Reason::LateColon => "a colon after the hyphen",
             Reason::Other => "a character that can't stand there",
         }
     }

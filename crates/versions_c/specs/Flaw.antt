@@ -5,7 +5,7 @@ use Rattle.version_viable.specs.Flaw.{is_version, reason_at, reason_text}
 use Rattle.version_viable.specs.Viable.{IsLongestViable}
 use Rattle.version_viable.specs.declared.flaw.Mark.TheVariants.{Colon, Dot, Exclamation, Hyphen, Plus, Tilde, Underscore}
 use Rattle.version_viable.specs.declared.flaw.Reason.{Reason}
-use Rattle.version_viable.specs.declared.flaw.Reason.TheVariants.{Blank, Control, Empty, EmptyPart, LeadingZero, NotAscii, NothingAfter, Other, Unfinished}
+use Rattle.version_viable.specs.declared.flaw.Reason.TheVariants.{Blank, Control, Empty, EmptyPart, LateColon, LeadingZero, NotAscii, NothingAfter, Other, Unfinished}
 use Rattle.versions_c.specs.Written.{IsWritten}
 use Rattle.versions_c.specs.declared.flaw.TheConstants as reason
 use Rattle.versions_c.specs.declared.status.TheConstants.{IS_VERSION, OK}
@@ -32,6 +32,7 @@ reason_code NotAscii = reason.NOT_ASCII
 reason_code EmptyPart = reason.EMPTY_PART
 reason_code LeadingZero = reason.LEADING_ZERO
 reason_code Other = reason.OTHER
+reason_code LateColon = reason.LATE_COLON
 
 -- Why a text could not become a version past some place is written into a buffer if it fits.
 pub record IsWhyWritten (scheme : Scheme) (text old new : List ℕ) (len : ℕ) (status : ℤ) : Type 0 where

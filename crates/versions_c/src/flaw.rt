@@ -38,10 +38,12 @@ pub const CONTROL: u32 = 11;
 pub const NOT_ASCII: u32 = 12;
 /// A mark at the beginning, or after another.
 pub const EMPTY_PART: u32 = 13;
-/// A digit after a zero that a number can't begin with.
+/// A number with a leading zero: a digit stands there, or what ends it.
 pub const LEADING_ZERO: u32 = 14;
 /// Another byte.
 pub const OTHER: u32 = 15;
+/// A colon after a hyphen.
+pub const LATE_COLON: u32 = 16;
 
 /// Writes how far a text could become a version of a scheme, and why it is none.
 #[unsafe(no_mangle)]
@@ -131,6 +133,7 @@ fn reason_code(reason: Reason) -> u32
         Reason::NotAscii => NOT_ASCII,
         Reason::EmptyPart => EMPTY_PART,
         Reason::LeadingZero => LEADING_ZERO,
+        Reason::LateColon => LATE_COLON,
         Reason::Other => OTHER,
     }
 }
