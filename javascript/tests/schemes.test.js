@@ -74,9 +74,33 @@ test("the names of all schemes", () => {
   }
 });
 
+test("the names of people, in any case", () => {
+  // Of each scheme, from docs/SCHEMES.md.
+  const named = {
+    mixed: "", deb: "debian ubuntu", rpm: "redhat fedora suse", pypi: "python pip pep440", semver: "npm cargo crates.io",
+    gem: "rubygems ruby",
+  };
+  assert.deepEqual(Object.keys(named), SCHEMES);
+  const [, union] = readFileSync(`${folder}/index.d.ts`, "utf8").match(/^export type SchemeName =\n {2}\| Scheme\n(.*?);$/ms);
+  const all = Object.values(named).flatMap((names) => names.split(" ").filter((name) => name !== ""));
+  assert.deepEqual([...union.matchAll(/"(.*?)"/g)].map((found) => found[1]), all);
+  for (const [scheme, names] of Object.entries(named)) {
+    for (const its of [scheme, ...names.split(" ").filter((name) => name !== "")]) {
+      for (const written of [its, its.toUpperCase(), its[0].toUpperCase() + its.slice(1)]) {
+        for (const [name, call] of Object.entries(CALLS)) {
+          const answer = call({ scheme: written });
+          assert.equal(shown(answer), shown(call({ scheme })), `${name} ${written}`);
+          if (typeof answer === "object" && "scheme" in answer) assert.equal(answer.scheme, scheme, name);
+        }
+      }
+    }
+  }
+  assert.throws(() => newest(["1"], { scheme: "Debian", tags: true }), { message: /for the scheme mixed alone, and this is deb$/ });
+});
+
 test("what is no scheme", () => {
   for (const call of Object.values(CALLS)) {
-    for (const wrong of ["dpkg", "Deb", "deb ", "deb\0", "", "\ud800", "é", "toString", "0", "d".repeat(1_000_000)]) {
+    for (const wrong of ["dpkg", "debia", "deb ", "deb\0", "", "\ud800", "é", "toString", "0", "d".repeat(1_000_000)]) {
       const message = `a scheme is one of ${SCHEMES.join(", ")}, and this is ${JSON.stringify(wrong)}`;
       assert.throws(() => call({ scheme: wrong }), { name: "RangeError", message });
     }
