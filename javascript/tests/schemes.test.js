@@ -54,12 +54,17 @@ const CALLS = {
 };
 const shown = (value) => inspect(value);
 
+// Each scheme of the page, and what else it is called there.
+const [, TABLE] = readFileSync(new URL("../../docs/SCHEMES.md", import.meta.url), "utf8").split("| scheme | also called |");
+const NAMES = new Map(
+  [...TABLE.split("\n\n")[0].matchAll(/^\| `(\w+)` \| ([^|]*)\|/gm)].map(([, scheme, cell]) => [
+    scheme, [...cell.matchAll(/`(.*?)`/g)].map((found) => found[1]),
+  ]),
+);
+
 test("the names of all schemes", () => {
   assert.ok(Object.isFrozen(SCHEMES));
-  // The rows of the page.
-  const page = readFileSync(new URL("../../docs/SCHEMES.md", import.meta.url), "utf8");
-  const [, table] = page.split("| scheme | its versions |");
-  assert.deepEqual(SCHEMES, [...table.split("\n\n")[0].matchAll(/^\| `(\w+)` \|/gm)].map((found) => found[1]));
+  assert.deepEqual(SCHEMES, [...NAMES.keys()]);
   const [, union] = readFileSync(`${folder}/index.d.ts`, "utf8").match(/^export type Scheme = (.*);$/m);
   assert.deepEqual(union.split(" | "), SCHEMES.map((name) => JSON.stringify(name)));
   for (const [name, call] of Object.entries(CALLS)) {
@@ -75,17 +80,12 @@ test("the names of all schemes", () => {
 });
 
 test("the names of people, in any case", () => {
-  // Of each scheme, from docs/SCHEMES.md.
-  const named = {
-    mixed: "", deb: "debian ubuntu", rpm: "redhat fedora suse", pypi: "python pip pep440", semver: "npm cargo crates.io",
-    gem: "rubygems ruby",
-  };
-  assert.deepEqual(Object.keys(named), SCHEMES);
   const [, union] = readFileSync(`${folder}/index.d.ts`, "utf8").match(/^export type SchemeName =\n {2}\| Scheme\n(.*?);$/ms);
-  const all = Object.values(named).flatMap((names) => names.split(" ").filter((name) => name !== ""));
+  const all = [...NAMES.values()].flat();
+  assert.ok(all.length > 12);
   assert.deepEqual([...union.matchAll(/"(.*?)"/g)].map((found) => found[1]), all);
-  for (const [scheme, names] of Object.entries(named)) {
-    for (const its of [scheme, ...names.split(" ").filter((name) => name !== "")]) {
+  for (const [scheme, names] of NAMES) {
+    for (const its of [scheme, ...names]) {
       for (const written of [its, its.toUpperCase(), its[0].toUpperCase() + its.slice(1)]) {
         for (const [name, call] of Object.entries(CALLS)) {
           const answer = call({ scheme: written });

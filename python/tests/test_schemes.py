@@ -3,8 +3,10 @@
 import copy
 import inspect
 import itertools
+import os
 import pickle
 import random
+import re
 import struct
 import unittest
 from typing import get_args
@@ -14,6 +16,8 @@ import versions
 from counted import of_library
 from lists import LongLists
 from versions import InvalidVersion, InvalidVersionSet, Requirement, SCHEMES, Version, VersionSet
+
+PAGE = os.path.join(os.path.dirname(os.path.abspath(__file__)), "..", "..", "docs", "SCHEMES.md")
 
 # In increasing order by Debian Policy, 5.6.12. Those of one line are equal.
 DEB = [line.split() for line in """
@@ -130,12 +134,13 @@ class Names(unittest.TestCase):
             self.assertEqual(call(), call(scheme="mixed"), name)
 
     def test_the_names_of_people(self):
-        # Of each scheme, from docs/SCHEMES.md.
-        named = {"mixed": "", "deb": "debian ubuntu", "rpm": "redhat fedora suse", "pypi": "python pip pep440",
-                 "semver": "npm cargo crates.io", "gem": "rubygems ruby"}
-        self.assertEqual(tuple(named), SCHEMES)
-        known = {scheme: [scheme, *names.split()] for scheme, names in named.items()}
-        self.assertEqual(get_args(versions.Scheme), SCHEMES)
+        # Each scheme of the page, and what else it is called there.
+        with open(PAGE, encoding="utf-8") as page:
+            table = page.read().split("| scheme | also called |")[1].split("\n\n")[0]
+        rows = re.findall(r"^\| `(\w+)` \| ([^|]*)\|", table, re.M)
+        known = {scheme: [scheme, *re.findall("`(.*?)`", cell)] for scheme, cell in rows}
+        self.assertEqual((tuple(known), get_args(versions.Scheme)), (SCHEMES, SCHEMES))
+        self.assertGreater(sum(map(len, known.values())), 18)
         self.assertEqual(set(get_args(versions.SchemeName)), {name for names in known.values() for name in names})
         for name, call in CALLS.items():
             for scheme, names in known.items():
