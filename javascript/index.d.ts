@@ -15,6 +15,14 @@ export type Kind = "ideal" | "general" | "complex";
 export type Stability = "dev" | "alpha" | "beta" | "rc" | "stable";
 /** An order of versions, with the texts that it reads: that of this project, or of another system. */
 export type Scheme = "mixed" | "deb" | "rpm" | "pypi" | "semver" | "gem";
+/** What names a scheme: also the names that people know its system by. The library takes each in any case. */
+export type SchemeName =
+  | Scheme
+  | "debian" | "ubuntu"
+  | "redhat" | "fedora" | "suse"
+  | "python" | "pip" | "pep440"
+  | "npm" | "cargo" | "crates.io"
+  | "rubygems" | "ruby";
 export type Text = string | Version;
 /** What stands for no text: the calls for many texts answer null for it, as for a text that is not a version. */
 export type Missing = null | undefined;
@@ -29,7 +37,7 @@ export const SCHEMES: readonly Scheme[];
 
 export interface SchemeOptions {
   /** The scheme of the call, mixed where it isn't given. RangeError for a name of none. */
-  scheme?: Scheme;
+  scheme?: SchemeName;
 }
 
 /** A text is not a version of the scheme, or a tag has none. */
@@ -288,7 +296,8 @@ export function sort<Item>(
   options: SortOptions<Item, Text | Missing> & { key: (item: Item) => Text | Missing },
 ): Item[];
 
-// The names of npm's package semver.
+// Names of npm's package semver. The requirements are those of `Requirement`, and not the ranges of npm: ^1.2 doesn't
+// match 1.2.5.
 export function gt(a: Text, b: Text, options?: SchemeOptions): boolean;
 export function gte(a: Text, b: Text, options?: SchemeOptions): boolean;
 export function lt(a: Text, b: Text, options?: SchemeOptions): boolean;
@@ -305,14 +314,17 @@ export function patch(text: Text): number | null;
 export function valid(text: Text | Missing): string | null;
 /** The text, or null where it is not a requirement. */
 export function validRange(text: string | Requirement | Missing): string | null;
-/** Whether the requirement matches, or the set has it. False where one of the two is none, or is missing. */
+/**
+ * Whether the requirement matches, or the set has it. InvalidRequirement for a text that is not a requirement, as 1.x.
+ * False for a text that is not a version, and where one of the two is missing.
+ */
 export function satisfies(text: Text | Missing, requirement: string | Requirement | VersionSet | Missing): boolean;
-/** The newest item that matches, or null, also where the requirement is none, or is missing. */
+/** The newest item that matches, or null, also where the requirement is missing. InvalidRequirement as above. */
 export function maxSatisfying<Item extends Text>(
   texts: Iterable<Item | Missing>,
   requirement: string | Requirement | VersionSet | Missing,
 ): Item | null;
-/** The oldest item that matches, or null, also where the requirement is none, or is missing. */
+/** The oldest item that matches, or null, also where the requirement is missing. InvalidRequirement as above. */
 export function minSatisfying<Item extends Text>(
   texts: Iterable<Item | Missing>,
   requirement: string | Requirement | VersionSet | Missing,

@@ -58,11 +58,11 @@ function schemeNames() {
 
 const nameOfScheme = (scheme) => SCHEMES[scheme - MIXED];
 
-// The number of the scheme that has a name.
-function numberOfScheme(name = "mixed") {
-  const place = SCHEMES.indexOf(name);
-  if (place < 0) throw new RangeError(`a scheme is one of ${SCHEMES.join(", ")}, and this is ${JSON.stringify(name)}`);
-  return MIXED + place;
+// The number of the scheme that has a name, which the library reads.
+function numberOfScheme(name) {
+  if (name === undefined) return MIXED;
+  if (call.versions_scheme(FROM, big(write(asText(name))), SLOTS[0]) === OK) return words[START / 4];
+  throw new RangeError(`a scheme is one of ${SCHEMES.join(", ")}, and this is ${JSON.stringify(name)}`);
 }
 
 const ofScheme = (name) => (name === "mixed" ? "" : ` of ${name}`);
@@ -473,7 +473,7 @@ export function newest(texts, options = {}) {
   if (least === 0 && stability !== null) throw new RangeError(`no stability: ${JSON.stringify(stability)}`);
   if (scheme !== MIXED) {
     if (least > 0 || tags) {
-      throw new RangeError(`stability and tags are for the scheme mixed alone, and this is ${name}`);
+      throw new RangeError(`stability and tags are for the scheme mixed alone, and this is ${nameOfScheme(scheme)}`);
     }
     return newestIn(scheme, texts, requirement ?? "*");
   }
@@ -1064,7 +1064,7 @@ export class VersionSet {
 }
 
 /*
- * The names of npm's package semver, where they mean the same.
+ * Names of npm's package semver. The requirements are those of this package, and not the ranges of npm.
  */
 
 export const gt = (a, b, options) => compare(a, b, options) > 0;
@@ -1079,33 +1079,39 @@ export const major = (text) => new Version(text).major;
 export const minor = (text) => new Version(text).minor;
 export const patch = (text) => new Version(text).patch;
 
-// A requirement, or null for a missing value and for a text that is none. A set stays itself, and answers as one.
-function asRequirement(text) {
+// The requirement that a text is, and null for a missing value. A set stays itself, and answers as one.
+function wantedOf(text) {
   if (isMissing(text)) return null;
-  if (formOf(text) !== undefined) return text;
-  try {
-    return new Requirement(text);
-  } catch (error) {
-    if (error instanceof InvalidRequirement) return null;
-    throw error;
-  }
+  return formOf(text) === undefined ? new Requirement(text) : text;
 }
 
 // The number of the scheme of such a requirement or set.
 const schemeOfWanted = (wanted) => formOf(wanted)?.scheme ?? MIXED;
 
 export const valid = (text) => (isMissing(text) || kind(text) === null ? null : textOf(text));
-export const validRange = (text) => asRequirement(text)?.toString() ?? null;
-export const satisfies = (text, requirement) => !isMissing(text) && (asRequirement(requirement)?.has(text) ?? false);
+
+export function validRange(text) {
+  try {
+    return wantedOf(text)?.toString() ?? null;
+  } catch (error) {
+    if (error instanceof InvalidRequirement) return null;
+    throw error;
+  }
+}
+
+export function satisfies(text, requirement) {
+  const wanted = wantedOf(requirement);
+  return !isMissing(text) && (wanted?.has(text) ?? false);
+}
 
 export function maxSatisfying(texts, requirement) {
-  const wanted = asRequirement(requirement);
+  const wanted = wantedOf(requirement);
   const scheme = nameOfScheme(schemeOfWanted(wanted));
   return wanted === null ? null : newest(texts, { requirement: wanted, scheme });
 }
 
 export function minSatisfying(texts, requirement) {
-  const wanted = asRequirement(requirement);
+  const wanted = wantedOf(requirement);
   const scheme = schemeOfWanted(wanted);
   return foremost(wanted?.filter(texts) ?? [], (one, other) => compareIn(scheme, one, other));
 }

@@ -300,8 +300,18 @@ test("the member that is wrong", () => {
     refusesRequirement(() => new Requirement(text), text, start, member);
     refusesRequirement(() => versions.matchAll(text, []), text, start, member);
     refusesRequirement(() => versions.newest([], { requirement: text }), text, start, member);
-    assert.deepEqual([versions.validRange(text), versions.satisfies("1", text)], [null, false]);
+    refusesRequirement(() => versions.satisfies("1", text), text, start, member);
+    refusesRequirement(() => versions.satisfies(null, text), text, start, member);
+    refusesRequirement(() => versions.maxSatisfying([], text), text, start, member);
+    refusesRequirement(() => versions.minSatisfying(["1"], text), text, start, member);
+    assert.equal(versions.validRange(text), null);
   }
+  // Ranges as npm writes them.
+  for (const text of ["1.x", "1.2.5", ">=1.2.0 <2.0.0", "^1 || ^2", "1.2.3 - 2"]) {
+    refusesRequirement(() => versions.satisfies("1.2.5", text), text, 0, text);
+    refusesRequirement(() => versions.maxSatisfying(["1.2.5"], text), text, 0, text);
+  }
+  assert.deepEqual([versions.satisfies("x y", "*"), versions.maxSatisfying(["x y"], "*")], [false, null]);
   const made = new versions.InvalidRequirement("*,*");
   assert.deepEqual([made.start, made.member], [0, "*,*"]);
 });

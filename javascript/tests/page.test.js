@@ -53,7 +53,9 @@ test("what differs from semver", () => {
   assert.ok(rows.length > 8);
   for (const [call, there, here] of rows) {
     for (const [of, said] of [[semver, there], [versions, here]]) {
-      assert.deepEqual(new Function("of", `with (of) return ${call}`)(of), JSON.parse(said), call);
+      const answer = () => new Function("of", `with (of) return ${call}`)(of);
+      if (said.startsWith("Invalid")) assert.throws(answer, { name: said }, call);
+      else assert.deepEqual(answer(), JSON.parse(said), call);
     }
     assert.notEqual(there, here);
   }

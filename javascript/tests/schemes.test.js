@@ -54,12 +54,17 @@ const CALLS = {
 };
 const shown = (value) => inspect(value);
 
+// Each scheme of the page, and what else it is called there.
+const [, TABLE] = readFileSync(new URL("../../docs/SCHEMES.md", import.meta.url), "utf8").split("| scheme | also called |");
+const NAMES = new Map(
+  [...TABLE.split("\n\n")[0].matchAll(/^\| `(\w+)` \| ([^|]*)\|/gm)].map(([, scheme, cell]) => [
+    scheme, [...cell.matchAll(/`(.*?)`/g)].map((found) => found[1]),
+  ]),
+);
+
 test("the names of all schemes", () => {
   assert.ok(Object.isFrozen(SCHEMES));
-  // The rows of the page.
-  const page = readFileSync(new URL("../../docs/SCHEMES.md", import.meta.url), "utf8");
-  const [, table] = page.split("| scheme | its versions |");
-  assert.deepEqual(SCHEMES, [...table.split("\n\n")[0].matchAll(/^\| `(\w+)` \|/gm)].map((found) => found[1]));
+  assert.deepEqual(SCHEMES, [...NAMES.keys()]);
   const [, union] = readFileSync(`${folder}/index.d.ts`, "utf8").match(/^export type Scheme = (.*);$/m);
   assert.deepEqual(union.split(" | "), SCHEMES.map((name) => JSON.stringify(name)));
   for (const [name, call] of Object.entries(CALLS)) {
@@ -74,9 +79,28 @@ test("the names of all schemes", () => {
   }
 });
 
+test("the names of people, in any case", () => {
+  const [, union] = readFileSync(`${folder}/index.d.ts`, "utf8").match(/^export type SchemeName =\n {2}\| Scheme\n(.*?);$/ms);
+  const all = [...NAMES.values()].flat();
+  assert.ok(all.length > 12);
+  assert.deepEqual([...union.matchAll(/"(.*?)"/g)].map((found) => found[1]), all);
+  for (const [scheme, names] of NAMES) {
+    for (const its of [scheme, ...names]) {
+      for (const written of [its, its.toUpperCase(), its[0].toUpperCase() + its.slice(1)]) {
+        for (const [name, call] of Object.entries(CALLS)) {
+          const answer = call({ scheme: written });
+          assert.equal(shown(answer), shown(call({ scheme })), `${name} ${written}`);
+          if (typeof answer === "object" && "scheme" in answer) assert.equal(answer.scheme, scheme, name);
+        }
+      }
+    }
+  }
+  assert.throws(() => newest(["1"], { scheme: "Debian", tags: true }), { message: /for the scheme mixed alone, and this is deb$/ });
+});
+
 test("what is no scheme", () => {
   for (const call of Object.values(CALLS)) {
-    for (const wrong of ["dpkg", "Deb", "deb ", "deb\0", "", "\ud800", "é", "toString", "0", "d".repeat(1_000_000)]) {
+    for (const wrong of ["dpkg", "debia", "deb ", "deb\0", "", "\ud800", "é", "toString", "0", "d".repeat(1_000_000)]) {
       const message = `a scheme is one of ${SCHEMES.join(", ")}, and this is ${JSON.stringify(wrong)}`;
       assert.throws(() => call({ scheme: wrong }), { name: "RangeError", message });
     }

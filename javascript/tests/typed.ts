@@ -1,7 +1,7 @@
 // What the types of the package let through, and what they refuse. It is compiled and never run.
 import {
-  type Difference, type Interval, type Kind, type Mismatch, type Range, type Scheme, type Stability, InvalidRequirement,
-  InvalidVersion, InvalidVersionSet, Requirement, SCHEMES, STABILITIES, Version, VersionSet, compare, compareTotal,
+  type Difference, type Interval, type Kind, type Mismatch, type Range, type Scheme, type SchemeName, type Stability,
+  InvalidRequirement, InvalidVersion, InvalidVersionSet, Requirement, SCHEMES, STABILITIES, Version, VersionSet, compare, compareTotal,
   inTags, kind, kinds, major, matchAll, maxSatisfying, minSatisfying, newest, satisfies, sort, sortKey, sortKeys,
   stabilities, valid,
 } from "./index.js";
@@ -36,7 +36,8 @@ const error: RangeError = new InvalidRequirement("x");
 const text: string = new InvalidVersion("x").text;
 const flaw: [number | null, string | null] = [new InvalidVersion("x-").place, new InvalidVersion("x-").reason];
 const scheme: Scheme = SCHEMES[0] ?? version.scheme;
-const deb: Version = new Version("1.0~rc1", { scheme });
+const names: SchemeName[] = ["debian", "npm", "crates.io", scheme];
+const deb: Version = new Version("1.0~rc1", { scheme: names[0] ?? "deb" });
 const set: VersionSet = new VersionSet(">=1.2, <2 || ^3");
 const other: VersionSet = VersionSet.of("1.0", { scheme: "deb" }).and(new VersionSet(set)).or(set).not();
 const hasIt: boolean = set.has("1.2") && set.matches(deb) && set.isPartOf(other) && set.meets(other) && set.equals(other);
@@ -80,7 +81,7 @@ version.kind = "ideal";
 major("1").toFixed();
 
 // @ts-expect-error: there is no such scheme.
-compare("1", "2", { scheme: "npm" });
+compare("1", "2", { scheme: "debain" });
 // @ts-expect-error: a scheme is an option.
 sortKeys(["1"], "deb");
 // @ts-expect-error: a set is computed with a set, and not with its text.
@@ -92,5 +93,5 @@ set.scheme = "deb";
 // @ts-expect-error: compareTotal is of mixed alone.
 compareTotal("1", "2", { scheme: "mixed" });
 
-export { all, answers, best, error, field, filtered, found, is, key, keys, last, most, number, of, range, rated, rows };
+export { all, answers, best, error, field, filtered, found, is, key, keys, last, most, names, number, of, range, rated, rows };
 export { bySchemes, had, hasIt, high, inSet, kept, low, sign, sorted, stable, tag, text, texts, values, why, wrong };

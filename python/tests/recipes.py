@@ -26,6 +26,7 @@ import warnings
 from collections import Counter
 from functools import partial
 from html.parser import HTMLParser
+from types import SimpleNamespace
 from urllib.parse import quote
 
 import numpy
@@ -585,6 +586,11 @@ class Resolver(unittest.TestCase):
             self.assertNotIn("Traceback", done.stderr)
 
 
+def partial_of(scheme):
+    """The package, whose keys are those of a scheme."""
+    return SimpleNamespace(sort_keys=partial(versions.sort_keys, scheme=scheme))
+
+
 class Columns(unittest.TestCase):
     def test_missing_values_of_each_type(self):
         kinds = ["general", None, "general", None, "ideal"]
@@ -640,6 +646,21 @@ class Columns(unittest.TestCase):
         for missing in (pandas.Series([None, None], dtype="float32"), pandas.Series([None] * 2, dtype="datetime64[ns]")):
             self.assert_alike(versions.kinds(missing), missing, [None, None])
             self.assert_alike(versions.VersionSet("*").has_all(missing), missing, [False, False])
+
+    def test_keys_as_bytes_of_numpy(self):
+        chosen, found = random.Random(12), set()
+        for scheme in versions.SCHEMES:
+            system = system_of("deb" if scheme == "mixed" else scheme)
+            drawn = [system.draw(chosen) for _ in range(5000)] + ["0", "1.0.0-a", "1.0.0-0", "1.0-a0", "1.0+a0", "1_0"]
+            texts = [text for text, key in zip(drawn, versions.sort_keys(drawn, scheme=scheme)) if key is not None]
+            names = {"numpy": numpy, "versions": partial_of(scheme), "texts": texts}
+            exec(recipe("PYTHON.md", "numpy"), names)
+            column, keys = names["keys"], versions.sort_keys(texts, scheme=scheme)
+            self.assertGreater(len(keys), 1000, scheme)
+            self.assertEqual((column.dtype.kind, column.tolist()), ("S", keys))
+            self.assertEqual(numpy.sort(column).tolist(), sorted(keys))
+            found |= {key[-1] for key in keys}
+        self.assertEqual(found, {1, 2, 3})
 
     def test_a_column_whose_export_fails(self):
         class Series(pandas.Series):

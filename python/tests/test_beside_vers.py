@@ -123,7 +123,7 @@ class BesideVers(LongLists):
         values = [versions.Version(text) for text, kind in zip(texts, kinds) if kind is not None]
         self.assertEqual([str(value) for value in wanted.filter(values)], matched, list_)
         self.assertEqual([text for text, a in zip(texts, versions.match_all(list_, texts)) if a], matched, list_)
-        self.assertEqual([text for text in texts if text in wanted], matched, list_)
+        self.assertEqual([text for text in texts if versions.kind(text) and text in wanted], matched, list_)
         range_, is_matched = wanted.range, set(matched)
         for value in values:
             answer, text = wanted.matches(value), str(value)
@@ -173,9 +173,10 @@ class BesideVers(LongLists):
             self.assertAlike([answer is None for answer in answers], [kind is None for kind in self.kinds])
         wanted = versions.Requirement("^1.1.1")
         for text, kind, answer in zip(self.texts, self.kinds, versions.match_all(wanted, self.texts)):
-            self.assertIs(text in wanted, answer is True)
-            if kind is not None:
-                self.assertIs(wanted.matches(text), answer)
+            if kind is None:
+                self.assertRaises(versions.InvalidVersion, wanted.__contains__, text)
+            else:
+                self.assertEqual((text in wanted, wanted.matches(text)), (answer, answer))
 
     def test_which_texts_are_requirements(self):
         for operator, line in self.shapes.requirement_texts(self.lines):

@@ -744,7 +744,8 @@ class Package(unittest.TestCase):
     def test_names(self):
         for name in (*versions.__all__, "sorted"):
             self.assertTrue(hasattr(versions, name), name)
-            self.assertTrue(name in ("Kind", "__version__") or getattr(versions, name).__doc__, name)
+            is_known = name in ("Kind", "Scheme", "SchemeName", "__version__")
+            self.assertTrue(is_known or getattr(versions, name).__doc__, name)
 
     def test_functions_are_of_the_package(self):
         one, many = ("kind", "sort_key", "compare", "compare_total"), ("kinds", "sort_keys", "match_all", "sorted")

@@ -3,16 +3,21 @@
 import copy
 import inspect
 import itertools
+import os
 import pickle
 import random
+import re
 import struct
 import unittest
+from typing import get_args
 
 import arrow
 import versions
 from counted import of_library
 from lists import LongLists
 from versions import InvalidVersion, InvalidVersionSet, Requirement, SCHEMES, Version, VersionSet
+
+PAGE = os.path.join(os.path.dirname(os.path.abspath(__file__)), "..", "..", "docs", "SCHEMES.md")
 
 # In increasing order by Debian Policy, 5.6.12. Those of one line are equal.
 DEB = [line.split() for line in """
@@ -128,10 +133,29 @@ class Names(unittest.TestCase):
                 self.assertIn(getattr(answer, "scheme", scheme), (scheme,))
             self.assertEqual(call(), call(scheme="mixed"), name)
 
+    def test_the_names_of_people(self):
+        # Each scheme of the page, and what else it is called there.
+        with open(PAGE, encoding="utf-8") as page:
+            table = page.read().split("| scheme | also called |")[1].split("\n\n")[0]
+        rows = re.findall(r"^\| `(\w+)` \| ([^|]*)\|", table, re.M)
+        known = {scheme: [scheme, *re.findall("`(.*?)`", cell)] for scheme, cell in rows}
+        self.assertEqual((tuple(known), get_args(versions.Scheme)), (SCHEMES, SCHEMES))
+        self.assertGreater(sum(map(len, known.values())), 18)
+        self.assertEqual(set(get_args(versions.SchemeName)), {name for names in known.values() for name in names})
+        for name, call in CALLS.items():
+            for scheme, names in known.items():
+                answer = call(scheme=scheme)
+                for its in names:
+                    for written in (its, its.upper(), its.title(), Evil(its)):
+                        found = call(scheme=written)
+                        self.assertEqual(found, answer, (name, written))
+                        self.assertEqual(getattr(found, "scheme", scheme), scheme)
+                        self.assertEqual(repr(found), repr(answer))
+
     def test_what_is_no_name(self):
         listed = f"a scheme is one of {', '.join(SCHEMES)}, and this is "
         for name, call in CALLS.items():
-            for wrong in ("dpkg", "Deb", "deb ", "deb\0", "", "\ud800", "é", "d" * 1_000_000):
+            for wrong in ("dpkg", "debia", "deb ", "deb\0", "", "\ud800", "é", "d" * 1_000_000):
                 with self.subTest(name, wrong=wrong[:9]), self.assertRaises(ValueError) as raised:
                     call(scheme=wrong)
                 self.assertEqual(type(raised.exception), ValueError)
@@ -213,7 +237,9 @@ class Calls(LongLists):
                 lambda: versions.sort_key(other, scheme="deb"),
                 lambda: versions.compare("1", other, scheme="deb"),
                 lambda: deb(other),
-                lambda: debs(other),
+                lambda: Version(other),
+                lambda: VersionSet.of(other),
+                lambda: debs(deb("1") if other == debs("*") else other),
             ):
                 self.assertRaisesRegex(TypeError, "a text is a str", call)
         for call in (versions.sort_keys, versions.sorted, versions.newest):
@@ -370,7 +396,8 @@ class Versions(unittest.TestCase):
         a, b, requirement, both = Version("1.0"), deb("1.0"), Requirement(">=1.0"), TWO.format("mixed", "deb")
         strict, in_tags = Requirement("=1.0"), VersionSet("*")
         for call in (
-            lambda: Version(b),
+            lambda: Version(b, scheme="mixed"),
+            lambda: VersionSet(debs("*"), scheme="mixed"),
             lambda: versions.kind(b),
             lambda: versions.sort_key(b),
             lambda: versions.compare(a, b),
@@ -398,7 +425,11 @@ class Versions(unittest.TestCase):
             lambda: strict.filter([a, b]),
             lambda: requirement.why_not(b),
             lambda: strict.why_not(b),
-            lambda: VersionSet.of(b),
+            lambda: VersionSet.of(b, scheme="mixed"),
+            lambda: VersionSet.union([in_tags, debs("*")]),
+            lambda: VersionSet.union([debs("*")], scheme="mixed"),
+            lambda: in_tags - debs("*"),
+            lambda: in_tags ^ debs("*"),
             lambda: b in in_tags,
             lambda: in_tags.filter([a, b]),
             lambda: in_tags.has_all([b]),
@@ -409,6 +440,9 @@ class Versions(unittest.TestCase):
             self.assertEqual(str(raised.exception), both, inspect.getsource(call))
         for call in (
             lambda: deb(a),
+            lambda: debs(in_tags),
+            lambda: debs("*") - in_tags,
+            lambda: VersionSet.union([debs("*"), debs("=1"), in_tags]),
             lambda: versions.sort_key(a, scheme="deb"),
             lambda: versions.compare(a, b, scheme="deb"),
             lambda: versions.compare("1", a, scheme="deb"),
@@ -430,15 +464,22 @@ class Versions(unittest.TestCase):
     def test_what_versions_of_mixed_alone_have(self):
         for version in (deb("1:1.0~rc1-1"), DebVersion("1.2.3"), MyVersion("1.2.3", scheme="deb")):
             names = "kind is_ideal is_general is_complex is_prerelease stability pre_release release metadata epoch"
-            for name in (*names.split(), "major", "minor", "patch", "_mixed"):
+            methods = "nth difference next next_release next_pre"
+            for name in (*names.split(), "major", "minor", "patch", "_mixed", *methods.split()):
                 with self.subTest(name):
                     self.assertRaisesRegex(AttributeError, f"^{NO_PARTS}$", getattr, version, name)
                     self.assertFalse(hasattr(version, name))
                     self.assertTrue(hasattr(Version("1.2.3"), name))
             for call in (lambda: version.nth(0), lambda: version.next(0), lambda: version.difference("1.0")):
                 self.assertRaisesRegex(AttributeError, f"^{NO_PARTS}$", call)
-            for call in (version.next_release, version.next_pre, lambda: version.next_pre("rc")):
+            for call in (lambda: version.next_release(), lambda: version.next_pre("rc")):
                 self.assertRaisesRegex(AttributeError, f"^{NO_PARTS}$", call)
+        # Of the class, and of a version of mixed, they are what they are elsewhere.
+        self.assertEqual(Version.next(Version("1.2.3"), place=0), Version("1.2.3").next(place=0))
+        self.assertRaisesRegex(AttributeError, f"^{NO_PARTS}$", Version.next, deb("1.0"), 0)
+        self.assertEqual(list(inspect.signature(Version("1.2.3").next).parameters), ["place"])
+        self.assertTrue(Version("1.2.3").next.__doc__.startswith("The least version after it"))
+        self.assertEqual((Version.next.__name__, Version.next.__qualname__), ("next", "Version.next"))
 
     def test_how_they_are_shown(self):
         for make, shown in ((Version, "Version('0:1.0-1', scheme='deb')"),
@@ -458,8 +499,13 @@ class Versions(unittest.TestCase):
         self.assertEqual([Version("1.0").scheme, Version("1.0", scheme="mixed").scheme], ["mixed"] * 2)
 
     def test_a_version_of_a_version(self):
-        for again in (deb(deb("0:1.0")), deb(DebVersion("0:1.0")), DebVersion(deb("0:1.0"))):
+        for again in (deb(deb("0:1.0")), deb(DebVersion("0:1.0")), DebVersion(deb("0:1.0")), Version(deb("0:1.0")),
+                      MyVersion(DebVersion("0:1.0")), Version(text=deb("0:1.0"))):
             self.assertEqual((str(again), again.key, again.scheme), ("0:1.0", deb("1.0").key, "deb"))
+        for scheme in SCHEMES:
+            made = Version("1.0.0", scheme=scheme)
+            self.assertEqual((Version(made), Version(made).scheme), (made, scheme))
+            self.assertEqual(VersionSet.of(made), VersionSet("=1.0.0", scheme=scheme))
 
     def test_pickles_and_copies(self):
         plain, mine, slotted = deb("0:1.0"), MyVersion("1.0-0", scheme="deb"), DebVersion("1.0")
@@ -544,6 +590,20 @@ class Sets(unittest.TestCase):
         self.assertEqual({made.scheme for made in (low & high, low | high, ~low)}, {"deb"})
         key = deb("1.0").key
         self.assertEqual((low.intervals, high.intervals), (((b"", key),), ((key, None),)))
+
+    def test_of_each_scheme(self):
+        for scheme in SCHEMES:
+            made = VersionSet(">=1.0.0", scheme=scheme)
+            for again in (VersionSet(made), VersionSet(made, scheme=scheme)):
+                self.assertEqual((again, str(again), again.scheme), (made, ">=1.0.0", scheme))
+            full, empty = VersionSet.all(scheme), VersionSet.empty(scheme=scheme)
+            self.assertEqual((full, str(full), full.scheme), (VersionSet("*", scheme=scheme), "*", scheme))
+            self.assertEqual((empty, empty.scheme, bool(empty)), (~full, scheme, False))
+            for union in (VersionSet.union([made, ~made]), VersionSet.union([full], scheme=scheme)):
+                self.assertEqual((union, union.scheme), (full, scheme))
+            self.assertEqual(VersionSet.union([], scheme=scheme), empty)
+            self.assertEqual((made - full, full - made, made ^ full, made ^ empty), (empty, ~made, ~made, made))
+        self.assertEqual(VersionSet.union([], scheme="deb"), debs(">1 <1"))
 
     def test_sets_of_two_schemes(self):
         a, b = VersionSet(">=1.0"), debs(">=1.0")

@@ -7,6 +7,7 @@ import pickle
 import random
 import sys
 import threading
+import time
 import unittest
 import weakref
 
@@ -180,7 +181,8 @@ class Sets(unittest.TestCase):
         for other in (None, 1.2, 5, b"*", ["*"], Version("1.2"), Requirement("*"), VersionSet("*"), object):
             with self.subTest(other=other):
                 words = f"a text is a str, and this is of type {type(other).__name__}"
-                self.assertRaisesRegex(TypeError, words, VersionSet, other)
+                if not isinstance(other, VersionSet):
+                    self.assertRaisesRegex(TypeError, words, VersionSet, other)
                 if not isinstance(other, Version):
                     self.assertRaisesRegex(TypeError, words, VersionSet.of, other)
                     self.assertRaisesRegex(TypeError, words, ALL.__contains__, other)
@@ -308,9 +310,10 @@ class Values(unittest.TestCase):
         for other in ("^1.2", made._form, 1, None, Version("1.2"), Requirement("^1.2"), {"1.2"}, VersionSet):
             with self.subTest(other=other):
                 self.assertNotEqual(made, other)
-                for name in ("and", "or", "le", "lt", "ge", "gt", "eq", "ne"):
+                for name in ("and", "or", "sub", "xor", "le", "lt", "ge", "gt", "eq", "ne"):
                     self.assertIs(getattr(made, f"__{name}__")(other), NotImplemented)
-                for call in (lambda: made & other, lambda: other | made, lambda: made <= other, lambda: other > made):
+                for call in (lambda: made & other, lambda: other | made, lambda: made <= other, lambda: other > made,
+                             lambda: made - other, lambda: other - made, lambda: made ^ other, lambda: other ^ made):
                     self.assertRaises(TypeError, call)
                 self.assertRaisesRegex(TypeError, f"VersionSet, and this is of type {type(other).__name__}",
                                        made.isdisjoint, other)
@@ -401,11 +404,54 @@ class Values(unittest.TestCase):
 
         plain, mine, mixed = VersionSet("<2"), MySet(">=1"), Mixed("^1")
         for a, b in itertools.product((plain, mine, mixed), repeat=2):
-            self.assertEqual([type(made) for made in (a & b, a | b, ~a)], [VersionSet] * 3)
+            self.assertEqual([type(made) for made in (a & b, a | b, ~a, a - b, a ^ b)], [VersionSet] * 5)
         self.assertEqual((mine & plain, plain & mixed), (VersionSet(">=1 <2"), VersionSet("^1")))
         self.assertTrue(mixed < mine and mixed <= plain and plain > mixed and not plain.isdisjoint(mixed))
         self.assertEqual(versions.match_all(mixed, ["1.2", "2"]), [True, False])
         self.assertEqual((repr(mixed), str(mixed)), ("Mixed('^1')", "^1"))
+
+    def test_a_set_of_a_set(self):
+        for made, text, shown in (*made_in_each_way(), *computed()):
+            for again in (VersionSet(made), VersionSet(made, scheme="mixed"), VersionSet(text=MySet(made))):
+                self.assertEqual((type(again), again, hash(again)), (VersionSet, made, hash(made)))
+                self.assertEqual((str(again), repr(again), again._form), (text, shown, made._form))
+            mine = MySet(made)
+            self.assertEqual((type(mine), mine, str(mine)), (MySet, made, text))
+            self.assertEqual(pickle.loads(pickle.dumps(mine)), made)
+
+    def test_all_and_nothing(self):
+        for cls in (VersionSet, MySet, Told):
+            full, empty = cls.all(), cls.empty()
+            self.assertEqual((type(full), full, str(full)), (cls, ALL, "*"))
+            self.assertEqual((type(empty), empty, str(empty), bool(empty)), (cls, NOTHING, "nothing", False))
+        for call in (VersionSet.all, VersionSet.empty):
+            self.assertRaisesRegex(ValueError, "a scheme is one of mixed, deb", call, "dpkg")
+            self.assertRaisesRegex(TypeError, "a scheme is a str", call, VersionSet("*"))
+
+    def test_the_union_of_many(self):
+        texts = [f"={n * 7 % 33}" for n in range(33)]
+        for count in range(33):
+            sets, either = [MySet(text) for text in texts[:count]], VersionSet(" || ".join(texts[:count]) or ">1 <1")
+            for given in (sets, iter(sets), (made for made in sets), sets + [NOTHING] + sets):
+                made = VersionSet.union(given, scheme="mixed")
+                self.assertEqual((type(made), made, made._text, made._version), (VersionSet, either, None, None))
+        self.assertEqual(MySet.union(sets=[VersionSet("<1"), VersionSet(">=1")]), ALL)
+        self.assertEqual(VersionSet.union([VersionSet("<1")]), VersionSet("<1"))
+        self.assertRaisesRegex(ValueError, "of no sets, the scheme is to be given", VersionSet.union, [])
+        for wrong in (["*"], "*", [ALL, None], [ALL, Version("1")], [[ALL]], [Requirement("*")]):
+            self.assertRaisesRegex(TypeError, "a set of versions is a VersionSet, and this is of", VersionSet.union, wrong)
+        for wrong in (ALL, None, 5):
+            self.assertRaisesRegex(TypeError, "is not iterable", VersionSet.union, wrong)
+        self.assertRaises(OSError, VersionSet.union, failing())
+
+    @of_library
+    def test_the_union_of_a_hundred_thousand(self):
+        sets = [VersionSet.of(str(n)) for n in range(100_000)]
+        random.Random(10).shuffle(sets)
+        began = time.process_time()
+        self.assertEqual(len(VersionSet.union(sets).intervals), 100_000)
+        # Each merged into all before it would copy more than 50 GB.
+        self.assertLess(time.process_time() - began, 10)
 
     def test_weak_references(self):
         for make in (VersionSet, MySet):
@@ -483,6 +529,10 @@ class Laws(unittest.TestCase):
             self.assertEqual(both.has_all(VERSIONS), [x and y for x, y in zip(in_a, in_b)])
             self.assertEqual(either.has_all(VERSIONS), [x or y for x, y in zip(in_a, in_b)])
             self.assertEqual((~both, ~either), (~a | ~b, ~a & ~b))
+            self.assertEqual((a - b).has_all(VERSIONS), [x and not y for x, y in zip(in_a, in_b)])
+            self.assertEqual((a ^ b).has_all(VERSIONS), [x != y for x, y in zip(in_a, in_b)])
+            self.assertEqual((a - b, a ^ b, a ^ b ^ b), (a & ~b, either - both, a))
+            self.assertEqual(VersionSet.union([a, b, a]), either)
             self.assertEqual((both, either, a & either, a | both), (b & a, b | a, a, a))
             self.assertTrue(both <= a <= either and either >= b >= both)
             # Each of these by the others

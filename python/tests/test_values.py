@@ -381,12 +381,12 @@ class Requirements(unittest.TestCase):
     def test_no_version(self):
         anything = Requirement("*")
         for text in NONE:
-            with self.subTest(text=text):
-                with self.assertRaises(InvalidVersion) as raised:
-                    anything.matches(text)
+            for call in (anything.matches, anything.__contains__, lambda text: text in anything):
+                with self.subTest(text=text), self.assertRaises(InvalidVersion) as raised:
+                    call(text)
                 error = raised.exception
+                self.assertEqual((error.text, type(error.text)), (text, str))
                 self.assertEqual(str(error), f"not a version: {text!r}; at {error.place}: {error.reason}")
-                self.assertNotIn(text, anything)
         for other in (None, 1.2, b"1.2", anything):
             self.assertRaises(TypeError, anything.matches, other)
             self.assertRaises(TypeError, anything.__contains__, other)

@@ -6,7 +6,8 @@ from typing import Optional, Union
 
 import versions
 from versions import Difference, DifferenceKind, Mismatch, Reason, Stability
-from versions import InvalidRequirement, InvalidVersion, InvalidVersionSet, Kind, Requirement, Version, VersionSet
+from versions import InvalidRequirement, InvalidVersion, InvalidVersionSet, Kind, Requirement, Scheme, SchemeName
+from versions import Version, VersionSet
 
 version = Version("1.2.3")
 kind: Kind = version.kind
@@ -53,6 +54,8 @@ with_all: list[Union[str, Version, None]] = versions.sorted(["1.2", version, Non
 rows: list[tuple[int, str]] = versions.sorted([(1, "1.2")], key=lambda row: row[1], reverse=True)
 rows_last: list[tuple[Optional[str]]] = versions.sorted([("1.2",), (None,)], key=lambda row: row[0], invalid="last")
 in_set: VersionSet = VersionSet("^1.2") & ~VersionSet("=1.3") | VersionSet.of(version) | VersionSet.of("1.2")
+of_set: VersionSet = VersionSet(in_set) - VersionSet.all("deb") ^ VersionSet.empty()
+of_sets: VersionSet = VersionSet.union([in_set]) | VersionSet.union(iter([in_set]), scheme="deb")
 in_sets: bool = "1.2" in in_set or version in in_set or in_set <= ~in_set or in_set.isdisjoint(in_set) or bool(in_set)
 has_all: list[Optional[bool]] = in_set.has_all(["1.2", version, None]) + versions.match_all(in_set, ["1.2"])
 kept_versions: list[Version] = in_set.filter(in_order)
@@ -71,9 +74,12 @@ again: Version = Version(version)
 text: str = InvalidVersion("1..2").text + InvalidRequirement("1").text + versions.__version__
 why_none: tuple[Optional[int], Optional[str]] = (InvalidVersion("1..2").place, InvalidVersion("1..2").reason)
 errors: list[type[ValueError]] = [InvalidVersion, InvalidRequirement, InvalidVersionSet]
-schemes: tuple[str, ...] = versions.SCHEMES
+schemes: tuple[Scheme, ...] = versions.SCHEMES
 of_deb: Version = Version("1.0", scheme="deb")
-scheme: str = of_deb.scheme + VersionSet("*", scheme=schemes[0]).scheme + InvalidVersion("1-", "deb").scheme
+scheme: Scheme = of_deb.scheme
+scheme = VersionSet("*", scheme=schemes[0]).scheme or InvalidVersion("1-", scheme).scheme
+of_people: list[SchemeName] = ["debian", "npm", "crates.io", scheme]
+of_debian: Version = Version(of_deb, scheme="debian") or Version(of_deb, scheme=of_people[0])
 key_of_deb: bytes = versions.sort_key(of_deb, scheme="deb")
 keys_of_deb: list[Optional[bytes]] = versions.sort_keys(["1.0", None], scheme="deb")
 order_of_deb: int = versions.compare(of_deb, "1.0", scheme="deb")
@@ -113,6 +119,7 @@ class MySet(VersionSet):
 
 
 my_set: MySet = MySet.of("1.2")
+my_sets: list[MySet] = [MySet.all(), MySet.empty("deb"), MySet(in_set)]
 
 # What is wrong at run time is an error of the type checker, too: each comment is one that it must need.
 version < "1.2"  # type: ignore[operator]
@@ -135,6 +142,12 @@ VersionSet(version)  # type: ignore[arg-type]
 VersionSet.of(1.2)  # type: ignore[arg-type]
 Version("1.0", "deb")  # type: ignore[misc]
 versions.compare("1", "2", scheme=2)  # type: ignore[arg-type]
+versions.compare("1", "2", scheme="debain")  # type: ignore[arg-type]
+Version("1", scheme="Deb")  # type: ignore[arg-type]
+version.next("1")  # type: ignore[arg-type]
+VersionSet.union(["*"])  # type: ignore[list-item]
+in_set - "1.2"  # type: ignore[operator]
+in_set ^ wanted  # type: ignore[operator]
 versions.compare_total("1", "2", scheme="deb")  # type: ignore[call-arg]
 InvalidRequirement("1", "deb")  # type: ignore[call-arg]
 in_set & wanted  # type: ignore[operator]

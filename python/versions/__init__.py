@@ -30,6 +30,7 @@ from ._library import (
 from ._library import sorted as sorted
 from ._requirement import Mismatch, Range, Reason, Requirement
 from ._set import VersionSet
+from ._value import Scheme, SchemeName
 from ._version import Difference, DifferenceKind, Kind, Stability, Version
 
 # Without `sorted`, which would hide Python's own from `from versions import *`.
@@ -45,6 +46,8 @@ __all__ = [
     "Reason",
     "Requirement",
     "SCHEMES",
+    "Scheme",
+    "SchemeName",
     "Stability",
     "Version",
     "VersionSet",
@@ -63,6 +66,6 @@ __all__ = [
 
 # They pickle and are shown under the name by which they are used.
 for _name in (*__all__, "sorted"):
-    if callable(globals()[_name]) and _name != "Kind":
+    if callable(globals()[_name]) and _name not in ("Kind", "Scheme", "SchemeName"):
         globals()[_name].__module__ = __name__
 del _name

@@ -5,6 +5,7 @@ from __future__ import annotations
 from typing import Optional
 
 from . import _library
+from ._value import Scheme
 
 
 class _Invalid(ValueError):
@@ -23,9 +24,9 @@ class _Invalid(ValueError):
 class _InvalidInScheme(_Invalid):
     """The same of a text that was read in a scheme, which is its second argument where it isn't mixed."""
 
-    def __init__(self, text: str, scheme: str = "mixed") -> None:
+    def __init__(self, text: str, scheme: Scheme = "mixed") -> None:
         super().__init__(text)
-        self.scheme = scheme
+        self.scheme: Scheme = scheme
         if scheme != "mixed":
             self.args = (text, scheme)
 

@@ -37,7 +37,7 @@ static PyObject *kind(PyObject *module, PyObject *args, PyObject *named) {
 static PyObject *sort_key(PyObject *Py_UNUSED(module), PyObject *args, PyObject *named) {
   static char *names[] = {"text", "scheme", NULL};
   PyObject *object;
-  uint32_t scheme;
+  uint32_t scheme = VERSIONS_MIXED;
   uint8_t kind;
 
   if (read_with_scheme(args, named, "O|$O:sort_key", names, &object, NULL, &scheme) < 0) return NULL;
@@ -90,7 +90,7 @@ static PyObject *compared(comparison *call, uint32_t scheme, PyObject *first, Py
 static PyObject *compare(PyObject *Py_UNUSED(module), PyObject *args, PyObject *named) {
   static char *names[] = {"a", "b", "scheme", NULL};
   PyObject *a, *b;
-  uint32_t scheme;
+  uint32_t scheme = VERSIONS_MIXED;
 
   if (read_with_scheme(args, named, "OO|$O:compare", names, &a, &b, &scheme) < 0) return NULL;
   return compared(compare_in, scheme, a, b);
@@ -736,7 +736,7 @@ static PyObject *in_tags(PyObject *Py_UNUSED(module), PyObject *args, PyObject *
 
 static PyObject *sort_keys(PyObject *Py_UNUSED(module), PyObject *args, PyObject *named) {
   static char *names[] = {"texts", "scheme", NULL};
-  struct call call = {.ask = ask_sort_keys};
+  struct call call = {.ask = ask_sort_keys, .scheme = VERSIONS_MIXED};
   PyObject *texts;
 
   if (read_with_scheme(args, named, "O|$O:sort_keys", names, &texts, NULL, &call.scheme) < 0) return NULL;

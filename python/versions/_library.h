@@ -55,6 +55,9 @@ void *raise_status(int status);
  * Schemes, by their numbers (_texts.c)
  */
 
+/* What is the number of no scheme: none is given. */
+#define NO_SCHEME 0
+
 /* A tuple of the names of all schemes, and the name of one. */
 PyObject *scheme_names(void);
 PyObject *scheme_name(uint32_t scheme);
@@ -64,6 +67,9 @@ int read_scheme(PyObject *object, uint32_t *scheme);
 
 /* TypeError for what is of another scheme than is wanted. */
 void *raise_schemes(uint32_t wanted, uint32_t given);
+
+/* The scheme that is given, or where none is that of the Version or VersionSet that an object is; mixed of a text. */
+uint32_t scheme_or_its(uint32_t given, PyObject *object);
 
 /*
  * One text (_texts.c)
@@ -91,7 +97,10 @@ void take_again(PyThreadState *thread);
  */
 int read_arguments(PyObject *args, PyObject *named, const char *format, char **names, PyObject **a, PyObject **b);
 
-/* The same where a scheme may come too, by its name: the format ends with "|$O". It is mixed where none is given. */
+/*
+ * The same where a scheme may come too, by its name: the format ends with "|$O". Where none is given, `scheme` stays as
+ * it is.
+ */
 int read_with_scheme(PyObject *args, PyObject *named, const char *format, char **names, PyObject **a, PyObject **b,
                      uint32_t *scheme);
 

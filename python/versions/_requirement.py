@@ -63,11 +63,11 @@ class Requirement(Value, _library.Ranged):
 
     It can't be changed. `InvalidRequirement` where the text is not a requirement. Two are equal where their texts are.
     `=` compares the fields of versions and not their precedence: `Requirement("=1.0")` doesn't match `0:1.0`, though
-    `Version("1.0") == Version("0:1.0")`. `in` is False for a text that is not a version, where `matches` raises.
+    `Version("1.0") == Version("0:1.0")`. `in` is `matches`: `InvalidVersion` for a text that is not a version.
 
     >>> wanted = Requirement(">=1.1.1,<2.0.0")
-    >>> wanted.matches("1.5"), wanted.matches(Version("2.0.0")), "1.1.1" in wanted, "1..2" in wanted
-    (True, False, True, False)
+    >>> wanted.matches("1.5"), wanted.matches(Version("2.0.0")), "1.1.1" in wanted
+    (True, False, True)
     >>> "0:1.0" in Requirement("=1.0"), "0:1.0" in Requirement(">=1.0,<=1.0")
     (False, True)
     >>> wanted.low == sort_key("1.1.1"), wanted.high == sort_key("2.0.0")

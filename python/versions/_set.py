@@ -2,20 +2,23 @@
 
 from __future__ import annotations
 
-from typing import TYPE_CHECKING, Any, Optional, SupportsIndex, Union, overload
+from typing import TYPE_CHECKING, Any, Iterable, Optional, SupportsIndex, Union, overload
 
 from . import _library
-from ._value import shown_scheme
+from ._value import SchemeName, shown_scheme
 
 if TYPE_CHECKING:
+    from typing_extensions import Self
+
     from ._library import Series, Texts
 
 
 class VersionSet(_library.Formed):
     """A set of versions, as `>=1.2, <2 || ^3`, which can't be changed. `InvalidVersionSet` where the text is not a set.
 
-    It is of the `scheme` mixed, or of another of `SCHEMES`, by whose order it goes then. Sets of two are never equal,
-    and with `&`, `<=` and all else a `TypeError`.
+    It is made of a text, or of a `VersionSet`, whose scheme it has then. A text is read in the `scheme` mixed, or in
+    another of `SCHEMES`, by whose order the set goes then. Sets of two schemes are never equal, and with `&`, `<=` and
+    all else a `TypeError`.
 
     It is alternatives with `||` between them, each of members with a comma or blanks between them. A member is `*` for
     all versions, or an operator and a version r. `<r`, `<=r`, `>r` and `>=r` go by precedence, and so does all else, so
@@ -25,7 +28,8 @@ class VersionSet(_library.Formed):
     or its only part; `^r` what is not before r, and has its parts through the first that is not zero, or all.
 
     `version in a` takes a `Version` or a text, and raises `InvalidVersion` for a text that is not a version. `a & b`
-    has what both have, `a | b` what one of them has, and `~a` all else. `a <= b` is whether each key of `a` is in `b`,
+    has what both have, `a | b` what one of them has, `a - b` what `a` has and `b` hasn't, `a ^ b` what one of them has
+    alone, and `~a` all else. `a <= b` is whether each key of `a` is in `b`,
     `a < b` whether `b` has another too, and `bool(a)` whether `a` has a key. Two that have the same keys are equal, and
     hash alike, however they were made. What is computed of subclasses is a `VersionSet`.
 
@@ -34,7 +38,7 @@ class VersionSet(_library.Formed):
     (True, False, True)
     >>> VersionSet(">=1.2") & VersionSet("<2") | VersionSet("^3") == wanted
     True
-    >>> VersionSet("~1.2.3") < VersionSet("^1.2"), bool(wanted & ~wanted)
+    >>> VersionSet("~1.2.3") < VersionSet("^1.2"), bool(wanted - wanted)
     (True, False)
 
     `intervals` has the keys from the first of each pair on that are below the second, or all where that is None. A key
@@ -59,6 +63,58 @@ class VersionSet(_library.Formed):
         for name in ("__copy__", "__deepcopy__"):
             if getattr(cls, name) is getattr(VersionSet, name):
                 setattr(cls, name, None)
+
+    @classmethod
+    def all(cls, scheme: SchemeName = "mixed") -> Self:
+        """The set of all versions of a scheme, `*`.
+
+        >>> "1.0~rc1" in VersionSet.all("deb")
+        True
+        """
+        return cls._of_form(_library.Formed("*", scheme=scheme)._form, "*", None)
+
+    @classmethod
+    def empty(cls, scheme: SchemeName = "mixed") -> Self:
+        """The set of no version of a scheme.
+
+        >>> VersionSet.empty() == VersionSet(">1 <1"), bool(VersionSet.empty("deb"))
+        (True, False)
+        """
+        return cls._of_form((~_library.Formed("*", scheme=scheme))._form, None, None)
+
+    @classmethod
+    def union(cls, sets: Iterable[VersionSet], *, scheme: Optional[SchemeName] = None) -> VersionSet:
+        """The set of what one of many sets has, of any iterable. `|` one after another would copy what grows each time.
+
+        The sets are of one scheme, or it is a `TypeError`: of the `scheme` that is given, else of that of the first.
+        `ValueError` where there is no set and no scheme.
+
+        >>> VersionSet.union(map(VersionSet, ["=1.2", "^3", "<1"])) == VersionSet("<1 || =1.2 || ^3")
+        True
+        >>> VersionSet.union([], scheme="deb")
+        <VersionSet: nothing, scheme='deb'>
+        """
+        level = list(sets)
+        for each in level:
+            if not isinstance(each, VersionSet):
+                name = type(each).__name__
+                raise TypeError(f"a set of versions is a VersionSet, and this is of type {name}: {each!r}")
+        if scheme is None:
+            if not level:
+                raise ValueError("of no sets, the scheme is to be given")
+            scheme = level[0].scheme
+        # Two and two, so that each form is copied as often as the logarithm of their number.
+        level.insert(0, VersionSet.empty(scheme))
+        while len(level) > 1:
+            pairs = zip(level[::2], level[1::2])
+            level = [one | other for one, other in pairs] + level[len(level) // 2 * 2 :]
+        return level[0]
+
+    def __sub__(self, other: VersionSet) -> VersionSet:
+        return self & ~other if isinstance(other, VersionSet) else NotImplemented
+
+    def __xor__(self, other: VersionSet) -> VersionSet:
+        return self - other | other - self if isinstance(other, VersionSet) else NotImplemented
 
     @overload
     def has_all(self, texts: Series) -> Any: ...

@@ -115,11 +115,17 @@ PyObject *form_in(uint32_t scheme, PyObject *object) {
 
 static PyObject *formed_new(PyTypeObject *type, PyObject *args, PyObject *named) {
   static char *names[] = {"text", "scheme", NULL};
-  PyObject *object;
-  uint32_t scheme;
+  PyObject *object, *text, *version = NULL;
+  uint32_t scheme = NO_SCHEME;
 
   if (read_with_scheme(args, named, "O|$O:VersionSet", names, &object, NULL, &scheme) < 0) return NULL;
-  return made(type, scheme, form_of_text(scheme, object), object, NULL);
+  scheme = scheme_or_its(scheme, object);
+  text = object;
+  if (is_formed(object)) {
+    text = ((struct formed *)object)->text;
+    version = ((struct formed *)object)->version;
+  }
+  return made(type, scheme, form_in(scheme, object), text, version);
 }
 
 static int ask_of(uint32_t scheme, const struct text *version, uint8_t *room, size_t *size) {
@@ -150,9 +156,10 @@ static PyObject *form_of_version(uint32_t scheme, PyObject *object) {
 static PyObject *formed_of(PyObject *type, PyObject *args, PyObject *named) {
   static char *names[] = {"version", "scheme", NULL};
   PyObject *object;
-  uint32_t scheme;
+  uint32_t scheme = NO_SCHEME;
 
   if (read_with_scheme(args, named, "O|$O:of", names, &object, NULL, &scheme) < 0) return NULL;
+  scheme = scheme_or_its(scheme, object);
   object = text_of(object, scheme);
   return object == NULL ? NULL : made((PyTypeObject *)type, scheme, form_of_version(scheme, object), NULL, object);
 }
@@ -544,8 +551,8 @@ PyDoc_STRVAR(formed_doc,
 
 PyDoc_STRVAR(of_doc,
              "of($type, version, *, scheme='mixed')\n--\n\n"
-             "The set of what ties with a version, a `Version` or a text. `InvalidVersion` for a text that is not a "
-             "version.\n"
+             "The set of what ties with a version, a text or a `Version`, whose scheme it takes. `InvalidVersion` for "
+             "a text that is not a version.\n"
              "\n"
              ">>> \"0:1.2\" in VersionSet.of(\"1.2\"), VersionSet.of(\"1.2\") == VersionSet(\"=1.2\")\n"
              "(True, True)\n"

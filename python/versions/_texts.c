@@ -155,6 +155,12 @@ void *raise_schemes(uint32_t wanted, uint32_t given) {
   return NULL;
 }
 
+uint32_t scheme_or_its(uint32_t given, PyObject *object) {
+  if (given != NO_SCHEME) return given;
+  if (is_keyed(object)) return keyed_scheme(object);
+  return is_formed(object) ? formed_set(object).scheme : VERSIONS_MIXED;
+}
+
 /*
  * One text
  */
@@ -197,7 +203,6 @@ int read_with_scheme(PyObject *args, PyObject *named, const char *format, char *
                      uint32_t *scheme) {
   PyObject *name = NULL;
 
-  *scheme = VERSIONS_MIXED;
   if (named == NULL) return read_arguments(args, named, format, names, a, b);
   /* The scheme follows the one argument, or the two. */
   if (!PyArg_ParseTupleAndKeywords(args, named, format, names, a, b == NULL ? &name : b, &name)) return -1;

@@ -1,8 +1,28 @@
-"""What `Version` and `Requirement` have in common."""
+"""What the values have in common."""
 
 from __future__ import annotations
 
-from typing import Any, SupportsIndex, Union
+from typing import Any, Literal, SupportsIndex, Union
+
+Scheme = Literal["mixed", "deb", "rpm", "pypi", "semver", "gem"]
+
+# What names a scheme: also the names that people know its system by. The library takes each in any case.
+SchemeName = Literal[
+    Scheme,
+    "debian",
+    "ubuntu",
+    "redhat",
+    "fedora",
+    "suse",
+    "python",
+    "pip",
+    "pep440",
+    "npm",
+    "cargo",
+    "crates.io",
+    "rubygems",
+    "ruby",
+]
 
 
 def shown_scheme(scheme: str) -> str:

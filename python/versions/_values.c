@@ -110,10 +110,11 @@ static PyObject *keyed_new(PyTypeObject *type, PyObject *args, PyObject *named) 
   static char *names[] = {"text", "scheme", NULL};
   PyObject *object, *key;
   struct keyed *keyed;
-  uint32_t scheme;
+  uint32_t scheme = NO_SCHEME;
   uint8_t kind;
 
   if (read_with_scheme(args, named, "O|$O:Version", names, &object, NULL, &scheme) < 0) return NULL;
+  scheme = scheme_or_its(scheme, object);
   key = key_of(object, scheme, &kind);
   keyed = key == NULL ? NULL : (struct keyed *)PyType_GenericAlloc(type, 0);
   if (keyed == NULL) {
@@ -492,7 +493,9 @@ static PyObject *ranged_why_not(PyObject *self, PyObject *version) {
 static int ranged_contains(PyObject *self, PyObject *version) {
   int answer = match_one(&((struct ranged *)self)->range, version);
 
-  return answer == 2 ? 0 : answer;
+  if (answer != 2) return answer;
+  raise_invalid("InvalidVersion", version, VERSIONS_MIXED);
+  return -1;
 }
 
 static PyObject *ranged_str(PyObject *self) {

@@ -3,11 +3,12 @@
 from __future__ import annotations
 
 import enum
-from typing import TYPE_CHECKING, Any, Literal, NamedTuple, Optional, SupportsIndex, Union
+import functools
+from typing import TYPE_CHECKING, Any, Callable, Literal, NamedTuple, Optional, SupportsIndex, TypeVar, Union, cast
 
 from . import _library
 from ._errors import InvalidVersion
-from ._value import Value, shown_scheme
+from ._value import Scheme, Value, shown_scheme
 
 if TYPE_CHECKING:
     from typing_extensions import Self
@@ -107,12 +108,34 @@ _DIFFERENCES = {
 }
 
 
+Method = TypeVar("Method", bound=Callable[..., Any])
+
+
+class _MethodOfMixed:
+    """A method that a version of another scheme hasn't: an `AttributeError`, so that `hasattr` is False of it."""
+
+    def __init__(self, method: Callable[..., Any]) -> None:
+        functools.update_wrapper(self, method)
+        self._method = method
+
+    def __get__(self, version: Optional[Version], owner: Optional[type] = None) -> Any:
+        if version is None:
+            return self._method
+        version._mixed
+        return self._method.__get__(version, owner)
+
+
+def _of_mixed(method: Method) -> Method:
+    return cast(Method, _MethodOfMixed(method))
+
+
 class Version(Value, _library.Keyed):
     """A version of any kind, which can't be changed. `InvalidVersion` where the text is not a version.
 
-    It is made of a text, or of a `Version`, whose text it has then. It is of the `scheme` mixed, or of another of
-    `SCHEMES`, by whose order it compares then. Versions of two schemes are never equal, and to order them is a
-    `TypeError`. Kind, numbers, fields and stability are for versions of mixed, and an `AttributeError` of any other.
+    It is made of a text, or of a `Version`, whose text and scheme it has then. A text is read in the `scheme` mixed, or
+    in another of `SCHEMES`, by whose order the version compares then. Versions of two schemes are never equal, and to
+    order them is a `TypeError`. Kind, numbers, fields, stability and what comes next are for versions of mixed, and an
+    `AttributeError` of any other.
 
     Comparisons, `==` and hashes go by precedence, the one order of all versions, and so by `key`. The text stays as it
     was written, and `str` returns it. Equal versions may have different texts. The requirement `=` distinguishes them:
@@ -128,6 +151,8 @@ class Version(Value, _library.Keyed):
     Version('1.10')
     >>> Version("1.0~rc1", scheme="deb") < Version("1.0", scheme="deb") == Version("1.0-0", scheme="deb")
     True
+    >>> [hasattr(Version("1.0", scheme=scheme), "next") for scheme in ("mixed", "deb")]
+    [True, False]
     >>> Version("1..2")
     Traceback (most recent call last):
     versions.InvalidVersion: not a version: '1..2'; at 2: an empty part
@@ -136,7 +161,7 @@ class Version(Value, _library.Keyed):
     __slots__ = ("__weakref__",)
 
     @classmethod
-    def _in_scheme(cls, text: str, scheme: str) -> Self:
+    def _in_scheme(cls, text: str, scheme: Scheme) -> Self:
         # What a pickle of another scheme than mixed holds. A subclass may have a `__new__` that takes no scheme.
         return _library.Keyed.__new__(cls, text, scheme=scheme)
 
@@ -211,6 +236,7 @@ class Version(Value, _library.Keyed):
         """
         return Stability(_library.stability(self._mixed))
 
+    @_of_mixed
     def difference(self, other: Union[str, Version]) -> Difference:
         """Where it first differs from another version, a `Version` or a text. `InvalidVersion` where that is none.
 
@@ -223,6 +249,7 @@ class Version(Value, _library.Keyed):
         kind = DifferenceKind(number)
         return Difference(kind, part if kind is DifferenceKind.PART else None)
 
+    @_of_mixed
     def next(self, place: int) -> Self:
         """The least version after it that has zeros after a place, its epoch, as many parts, and nothing after them.
 
@@ -242,6 +269,7 @@ class Version(Value, _library.Keyed):
             raise ValueError(f"{self._text} has no next version at place {place}")
         return type(self)(text)
 
+    @_of_mixed
     def next_release(self) -> Self:
         """The version that comes next at the last place of its numbers: the release that a pre-release precedes, or the
         one after a release.
@@ -256,6 +284,7 @@ class Version(Value, _library.Keyed):
             raise ValueError(f"{self._text} has no next release")
         return type(self)(text)
 
+    @_of_mixed
     def next_pre(self, word: Optional[str] = None) -> Self:
         """The least version after a strict one with its major and minor numbers whose pre-release is a word and one
         number from 1 on.
@@ -340,6 +369,7 @@ class Version(Value, _library.Keyed):
         """
         return self.nth(2)
 
+    @_of_mixed
     def nth(self, n: int) -> Optional[int]:
         """The number at a place counted from 0, or None where the version has no number there.
 

@@ -244,10 +244,14 @@ impl InvalidName {
     /// The place of a name among others.
     pub(crate) fn place(names: &'static [&'static str], text: &str) -> Result<usize, Self> {
         let place = names.iter().position(|name| *name == text);
-        place.ok_or_else(|| InvalidName {
+        place.ok_or_else(|| InvalidName::new(names, text))
+    }
+
+    pub(crate) fn new(names: &'static [&'static str], text: &str) -> Self {
+        InvalidName {
             text: text.into(),
             names,
-        })
+        }
     }
 
     /// Returns the text that is not a name.

@@ -194,21 +194,23 @@ impl fmt::Display for Scheme {
     }
 }
 
-/// From what `Display` prints.
+/// From what `Display` prints, or another name that people know the system by, as `debian` or `npm`; in
+/// any case.
 ///
 /// ```
 /// use proved_versions::Scheme;
 ///
 /// assert_eq!("pypi".parse(), Ok(Scheme::Pypi));
-/// let error = "npm".parse::<Scheme>().unwrap_err();
-/// let said = r#"not one of mixed, deb, rpm, pypi, semver, gem: "npm""#;
+/// assert_eq!("Debian".parse(), Ok(Scheme::Deb));
+/// let error = "maven".parse::<Scheme>().unwrap_err();
+/// let said = r#"not one of mixed, deb, rpm, pypi, semver, gem: "maven""#;
 /// assert_eq!(error.to_string(), said);
 /// ```
 impl FromStr for Scheme {
     type Err = InvalidName;
 
     fn from_str(name: &str) -> Result<Scheme, InvalidName> {
-        InvalidName::place(&Scheme::NAMES, name).map(|place| Scheme::ALL[place])
+        schemes::named(name).ok_or_else(|| InvalidName::new(&Scheme::NAMES, name))
     }
 }
 

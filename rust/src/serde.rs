@@ -166,7 +166,7 @@ impl Serialize for Scheme {
     }
 }
 
-/// From the name, as `deb`.
+/// From the name, as `deb`, or another that [`parse`](str::parse) takes.
 impl<'de> Deserialize<'de> for Scheme {
     fn deserialize<D: Deserializer<'de>>(deserializer: D) -> Result<Self, D::Error> {
         let name = deserializer.deserialize_str(Text("a scheme"))?;

@@ -18,7 +18,19 @@ use crate::{InvalidVersion, Key, OtherScheme, Scheme, Text, Versioning};
 ///
 /// `Ord` and `==` are the order of the scheme, so different texts may be equal, as `1.0` and `1.0-0` of
 /// Debian. Those of [`Versioning`] break such ties; `VersionOf<Mixed>` doesn't. Versions of two
-/// schemes are unequal. `Hash` agrees with `==`.
+/// schemes are unequal. `Hash` agrees with `==`. `version == "1.0"` reads the text each time: it is
+/// false of a text that is not a version.
+///
+/// There is no `Borrow<str>`: texts that differ may be one version, so a map would look for a text in
+/// another place than for its version. Look up by the version, or by its [`key`](VersionOf::key).
+///
+/// ```compile_fail,E0277
+/// use std::collections::HashMap;
+/// use proved_versions::{scheme::Deb, VersionOf};
+///
+/// let map: HashMap<VersionOf<Deb>, &str> = HashMap::new();
+/// map.get::<str>("1.0-0");
+/// ```
 ///
 /// [`try_cmp`]: VersionOf::try_cmp
 ///
@@ -127,6 +139,11 @@ impl<'a, S: AnyScheme> VersionOf<'a, S> {
         &self.key
     }
 
+    /// Whether a text is a version of the scheme that compares equal.
+    fn is(&self, text: &str) -> bool {
+        schemes::compare(self.scheme(), &self.text, text) == Ok(Ordering::Equal)
+    }
+
     /// Returns the same version, with a text of its own. Copies a borrowed text.
     ///
     /// ```
@@ -184,6 +201,38 @@ impl<S: AnyScheme> Eq for VersionOf<'_, S> {}
 impl<'b, S: AnyScheme> PartialEq<VersionOf<'b, S>> for VersionOf<'_, S> {
     fn eq(&self, other: &VersionOf<'b, S>) -> bool {
         self.key == other.key
+    }
+}
+
+/// Whether the text is a version of the scheme that compares equal.
+///
+/// ```
+/// use proved_versions::{scheme::Deb, VersionOf};
+///
+/// let version = VersionOf::new("1.0", Deb).unwrap();
+/// assert!(version == "1.0-0" && version != "1.0-1" && version != "1_0");
+/// ```
+impl<S: AnyScheme> PartialEq<str> for VersionOf<'_, S> {
+    fn eq(&self, text: &str) -> bool {
+        self.is(text)
+    }
+}
+
+impl<S: AnyScheme> PartialEq<&str> for VersionOf<'_, S> {
+    fn eq(&self, text: &&str) -> bool {
+        self.is(text)
+    }
+}
+
+impl<S: AnyScheme> PartialEq<VersionOf<'_, S>> for str {
+    fn eq(&self, version: &VersionOf<'_, S>) -> bool {
+        version.is(self)
+    }
+}
+
+impl<S: AnyScheme> PartialEq<VersionOf<'_, S>> for &str {
+    fn eq(&self, version: &VersionOf<'_, S>) -> bool {
+        version.is(self)
     }
 }
 

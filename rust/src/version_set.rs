@@ -1,6 +1,8 @@
 use std::fmt;
 use std::hash::{Hash, Hasher};
-use std::ops::{BitAnd, BitOr, Bound, Not};
+use std::ops::{
+    BitAnd, BitAndAssign, BitOr, BitOrAssign, BitXor, BitXorAssign, Bound, Not, Sub, SubAssign,
+};
 use std::str::FromStr;
 
 use crate::library::{sets, Texts};
@@ -39,13 +41,19 @@ pub type Interval<'s> = (Bound<&'s [u8]>, Bound<&'s [u8]>);
 ///
 /// # What is made of sets
 ///
-/// `&a & &b` is what both have, `&a | &b` what one of them has, and `!&a` all else, also by value. Two
-/// sets that have the same keys are equal, and hash alike, however they were made.
+/// `&a & &b` is what both have, `&a | &b` what one of them has, `&a - &b` what the first alone has,
+/// `&a ^ &b` what one alone has, and `!&a` all else; also by value, and as `&=` and the like. Two sets
+/// that have the same keys are equal, and hash alike, however they were made. The union of many is
+/// collected:
 ///
 /// ```
-/// # use proved_versions::VersionSet;
+/// # use proved_versions::{VersionSet, Versioning};
 /// let [a, b, c] = [">=1.2", "<2", "^3"].map(|text| VersionSet::new(text).unwrap());
 /// assert_eq!(a & b | c, VersionSet::new(">=1.2, <2 || ^3")?);
+///
+/// let withdrawn = ["1.3", "1.4"].map(|text| Versioning::new(text).unwrap());
+/// let withdrawn: VersionSet = withdrawn.map(VersionSet::singleton).into_iter().collect();
+/// assert_eq!(VersionSet::new(">=1")? - withdrawn, VersionSet::new(">=1, !=1.3, !=1.4")?);
 /// # Ok::<(), proved_versions::InvalidVersionSet>(())
 /// ```
 ///
@@ -372,6 +380,30 @@ impl<S: FixedScheme> VersionSet<S> {
         VersionSet::computed(self.scheme, sets::or(&self.form, &other.form))
     }
 
+    /// Returns the set of what it has and the other hasn't.
+    ///
+    /// ```
+    /// use proved_versions::VersionSet;
+    ///
+    /// let [a, b, rest] = [">=1", "=1.5", ">=1 !=1.5"].map(|text| VersionSet::new(text).unwrap());
+    /// assert_eq!(a.difference(&b), rest);
+    /// ```
+    pub fn difference(&self, other: &Self) -> Self {
+        VersionSet::computed(self.scheme, sets::and(&self.form, &sets::not(&other.form)))
+    }
+
+    /// Returns the set of what one of both has, and the other hasn't.
+    ///
+    /// ```
+    /// use proved_versions::VersionSet;
+    ///
+    /// let [a, b, one] = ["<2", ">=1", "<1 || >=2"].map(|text| VersionSet::new(text).unwrap());
+    /// assert_eq!(a.symmetric_difference(&b), one);
+    /// ```
+    pub fn symmetric_difference(&self, other: &Self) -> Self {
+        self.difference(other).union(&other.difference(self))
+    }
+
     /// Returns whether a version is in the set: a [`VersionOf<S>`](VersionOf), and in a set of [`Mixed`]
     /// also a [`Versioning`](crate::Versioning). Allocates nothing.
     ///
@@ -498,12 +530,33 @@ macro_rules! operator {
     )*};
 }
 
-operator!(BitAnd bitand intersection:
-    VersionSet<S>, VersionSet<S>; VersionSet<S>, &VersionSet<S>;
-    &VersionSet<S>, VersionSet<S>; &VersionSet<S>, &VersionSet<S>);
-operator!(BitOr bitor union:
-    VersionSet<S>, VersionSet<S>; VersionSet<S>, &VersionSet<S>;
-    &VersionSet<S>, VersionSet<S>; &VersionSet<S>, &VersionSet<S>);
+/// Implements the assignment of an operator, of a set by value or by reference.
+macro_rules! assignment {
+    ($operator:ident $name:ident $method:ident: $($other:ty);*) => {$(
+        #[doc = concat!("As [`", stringify!($method), "`](VersionSet::", stringify!($method), ").")]
+        impl<S: FixedScheme> $operator<$other> for VersionSet<S> {
+            fn $name(&mut self, other: $other) {
+                *self = VersionSet::$method(self, &other);
+            }
+        }
+    )*};
+}
+
+macro_rules! operators {
+    ($($operator:ident $name:ident $assigning:ident $assign:ident $method:ident;)*) => {$(
+        operator!($operator $name $method:
+            VersionSet<S>, VersionSet<S>; VersionSet<S>, &VersionSet<S>;
+            &VersionSet<S>, VersionSet<S>; &VersionSet<S>, &VersionSet<S>);
+        assignment!($assigning $assign $method: VersionSet<S>; &VersionSet<S>);
+    )*};
+}
+
+operators! {
+    BitAnd bitand BitAndAssign bitand_assign intersection;
+    BitOr bitor BitOrAssign bitor_assign union;
+    BitXor bitxor BitXorAssign bitxor_assign symmetric_difference;
+    Sub sub SubAssign sub_assign difference;
+}
 
 /// As [`complement`](VersionSet::complement).
 impl<S: AnyScheme> Not for VersionSet<S> {
@@ -520,6 +573,35 @@ impl<S: AnyScheme> Not for &VersionSet<S> {
 
     fn not(self) -> VersionSet<S> {
         self.complement()
+    }
+}
+
+/// The set of no version, as [`empty`](VersionSet::empty) makes it.
+impl<S: FixedScheme> Default for VersionSet<S> {
+    fn default() -> Self {
+        VersionSet::empty()
+    }
+}
+
+/// The union of all, in time linear in their forms together, times the logarithm of their number.
+impl<S: FixedScheme> FromIterator<VersionSet<S>> for VersionSet<S> {
+    fn from_iter<I: IntoIterator<Item = VersionSet<S>>>(sets: I) -> Self {
+        let mut forms: Vec<Box<[u8]>> = sets.into_iter().map(|set| set.form).collect();
+        while forms.len() > 1 {
+            forms = forms.chunks(2).map(either).collect();
+        }
+        match forms.pop() {
+            Some(form) => VersionSet::computed(S::default(), form),
+            None => VersionSet::empty(),
+        }
+    }
+}
+
+/// The form of the union of one set or two.
+fn either(forms: &[Box<[u8]>]) -> Box<[u8]> {
+    match forms {
+        [one, other] => sets::or(one, other),
+        _ => forms.concat().into(),
     }
 }
 

@@ -130,7 +130,21 @@ fn names() {
         assert_eq!(name.parse(), Ok(*scheme));
         assert_eq!(scheme.scheme(), *scheme);
     }
-    for text in ["", "Deb", "debian", "de", "deb\0", " deb", "npm", "é"] {
+    // As people call the systems, in any case. What is read shows the name of the scheme.
+    let known: [&[&str]; 6] = [
+        &["Mixed", "MIXED"],
+        &["DEB", "debian", "Debian", "ubuntu"],
+        &["Rpm", "redhat", "fedora", "suse", "SUSE"],
+        &["PyPI", "python", "pip", "pep440", "PEP440"],
+        &["SemVer", "npm", "cargo", "crates.io", "NPM"],
+        &["GEM", "rubygems", "ruby", "RubyGems"],
+    ];
+    for (scheme, names) in Scheme::ALL.iter().zip(known) {
+        for name in names {
+            assert_eq!(name.parse(), Ok(*scheme), "{name}");
+        }
+    }
+    for text in ["", "debia", "de", "deb\0", " deb", "maven", "é", "deb,rpm"] {
         let error = text.parse::<Scheme>().unwrap_err();
         let said = format!("not one of {}: {text:?}", NAMES.join(", "));
         assert_eq!((error.text(), error.to_string()), (text, said));
@@ -286,6 +300,8 @@ fn values<S: FixedScheme>(scheme: S, chain: &[&[&'static str]], others: &[&str])
         }
         for (other, b) in ranked.iter().copied() {
             let (y, wanted) = (version(b), place.cmp(&other));
+            assert_eq!((x == *b, x == b), (wanted.is_eq(), wanted.is_eq()));
+            assert_eq!((*b == x, b == x), (wanted.is_eq(), wanted.is_eq()));
             assert_eq!((x.cmp(&y), x.partial_cmp(&y)), (wanted, Some(wanted)));
             assert_eq!((x < y, x <= y), (wanted.is_lt(), wanted.is_le()));
             assert_eq!(x.key().cmp(y.key()), wanted);
@@ -306,6 +322,7 @@ fn values<S: FixedScheme>(scheme: S, chain: &[&[&'static str]], others: &[&str])
     assert!(map.values().eq(chain.iter().map(|row| &row[0])));
     assert_eq!(map.get(version(chain[1][0]).sort_key()), Some(&chain[1][0]));
     for text in others.iter().copied() {
+        assert!(version(chain[0][0]) != text && text != version(chain[0][0]));
         let errors: [InvalidVersion; 3] = [
             text.parse::<VersionOf<S>>().unwrap_err(),
             VersionOf::<S>::try_from(text).unwrap_err(),
@@ -345,6 +362,7 @@ fn versions_of_two_schemes() {
             let (x, y) = (any("1.0.0", a), any("1.0.0", b));
             assert_eq!(x == y, a == b);
             assert_eq!(x.key() == y.key(), a == b);
+            assert!(x == "1.0.0" && x != "1.0.1");
             let said = x.try_cmp(&y);
             if a == b {
                 assert_eq!(said, Ok(Ordering::Equal));

@@ -150,8 +150,9 @@ fn schemes_are_their_names() {
         assert_eq!(Written(scheme).to_string(), name);
         assert_eq!(Scheme::deserialize(lent(&name)), Ok(scheme));
     }
-    let error = Scheme::deserialize(lent("npm")).unwrap_err();
-    let said = r#"not one of mixed, deb, rpm, pypi, semver, gem: "npm""#;
+    assert_eq!(Scheme::deserialize(lent("Debian")), Ok(Scheme::Deb));
+    let error = Scheme::deserialize(lent("maven")).unwrap_err();
+    let said = r#"not one of mixed, deb, rpm, pypi, semver, gem: "maven""#;
     assert_eq!(error.to_string(), said);
     assert!(Scheme::deserialize(U32Deserializer::<Error>::new(2)).is_err());
 }

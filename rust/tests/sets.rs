@@ -311,12 +311,75 @@ fn sets_are_made_of_sets_by_value_and_by_reference() {
     assert!(ors.iter().all(|made| *made == either), "{ors:?}");
     let nots = [!&a, !a.clone(), a.complement()];
     assert!(nots.iter().all(|made| *made == rest), "{nots:?}");
-    assert!(ands
-        .iter()
-        .chain(&ors)
-        .chain(&nots)
-        .all(|made| made.text().is_none()));
+    let differences = [
+        &a - &b,
+        &a - b.clone(),
+        a.clone() - &b,
+        a.clone() - b.clone(),
+        a.difference(&b),
+    ];
+    let of_a = set(">=2 !=3");
+    assert!(
+        differences.iter().all(|made| *made == of_a),
+        "{differences:?}"
+    );
+    assert_eq!(&b - &a, rest);
+    let ones = [
+        &a ^ &b,
+        &a ^ b.clone(),
+        a.clone() ^ &b,
+        a.clone() ^ b.clone(),
+        a.symmetric_difference(&b),
+        b.symmetric_difference(&a),
+    ];
+    assert!(
+        ones.iter().all(|made| *made == set("<1.2 || >=2 !=3")),
+        "{ones:?}"
+    );
+    let all = [&ands[..], &ors, &nots, &differences, &ones].concat();
+    assert!(all.iter().all(|made| made.text().is_none()));
     assert_eq!(!!a.clone(), a);
+}
+
+#[test]
+fn sets_are_assigned_to() {
+    type Assign = fn(&mut VersionSet, &VersionSet, VersionSet);
+    let rows: [(Assign, Assign, &str); 4] = [
+        (|a, b, _| *a &= b, |a, _, b| *a &= b, ">=1.2 <2 || =3"),
+        (|a, b, _| *a |= b, |a, _, b| *a |= b, "*"),
+        (|a, b, _| *a -= b, |a, _, b| *a -= b, ">=2 !=3"),
+        (|a, b, _| *a ^= b, |a, _, b| *a ^= b, "<1.2 || >=2 !=3"),
+    ];
+    let b = set("<2 || =3");
+    for (by_reference, by_value, wanted) in rows {
+        for assign in [by_reference, by_value] {
+            let mut made = set(">=1.2");
+            assign(&mut made, &b, b.clone());
+            assert_eq!((&made, made.text()), (&set(wanted), None));
+        }
+    }
+    let mut deb: VersionSet<Deb> = "<<2".parse().unwrap();
+    deb -= VersionSet::singleton("1.0-0".parse::<VersionOf<Deb>>().unwrap());
+    assert!(!deb.contains_text("1.0").unwrap() && deb.contains_text("1.0-1").unwrap());
+}
+
+#[test]
+fn the_union_of_many_is_collected() {
+    assert_eq!(VersionSet::<Mixed>::default(), set(">1 <1"));
+    assert_eq!(VersionSet::<Gem>::default().scheme(), Scheme::Gem);
+    let none: VersionSet<Rpm> = std::iter::empty().collect();
+    assert!(none.is_empty() && none.scheme() == Scheme::Rpm);
+    let texts: Vec<String> = (0..33).map(|n| format!("={}", n * 7 % 33)).collect();
+    for count in 0..texts.len() {
+        let some = &texts[..count];
+        let made: VersionSet = some.iter().map(|text| set(text)).collect();
+        let folded = some.iter().fold(VersionSet::empty(), |a, b| a | set(b));
+        assert_eq!((&made, made.text()), (&folded, None));
+        assert_eq!(made.intervals().count(), count);
+    }
+    // Each merged into all before it would copy more than 40 GB.
+    let many: VersionSet = (0..100_000).map(|n| set(&format!("={n}"))).collect();
+    assert_eq!(many.intervals().count(), 100_000);
 }
 
 /// What pubgrub asks of a set, of each scheme.
@@ -344,6 +407,13 @@ fn laws<S: FixedScheme>(scheme: S, texts: &[&str], versions: &[&'static str]) {
         for b in &sets {
             let (both, either) = (a.intersection(b), a.union(b));
             assert_eq!(!(!a | !b), both);
+            assert_eq!((a - b, a ^ b), (a & !b, &either - &both));
+            assert_eq!(
+                [a.clone(), b.clone()]
+                    .into_iter()
+                    .collect::<VersionSet<S>>(),
+                either
+            );
             assert_eq!(a.subset_of(b), both == *a);
             assert_eq!(a.is_disjoint(b), both == empty);
             assert_eq!(a == b, hash(a) == hash(b));

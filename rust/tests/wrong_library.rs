@@ -433,10 +433,15 @@ fn statuses_of_schemes_and_sets() {
     let (deb, good) = (Scheme::Deb, set("s0"));
     let any = |text| VersionSet::new_in(text, Scheme::Rpm).unwrap();
     let said = [
+        ("versions_scheme", panic(|| "v99".parse::<Scheme>())),
         ("versions_scheme_has", panic(|| deb.is_version("v99"))),
         (
             "versions_scheme_compare",
             panic(|| deb.compare("v99", "v99")),
+        ),
+        (
+            "versions_scheme_compare",
+            panic(|| VersionOf::new("v99", Deb).unwrap() == "v99"),
         ),
         ("versions_scheme_key_bound", panic(|| deb.sort_key(&long))),
         (
@@ -592,6 +597,10 @@ fn answers_of_schemes_and_sets() {
     for (call, text) in said {
         assert_eq!(text, unexpected(call, "match 9"));
     }
+    assert_eq!(
+        panic(|| "v0".parse::<Scheme>()),
+        unexpected("versions_scheme", "scheme 0")
+    );
     assert_eq!(
         panic(|| deb.compare("v0", "v0")),
         unexpected("versions_scheme_compare", "order 7")

@@ -22,6 +22,21 @@ pub(super) fn number(scheme: Scheme) -> u32 {
     }
 }
 
+/// The scheme that has a name; `None` where none has.
+pub fn named(name: &str) -> Option<Scheme> {
+    let mut found = 0;
+    // SAFETY: the pointer and the length are those of `name`, which is only read; `found` is written.
+    let status = unsafe { versions_scheme(start(name), name.len(), &mut found) };
+    match status {
+        OK => match Scheme::ALL.iter().find(|it| number(**it) == found) {
+            Some(scheme) => Some(*scheme),
+            None => unexpected("versions_scheme", "scheme", found),
+        },
+        NO_SCHEME => None,
+        _ => unexpected("versions_scheme", "status", status),
+    }
+}
+
 /// Whether a text is a version.
 pub fn is_version(scheme: Scheme, text: &str) -> bool {
     let mut answer = 0;
