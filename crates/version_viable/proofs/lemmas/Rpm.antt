@@ -22,7 +22,7 @@ use Rattle.version_schemes.specs.rpm.Texts.{behind_epoch, is_of_rpm, is_version,
 use Rattle.version_viable.specs.Viable.{IsLeft}
 use Rattle.version_viable.specs.rpm.Parts.{is_behind_epoch, is_release_tail}
 use Rattle.version_viable.proofs.lemmas.Cuts.{first_behind, last_behind, not_all, with_front}
-use Rattle.version_viable.proofs.lemmas.Left.{after_run, at_end, behind, empty_run, run_left, same, stays, unless}
+use Rattle.version_viable.proofs.lemmas.Left.{after_run, at_end, behind, empty_run, run_left, same, unless}
 use Rattle.version_viable.proofs.lemmas.Within.{and-true}
 
 -- a version is a run of its bytes

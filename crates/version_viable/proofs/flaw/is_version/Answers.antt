@@ -1,4 +1,4 @@
-use Rattle.std.proofs.Common.{rules, ◌≡◌, ◌∙◌, true, None, Option, Some, ap, is_some, refl, sym}
+use Rattle.std.proofs.Common.{◌≡◌, ◌∙◌, None, Option, Some, ap, is_some, refl, sym}
 use Rattle.std.specs.Option.{option_map}
 use Rattle.version_schemes.specs.Scheme.{rules as rules_of}
 use Rattle.version_schemes.specs.any.AnyVersion.{plain_any}

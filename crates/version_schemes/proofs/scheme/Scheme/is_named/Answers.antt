@@ -1,11 +1,8 @@
-use Rattle.std.proofs.Common.{rules, ◌≡◌, ◌∙◌, ◌≤◌, ◌-◌, Bool, false, List, [], ◌∷◌, ap, arith, drop, get_or, length, map, refl, subst, sym, take, ℕ}
+use Rattle.std.proofs.Common.{rules, ◌≡◌, ◌≤◌, ◌-◌, Bool, false, List, [], ◌∷◌, arith, drop, get_or, length, map, subst, sym, take, ℕ}
+use Rattle.std.proofs.lemmas.List.{take_all}
 use Rattle.std.specs.List.{list_any}
 use Rattle.std.specs.Str.{str_eq_ignore_ascii_case}
 use Rattle.version_schemes.proofs.scheme.Scheme.is_named.Goals as goal
-
-whole : {A : Type 0} (xs : List A) → take (length xs) xs ≡ xs
-whole [] = refl
-whole (x ∷ xs) = ap (λ rest. x ∷ rest) (whole xs)
 
 -- what passes no test is left out
 next : {A : Type 0} (p : List ℕ → Bool) (f : A → List ℕ) (left : List A) (all : Bool) (none : A)
@@ -13,8 +10,7 @@ next : {A : Type 0} (p : List ℕ → Bool) (f : A → List ℕ) (left : List A)
     → list_any p (map f (take (length left - 1) (drop 1 left))) ≡ all
 next p f [] all none some one fails = absurd (omega (arith, some))
 next p f (first ∷ rest) all none some one fails =
-    let less : length (first ∷ rest) - 1 ≡ length rest = omega arith in
-    let left : take (length (first ∷ rest) - 1) (drop 1 (first ∷ rest)) ≡ rest = ap (λ n. take n rest) less ∙ whole rest in
+    let left : take (length (first ∷ rest) - 1) (drop 1 (first ∷ rest)) ≡ rest = take_all _ rest (omega arith) in
     subst (λ left. list_any p (map f left) ≡ all) (sym left) (rw fails at one)
 
 pub loop-left-preserved : goal.loop-left-preserved
