@@ -527,7 +527,9 @@ int versions_conflict(const char *list, size_t list_len, size_t *start, size_t *
                       size_t *other_end);
 
 /*
- * Finds the scheme that has a name, such as deb, byte by byte. Sets *scheme to its number.
+ * Finds the scheme that a text names in upper or lower case: by its name, such as deb, or by what else people call it,
+ * such as debian and ubuntu for deb; redhat, fedora and suse for rpm; python, pip and pep440 for pypi; npm, cargo and
+ * crates.io for semver; rubygems and ruby for gem. Sets *scheme to its number.
  *
  * Returns VERSIONS_OK or VERSIONS_NO_SCHEME.
  */

@@ -5,7 +5,6 @@ pub mod DebPlain
 pub mod DebRoom
 pub mod Gem
 pub mod Kinds
-pub mod Named
 pub mod Orders
 pub mod Plain
 pub mod PypiItems

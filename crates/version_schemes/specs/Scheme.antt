@@ -1,8 +1,9 @@
 -- The schemes: their numbers and names, and their rules.
-use Rattle.std.specs.Prelude.{◌==◌, ℕ, List, codes, if◌then◌else◌, Option, None, Some}
+use Rattle.std.specs.Prelude.{◌==◌, ℕ, Bool, List, [], ◌∷◌, codes, find, if◌then◌else◌, Option, None, Some}
+use Rattle.std.specs.List.{list_any}
 use Rattle.std.specs.Option.{option_map}
 use Rattle.std.specs.Ordering.{on}
-use Rattle.std.specs.Str.{bytes_eq}
+use Rattle.std.specs.Str.{str_eq_ignore_ascii_case}
 use Rattle.std.specs.declared.cmp.Ordering.{Ordering}
 use Rattle.version_rules.specs.grammar.Versioning.{versioning_of}
 use Rattle.version_rules.specs.key.Key.{key_of, precedence}
@@ -53,15 +54,30 @@ scheme_name Pypi = codes "pypi"
 scheme_name SemVer = codes "semver"
 scheme_name Gem = codes "gem"
 
--- the scheme that has a name
+-- what else people call a scheme
+abbrev pub aliases : Scheme → List (List ℕ)
+aliases Mixed = []
+aliases Deb = codes "debian" ∷ codes "ubuntu" ∷ []
+aliases Rpm = codes "redhat" ∷ codes "fedora" ∷ codes "suse" ∷ []
+aliases Pypi = codes "python" ∷ codes "pip" ∷ codes "pep440" ∷ []
+aliases SemVer = codes "npm" ∷ codes "cargo" ∷ codes "crates.io" ∷ []
+aliases Gem = codes "rubygems" ∷ codes "ruby" ∷ []
+
+-- the names that a scheme goes by: its own, and what else people call it
+abbrev pub names : Scheme → List (List ℕ)
+names scheme = scheme_name scheme ∷ aliases scheme
+
+-- a text is one of them, in upper or lower case
+abbrev pub is_named : List ℕ → Scheme → Bool
+is_named text scheme = list_any (λ name. str_eq_ignore_ascii_case name text) (names scheme)
+
+-- the schemes, in the order of their numbers
+abbrev pub all_schemes : List Scheme
+all_schemes = Mixed ∷ Deb ∷ Rpm ∷ Pypi ∷ SemVer ∷ Gem ∷ []
+
+-- the scheme that a text names
 abbrev pub scheme_named : List ℕ → Option Scheme
-scheme_named name =
-    if bytes_eq name (scheme_name Mixed) then Some Mixed
-    else (if bytes_eq name (scheme_name Deb) then Some Deb
-    else (if bytes_eq name (scheme_name Rpm) then Some Rpm
-    else (if bytes_eq name (scheme_name Pypi) then Some Pypi
-    else (if bytes_eq name (scheme_name SemVer) then Some SemVer
-    else (if bytes_eq name (scheme_name Gem) then Some Gem else None)))))
+scheme_named text = find (λ scheme. is_named text scheme) all_schemes
 
 -- the scheme that has a number
 abbrev pub numbered : ℕ → Option Scheme

@@ -412,3 +412,12 @@ fn rows()
     ensures no_digit { deb_of (codes "a1") ≡ None }
     ensures no_revision { deb_of (codes "1-") ≡ None }
 {}
+
+// A row worked by hand for each field before each later one.
+fn fields()
+    ensures epoch_before_upstream { texts_cmp (codes "9") (codes "1:0") ≡ Some Less }
+    ensures epoch_before_revision { texts_cmp (codes "1-2") (codes "1:1-1") ≡ Some Less }
+    ensures upstream_before_revision { texts_cmp (codes "1.0-2") (codes "1.1-1") ≡ Some Less }
+    ensures run_before_number { texts_cmp (codes "1a2-1") (codes "1b1-1") ≡ Some Less }
+    ensures head_before_more { texts_cmp (codes "1.2") (codes "2.1") ≡ Some Less }
+{}

@@ -399,3 +399,11 @@ fn rows()
     ensures key { gem_bytes (entries_in false (codes "2.0.1-0"))
         ≡ 5 ∷ 1 ∷ 50 ∷ 4 ∷ 5 ∷ 1 ∷ 49 ∷ 1 ∷ 112 ∷ 114 ∷ 101 ∷ 0 ∷ 3 ∷ [] }
 {}
+
+// A row worked by hand for each field before each later one.
+fn fields()
+    ensures first_before_later { texts_cmp (codes "1.2") (codes "2.1") ≡ Some Less }
+    ensures number_before_letters { texts_cmp (codes "1.1") (codes "1.2.a") ≡ Some Less }
+    ensures letters_before_number { texts_cmp (codes "1.a.2") (codes "1.b.1") ≡ Some Less }
+    ensures letters_before_letters { texts_cmp (codes "1.a.b") (codes "1.b.a") ≡ Some Less }
+{}

@@ -1,11 +1,11 @@
 //! Laws of all schemes. Each is the contract of a function that does nothing.
 
-ghost use Rattle.std.specs.Prelude.{◌≡◌, [], IfSome, List, ℕ};
+ghost use Rattle.std.specs.Prelude.{◌≡◌, [], IfSome, List, Some, map, ℕ};
 ghost use Rattle.std.specs.Cmp.{IsTotalOrder};
 ghost use Rattle.std.specs.Option.{option_cmp};
 ghost use Rattle.version_rules.specs.grammar.Versioning.{versioning_of};
 ghost use Rattle.version_rules.specs.order.Orders.{versioning_cmp};
-ghost use Rattle.version_schemes.specs.Scheme.{by_keys, rules, texts_order};
+ghost use Rattle.version_schemes.specs.Scheme.{by_keys, names, rules, scheme_named, texts_order};
 ghost use Rattle.version_schemes.specs.Texts.{compared};
 ghost use Rattle.version_schemes.specs.any.Order.{any_cmp, any_of, any_precedence};
 ghost use Rattle.version_schemes.specs.declared.scheme.Scheme.{Scheme};
@@ -15,6 +15,11 @@ ghost use Rattle.version_schemes.specs.declared.scheme.Scheme.TheVariants.{Mixed
 fn orders()
     ensures { (scheme : Scheme) (one other : List ℕ)
         → texts_order scheme one other ≡ by_keys (rules scheme) one other }
+{}
+
+// Each scheme is found by each of its names, so that no two share one.
+fn names()
+    ensures { (scheme : Scheme) → map scheme_named (names scheme) ≡ map (λ _. Some scheme) (names scheme) }
 {}
 
 // No key is empty.

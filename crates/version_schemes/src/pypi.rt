@@ -229,3 +229,22 @@ fn rows()
     ensures inside { pypi_of (codes "1 .0") ≡ None }
     ensures empty { pypi_of (codes "") ≡ None }
 {}
+
+// A row worked by hand for each field before each later one.
+fn fields()
+    ensures epoch_before_release { texts_cmp (codes "9") (codes "1!0") ≡ Some Less }
+    ensures epoch_before_phase { texts_cmp (codes "1") (codes "1!1a1") ≡ Some Less }
+    ensures epoch_before_post { texts_cmp (codes "1.post1") (codes "1!1") ≡ Some Less }
+    ensures epoch_before_dev { texts_cmp (codes "1") (codes "1!1.dev1") ≡ Some Less }
+    ensures epoch_before_local { texts_cmp (codes "1+b") (codes "1!1+a") ≡ Some Less }
+    ensures release_before_phase { texts_cmp (codes "1.0") (codes "1.1a1") ≡ Some Less }
+    ensures release_before_post { texts_cmp (codes "1.0.post1") (codes "1.1") ≡ Some Less }
+    ensures release_before_dev { texts_cmp (codes "1.0") (codes "1.1.dev1") ≡ Some Less }
+    ensures release_before_local { texts_cmp (codes "1.0+b") (codes "1.1+a") ≡ Some Less }
+    ensures phase_before_post { texts_cmp (codes "1.0a1.post2") (codes "1.0a2.post1") ≡ Some Less }
+    ensures phase_before_dev { texts_cmp (codes "1.0a1") (codes "1.0a2.dev1") ≡ Some Less }
+    ensures phase_before_local { texts_cmp (codes "1.0a1+b") (codes "1.0a2+a") ≡ Some Less }
+    ensures post_before_dev { texts_cmp (codes "1.0.post1") (codes "1.0.post2.dev1") ≡ Some Less }
+    ensures post_before_local { texts_cmp (codes "1.0.post1+b") (codes "1.0.post2+a") ≡ Some Less }
+    ensures dev_before_local { texts_cmp (codes "1.0.dev1+b") (codes "1.0.dev2+a") ≡ Some Less }
+{}

@@ -419,3 +419,10 @@ fn rows()
     ensures large_epoch { rpm_of (codes "4294967296:1") ≡ None }
     ensures wrong_byte { rpm_of (codes "1 0") ≡ None }
 {}
+
+// A row worked by hand for each field before each later one.
+fn fields()
+    ensures epoch_before_version { texts_cmp (codes "9") (codes "1:0") ≡ Some Less }
+    ensures epoch_before_release { texts_cmp (codes "1-2") (codes "1:1-1") ≡ Some Less }
+    ensures version_before_release { texts_cmp (codes "1.0-2") (codes "1.1-1") ≡ Some Less }
+{}

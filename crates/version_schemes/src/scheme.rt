@@ -1,7 +1,10 @@
 //! The schemes, by their names and their numbers.
 
-ghost use Rattle.std.specs.Prelude.{◌≡◌, IfNone, IfSome, Some};
-ghost use Rattle.version_schemes.specs.Scheme.{numbered, scheme_name, scheme_number};
+ghost use Rattle.std.specs.Prelude.{◌≡◌, Some, map};
+ghost use Rattle.std.specs.Array.Iter.{array_into_iter_items};
+ghost use Rattle.version_schemes.specs.Scheme.{aliases, all_schemes, is_named, numbered, scheme_name, scheme_named, scheme_number};
+
+use std::array;
 
 /// A scheme: which texts are versions, and how these compare.
 #[derive(Clone, Copy, Debug, PartialEq, Eq)]
@@ -65,20 +68,63 @@ impl Scheme {
         }
     }
 
-    /// Returns the scheme that has a name, byte by byte, or None. Does not allocate.
-    pub fn of_name(name: &[u8]) -> Option<Scheme>
-        ensures some { IfSome result (λ scheme. scheme_name scheme ≡ name.now) }
-        ensures none { IfNone result ((scheme : Scheme) → ¬ (scheme_name scheme ≡ name.now)) }
+    /// Returns what else people call it, such as `debian`. Does not allocate.
+    pub fn aliases(self) -> &'static [&'static str]
+        ensures { map (λ name. name.now) result.now ≡ aliases self }
     {
-        match name {
-            b"mixed" => Some(Scheme::Mixed),
-            b"deb" => Some(Scheme::Deb),
-            b"rpm" => Some(Scheme::Rpm),
-            b"pypi" => Some(Scheme::Pypi),
-            b"semver" => Some(Scheme::SemVer),
-            b"gem" => Some(Scheme::Gem),
-            _ => None,
+        match self {
+            Scheme::Mixed => &[],
+            Scheme::Deb => &["debian", "ubuntu"],
+            Scheme::Rpm => &["redhat", "fedora", "suse"],
+            Scheme::Pypi => &["python", "pip", "pep440"],
+            Scheme::SemVer => &["npm", "cargo", "crates.io"],
+            Scheme::Gem => &["rubygems", "ruby"],
         }
+    }
+
+    /// Returns the schemes, in the order of their numbers. Does not allocate.
+    pub fn all() -> array::IntoIter<Scheme, 6>
+        ensures { array_into_iter_items result ≡ all_schemes }
+    {
+        [
+            Scheme::Mixed,
+            Scheme::Deb,
+            Scheme::Rpm,
+            Scheme::Pypi,
+            Scheme::SemVer,
+            Scheme::Gem,
+        ]
+        .into_iter()
+    }
+
+    /// Returns the scheme that a text names, by its name or an alias, in upper or lower case, or None. Does not
+    /// allocate.
+    pub fn of_name(name: &[u8]) -> Option<Scheme>
+        ensures { result ≡ scheme_named name.now }
+    {
+        for scheme in Scheme::all() {
+            if scheme.is_named(name) {
+                return Some(scheme);
+            }
+        }
+        None
+    }
+
+    // Returns whether a text is its name or an alias, in upper or lower case.
+    fn is_named(self, text: &[u8]) -> bool
+        ensures { result ≡ is_named text.now self }
+    {
+        if self.name().as_bytes().eq_ignore_ascii_case(text) {
+            return true;
+        }
+        let mut left = self.aliases();
+        while let [alias, rest @ ..] = left {
+            if alias.as_bytes().eq_ignore_ascii_case(text) {
+                return true;
+            }
+            left = rest;
+        }
+        false
     }
 }
 

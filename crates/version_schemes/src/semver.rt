@@ -368,3 +368,13 @@ fn rows()
     ensures no_pre_release { semver_of (codes "1.0.0-") ≡ None }
     ensures no_metadata { semver_of (codes "1.0.0+") ≡ None }
 {}
+
+// A row worked by hand for each field before each later one.
+fn fields()
+    ensures major_before_minor { texts_cmp (codes "1.2.0") (codes "2.1.0") ≡ Some Less }
+    ensures major_before_patch { texts_cmp (codes "1.0.2") (codes "2.0.1") ≡ Some Less }
+    ensures major_before_pre_release { texts_cmp (codes "1.0.0") (codes "2.0.0-a") ≡ Some Less }
+    ensures minor_before_patch { texts_cmp (codes "1.1.2") (codes "1.2.1") ≡ Some Less }
+    ensures minor_before_pre_release { texts_cmp (codes "1.1.0") (codes "1.2.0-a") ≡ Some Less }
+    ensures patch_before_pre_release { texts_cmp (codes "1.0.1") (codes "1.0.2-a") ≡ Some Less }
+{}

@@ -2,8 +2,7 @@
 
 ghost use Rattle.std.specs.Prelude.{◌≡◌, ◌≢◌, ◌+◌, ◌<◌, ◌≤◌, ◌++◌, ◌↔◌, IfSome, IsTrue, None, drop, is_some, length, slice_index, ℕ};
 ghost use Rattle.version_rules.specs.order.Lists.{bytes_cmp};
-ghost use Rattle.version_schemes.specs.Scheme.{numbered, rules, scheme_name, scheme_number};
-ghost use Rattle.version_schemes.specs.declared.scheme.Scheme.{Scheme as AnyScheme};
+ghost use Rattle.version_schemes.specs.Scheme.{numbered, rules, scheme_name, scheme_named, scheme_number};
 ghost use Rattle.version_texts.specs.key.Sinks.{put_at, saturated};
 ghost use Rattle.versions_c.specs.Keys.{all_keys, key_status, keys_before, saturated_signed, AreKeyOffsets};
 ghost use Rattle.versions_c.specs.Offsets.{AreOffsets};
@@ -20,12 +19,11 @@ use crate::status::{BAD_OFFSETS, NO_ROOM, NO_SCHEME, NO_VERSION, OK};
 use version_schemes::{Scheme, by_scheme, write_key};
 use version_texts::Keyed;
 
-/// Writes the number of the scheme that has a name.
+/// Writes the number of the scheme that a text names.
 #[unsafe(no_mangle)]
 pub extern "C" fn versions_scheme(name: &[u8], scheme: &mut u32) -> i32
-    ensures found { result ≡ OK → (found : AnyScheme) × (scheme_name found ≡ name.now)
-        × (scheme.new ≡ scheme_number found) }
-    ensures none { result ≢ OK → (result ≡ NO_SCHEME) × ((any : AnyScheme) → ¬ (scheme_name any ≡ name.now)) }
+    ensures found { IfSome (scheme_named name.now) (λ found. (result ≡ OK) × (scheme.new ≡ scheme_number found)) }
+    ensures none { scheme_named name.now ≡ None → result ≡ NO_SCHEME }
     ensures kept { result ≢ OK → scheme.new ≡ scheme.old }
 {
     match Scheme::of_name(name) {
