@@ -4,7 +4,8 @@
 \echo Use "CREATE EXTENSION versions" to load this file. \quit
 
 -- Functions on texts. They return NULL if a text is not a version. Each parses its texts, which costs as much as ten
--- operators on numbers.
+-- operators on numbers. A requirement or a set that a function or an operator is given beside a version is read once while
+-- it stays the same from row to row.
 
 -- Whether a text is a version. It is never NULL for a text.
 CREATE FUNCTION is_version(text) RETURNS boolean
@@ -78,16 +79,18 @@ CREATE FUNCTION version_next_pre(text, word text) RETURNS text
 CREATE FUNCTION version_why_not(requirement text, version text) RETURNS text
   AS 'MODULE_PATHNAME', 'version_why_not_text' LANGUAGE C IMMUTABLE STRICT PARALLEL SAFE COST 10;
 
--- The key and the order of a scheme: 'mixed', 'deb', 'rpm', 'pypi', 'semver' or 'gem'. Another name is an error, and a
--- text that is not a version of the scheme gives NULL.
+-- Whether a text is a version of a scheme: 'mixed', 'deb', 'rpm', 'pypi', 'semver' or 'gem'. Another name is an error.
+CREATE FUNCTION is_version(text, scheme text) RETURNS boolean
+  AS 'MODULE_PATHNAME', 'is_version_in_scheme' LANGUAGE C IMMUTABLE STRICT PARALLEL SAFE COST 10;
+
+-- The key and the order of a scheme. A text that is not a version of the scheme gives NULL.
 CREATE FUNCTION version_key(text, scheme text) RETURNS bytea
   AS 'MODULE_PATHNAME', 'version_key_in_scheme' LANGUAGE C IMMUTABLE STRICT PARALLEL SAFE COST 10;
 CREATE FUNCTION version_compare(text, text, scheme text) RETURNS integer
   AS 'MODULE_PATHNAME', 'version_compare_in_scheme' LANGUAGE C IMMUTABLE STRICT PARALLEL SAFE COST 10;
 
 -- Whether a version is in a set of versions, as >=1.2, <2 || ^3; NULL if the text is not a version. Fails if the first
--- is not a set. A set of another scheme than mixed has its scheme in front, as deb:>=1.2, or as the third argument. It
--- is read once while it stays the same.
+-- is not a set. A set of another scheme than mixed has its scheme in front, as deb:>=1.2, or as the third argument.
 CREATE FUNCTION version_in_set(set text, version text) RETURNS boolean
   AS 'MODULE_PATHNAME', 'text_in_set_text' LANGUAGE C IMMUTABLE STRICT PARALLEL SAFE COST 10;
 CREATE FUNCTION version_in_set(set text, version text, scheme text) RETURNS boolean
@@ -347,6 +350,10 @@ CREATE CAST (varchar AS @type@) WITH FUNCTION @type@(text) AS ASSIGNMENT;
 CREATE CAST (@type@ AS text) WITHOUT FUNCTION AS ASSIGNMENT;
 CREATE CAST (@type@ AS varchar) WITHOUT FUNCTION AS ASSIGNMENT;
 
+-- A text as a @type@; NULL if it is not one.
+CREATE FUNCTION to_@type@(text) RETURNS @type@
+  AS 'MODULE_PATHNAME' LANGUAGE C IMMUTABLE STRICT PARALLEL SAFE COST 10;
+
 CREATE FUNCTION version_key(@type@) RETURNS bytea
   AS 'MODULE_PATHNAME', 'key_of_@type@' LANGUAGE C IMMUTABLE STRICT PARALLEL SAFE COST 10;
 
@@ -542,6 +549,10 @@ $of_each$;
   -- that scheme.
   of_others CONSTANT text := $of_others$
 
+-- -1, 0 or 1 if the first is before, equal to or after the second.
+CREATE FUNCTION version_compare(@type@, @type@) RETURNS integer
+  AS 'MODULE_PATHNAME', '@type@_cmp' LANGUAGE C IMMUTABLE STRICT PARALLEL SAFE COST 10;
+
 CREATE FUNCTION version_contained_by(version @type@, set text) RETURNS boolean
   AS 'MODULE_PATHNAME', '@type@_contained_by_text' LANGUAGE C IMMUTABLE STRICT PARALLEL SAFE COST 10
   SUPPORT version_matches_support;
@@ -566,10 +577,6 @@ BEGIN
   END LOOP;
 END
 $types$;
-
--- A text as a version; NULL if it is not one.
-CREATE FUNCTION to_version(text) RETURNS version
-  AS 'MODULE_PATHNAME' LANGUAGE C IMMUTABLE STRICT PARALLEL SAFE COST 10;
 
 -- The version in a tag, such as v1.2.3, also after a prefix; NULL if it has none.
 CREATE FUNCTION version_in(tag text) RETURNS version

@@ -73,6 +73,98 @@ static Span span_of(const text *value) {
   return span;
 }
 
+static bool are_same(Span a, Span b) { return a.len == b.len && memcmp(a.bytes, b.bytes, a.len) == 0; }
+
+/* Frees the bytes of a value if they are a copy, of a compressed value or of a value stored out of line. */
+static void free_copy(struct varlena *bytes, Datum value) {
+  if ((Pointer)bytes != DatumGetPointer(value)) pfree(bytes);
+}
+
+/*
+ * Reading once. A parameter, the answer of a subquery and a text of a CTE may be the same in each row, but nothing tells
+ * a function so: each row gives them anew, and the memory of another row is used again. So a function keeps what it was
+ * given last at its place in a statement, and what that was read as, and compares bytes. Of a value that is stored out
+ * of line these are the few that say where it is: as long as a statement runs, no other value has that place.
+ */
+typedef struct {
+  uint32 scheme;
+  Span given;
+  bytea *value; /* NULL: not read yet */
+} LastRead;
+
+/* The bytes that an argument is given by. */
+static Span given_as(Datum argument) {
+  struct varlena *stored = (struct varlena *)DatumGetPointer(argument);
+  Span given;
+  /* what says where a value is in memory does not say which value it is */
+  if (VARATT_IS_EXTERNAL(stored) && !VARATT_IS_EXTERNAL_ONDISK(stored)) stored = detoast_attr(stored);
+  given.bytes = (const char *)stored;
+  given.len = VARSIZE_ANY(stored);
+  return given;
+}
+
+/* What is kept of the same bytes, by the same scheme; NULL where others were given last. */
+static LastRead *last_given(FunctionCallInfo fcinfo, uint32 scheme, Span given) {
+  LastRead *last = fcinfo->flinfo->fn_extra;
+  return last && last->scheme == scheme && are_same(last->given, given) ? last : NULL;
+}
+
+static bytea *last_read(FunctionCallInfo fcinfo, uint32 scheme, Span given) {
+  LastRead *last = last_given(fcinfo, scheme, given);
+  return last ? last->value : NULL;
+}
+
+/*
+ * Keeps bytes, and what they were read as, if they were, in place of what was kept. Returns the copy of that, which is
+ * kept until others are given.
+ */
+static bytea *keep_read(FunctionCallInfo fcinfo, uint32 scheme, Span given, const bytea *value) {
+  LastRead *last = fcinfo->flinfo->fn_extra;
+  size_t len = value ? VARSIZE_ANY(value) : 0;
+  char *end;
+  fcinfo->flinfo->fn_extra = NULL;
+  if (last) pfree(last);
+  last = MemoryContextAllocHuge(fcinfo->flinfo->fn_mcxt, sizeof *last + len + given.len);
+  end = (char *)(last + 1);
+  last->scheme = scheme;
+  last->value = value ? memcpy(end, value, len) : NULL;
+  last->given.bytes = memcpy(end + len, given.bytes, given.len);
+  last->given.len = given.len;
+  fcinfo->flinfo->fn_extra = last;
+  if (value) elog(DEBUG2, "read of an argument: %zu bytes", given.len);
+  return last->value;
+}
+
+/* Reads an argument, by a scheme where it is a text. Returns memory of its own. Fails where it is not what is wanted. */
+typedef bytea *Reading(uint32 scheme, Datum argument);
+
+/* What an argument is read as, which is read once while it stays the same. */
+static bytea *read_once(FunctionCallInfo fcinfo, Reading *read, uint32 scheme, Datum argument) {
+  Span given = given_as(argument);
+  bytea *value = last_read(fcinfo, scheme, given), *made;
+  if (value) return value;
+  made = read(scheme, argument);
+  value = keep_read(fcinfo, scheme, given, made);
+  pfree(made);
+  return value;
+}
+
+/* A copy of what is kept, for a result: the next row may have what is kept replaced. */
+static bytea *copy_of(const bytea *value) { return memcpy(palloc(VARSIZE(value)), value, VARSIZE(value)); }
+
+/* Whether a value is whole where it is: not compressed, and not stored out of line. */
+static bool is_whole_value(Datum value) {
+  const struct varlena *stored = (const struct varlena *)DatumGetPointer(value);
+  return !VARATT_IS_COMPRESSED(stored) && !VARATT_IS_EXTERNAL(stored);
+}
+
+static bytea *read_whole(uint32 scheme, Datum value) { return DatumGetByteaP(value); }
+
+/* The bytes of an argument, which are fetched and decompressed once while it stays the same. */
+static bytea *whole_once(FunctionCallInfo fcinfo, Datum value) {
+  return is_whole_value(value) ? DatumGetByteaPP(value) : read_once(fcinfo, read_whole, 0, value);
+}
+
 /*
  * Schemes. A type of versions has one: its functions are written for every scheme, and a macro defines them for each
  * type. The calls for mixed alone take less time than those that are given a scheme.
@@ -253,11 +345,9 @@ static Datum no_result(FunctionCallInfo fcinfo, bool typed, int status, Span spa
 
 SQL_FUNCTION(is_version) { PG_RETURN_BOOL(parses(VERSIONS_MIXED, span_of(PG_GETARG_TEXT_PP(0)))); }
 
-SQL_FUNCTION(to_version) {
-  text *value = PG_GETARG_TEXT_PP(0);
-  fits(NULL, span_of(value), "version");
-  if (!parses(VERSIONS_MIXED, span_of(value))) PG_RETURN_NULL();
-  PG_RETURN_TEXT_P(value);
+SQL_FUNCTION(is_version_in_scheme) {
+  uint32 scheme = scheme_of(span_of(PG_GETARG_TEXT_PP(1)));
+  PG_RETURN_BOOL(parses(scheme, span_of(PG_GETARG_TEXT_PP(0))));
 }
 
 SQL_FUNCTION(version_key) {
@@ -327,16 +417,6 @@ static int explain(Span list) {
 static void report_no_requirement(Span list) {
   ereport(ERROR,
           (errcode(ERRCODE_INVALID_PARAMETER_VALUE), errmsg("not a requirement: %s", quoted(list)), explain(list)));
-}
-
-SQL_FUNCTION(version_matches_text) {
-  Span list = span_of(PG_GETARG_TEXT_PP(0)), span = span_of(PG_GETARG_TEXT_PP(1));
-  bool matches = false;
-  switch (versions_matches(list.bytes, list.len, span.bytes, span.len, &matches)) {
-    case VERSIONS_OK: PG_RETURN_BOOL(matches);
-    case VERSIONS_NO_REQUIREMENTS: report_no_requirement(list);
-  }
-  PG_RETURN_NULL();
 }
 
 /* A place below 0 is, as a size_t, above each place of a version. */
@@ -483,7 +563,7 @@ static Datum why_not(Span list, Span version, int *status) {
 }
 
 SQL_FUNCTION(version_why_not_text) {
-  Span list = span_of(PG_GETARG_TEXT_PP(0)), span = span_of(PG_GETARG_TEXT_PP(1));
+  Span list = span_of(whole_once(fcinfo, PG_GETARG_DATUM(0))), span = span_of(PG_GETARG_TEXT_PP(1));
   int status;
   Datum why = why_not(list, span, &status);
   if (status == VERSIONS_NO_REQUIREMENTS) report_no_requirement(list);
@@ -498,13 +578,24 @@ SQL_FUNCTION(version_of_library) { PG_RETURN_TEXT_P(cstring_to_text(versions_ver
  * from a text returns the text itself.
  */
 
+/* Up to where a text could become a version, and why no further. */
+static int explain_version(uint32 scheme, Span span) {
+  size_t place = 0, len = 0;
+  uint32_t reason;
+  char why[100];
+  versions_wrong(scheme, span.bytes, span.len, &place, &reason);
+  versions_wrong_text(scheme, span.bytes, span.len, why, sizeof why, &len);
+  return errdetail("At byte %zu: %.*s.", place, (int)len, why);
+}
+
 /* Whether a text is a version that is not too long. An input that is asked to goes on after the error. */
 static bool is_value(fmNodePtr context, uint32 scheme, Span span) {
   if (!fits(context, span, type_names[scheme])) return false;
   if (!parses(scheme, span)) {
     ereturn(context, false,
             (errcode(ERRCODE_INVALID_TEXT_REPRESENTATION),
-             errmsg("invalid input syntax for type %s: %s", type_names[scheme], quoted(span))));
+             errmsg("invalid input syntax for type %s: %s", type_names[scheme], quoted(span)),
+             explain_version(scheme, span)));
   }
   return true;
 }
@@ -524,7 +615,8 @@ static Datum version_of_message(FunctionCallInfo fcinfo, uint32 scheme) {
   fits(NULL, span, type_names[scheme]);
   if (!parses(scheme, span)) {
     ereport(ERROR, (errcode(ERRCODE_INVALID_BINARY_REPRESENTATION),
-                    errmsg("invalid binary representation of type %s: %s", type_names[scheme], quoted(span))));
+                    errmsg("invalid binary representation of type %s: %s", type_names[scheme], quoted(span)),
+                    explain_version(scheme, span)));
   }
   PG_RETURN_TEXT_P(cstring_to_text_with_len(span.bytes, len));
 }
@@ -535,9 +627,15 @@ static Datum version_of_argument(FunctionCallInfo fcinfo, uint32 scheme) {
   PG_RETURN_TEXT_P(value);
 }
 
-/* The order of versions of a scheme. */
+/* The same, and NULL where the text is not a version. */
+static Datum version_or_null(FunctionCallInfo fcinfo, uint32 scheme) {
+  text *value = PG_GETARG_TEXT_PP(0);
+  fits(NULL, span_of(value), type_names[scheme]);
+  if (!parses(scheme, span_of(value))) PG_RETURN_NULL();
+  PG_RETURN_TEXT_P(value);
+}
 
-static bool are_same(Span a, Span b) { return a.len == b.len && memcmp(a.bytes, b.bytes, a.len) == 0; }
+/* The order of versions of a scheme. */
 
 /* Compares two values of the type. Equal bytes are not parsed. */
 static int32_t order_of(uint32 scheme, Span a, Span b) {
@@ -549,11 +647,6 @@ static int32_t order_of(uint32 scheme, Span a, Span b) {
     default: report_damage(scheme, a);
   }
   return order;
-}
-
-/* Frees the bytes of a value if they are a copy, of a compressed value or of a value stored out of line. */
-static void free_copy(struct varlena *bytes, Datum value) {
-  if ((Pointer)bytes != DatumGetPointer(value)) pfree(bytes);
 }
 
 static int order_of_values(uint32 scheme, Datum a, Datum b) {
@@ -851,17 +944,28 @@ static bytea *requirement_from(Span list) {
   return value;
 }
 
-SQL_FUNCTION(requirement_in) {
-  char *bytes = PG_GETARG_CSTRING(0);
-  Span list = {bytes, strlen(bytes)};
+/* The value of a list, for an input. NULL after an error, if the context asks to go on. */
+static bytea *requirement_of_input(fmNodePtr context, Span list) {
   bytea *value;
-  if (!fits(fcinfo->context, list, "requirement")) return (Datum)0;
+  if (!fits(context, list, "requirement")) return NULL;
   value = requirement_from(list);
   if (!value) {
-    ereturn(fcinfo->context, (Datum)0,
+    ereturn(context, NULL,
             (errcode(ERRCODE_INVALID_TEXT_REPRESENTATION),
              errmsg("invalid input syntax for type requirement: %s", quoted(list)), explain(list)));
   }
+  return value;
+}
+
+/* A cast of a text calls this for each row. */
+SQL_FUNCTION(requirement_in) {
+  char *bytes = PG_GETARG_CSTRING(0);
+  Span list = {bytes, strlen(bytes)};
+  bytea *value = last_read(fcinfo, VERSIONS_MIXED, list);
+  if (value) PG_RETURN_BYTEA_P(copy_of(value));
+  value = requirement_of_input(fcinfo->context, list);
+  if (!value) return (Datum)0;
+  keep_read(fcinfo, VERSIONS_MIXED, list, value);
   PG_RETURN_BYTEA_P(value);
 }
 
@@ -928,43 +1032,92 @@ SQL_FUNCTION(requirement_hash_extended) {
   return hash;
 }
 
-static Datum matches(Datum version, Datum list) {
-  text *value = DatumGetTextPP(version);
-  bytea *requirements = beginning_of(list);
-  Span span = span_of(value);
-  Requirement requirement = requirement_of(requirements);
+/* Whether a text matches the list of a value: true only of a version. */
+static bool match(const bytea *value, Span span, int *status) {
+  Requirement requirement = requirement_of(value);
   Range range = requirement.range;
   bool matches = false;
-  int status = versions_match_in_range(span.bytes, span.len, (const uint8_t *)range.low.bytes, range.low.len,
-                                       (const uint8_t *)range.high.bytes, range.high.len, range.flags,
-                                       requirement.members.bytes, requirement.members.len, &matches);
-  if (status == VERSIONS_NO_REQUIREMENTS) report_damaged_requirement();
-  if (status != VERSIONS_OK) report_damage(VERSIONS_MIXED, span);
-  free_copy(value, version);
-  free_copy(requirements, list);
-  PG_RETURN_BOOL(matches);
+  *status = versions_match_in_range(span.bytes, span.len, (const uint8_t *)range.low.bytes, range.low.len,
+                                    (const uint8_t *)range.high.bytes, range.high.len, range.flags,
+                                    requirement.members.bytes, requirement.members.len, &matches);
+  if (*status == VERSIONS_NO_REQUIREMENTS) report_damaged_requirement();
+  return matches;
 }
 
-/* A text that is a list for a version. The planner makes the next function of it, with a cast, so it fails as that. */
-SQL_FUNCTION(version_matches_cast) {
-  Span list = span_of(PG_GETARG_TEXT_PP(0)), span = span_of(PG_GETARG_TEXT_PP(1));
-  bool matches = false;
+static bytea *read_beginning(uint32 scheme, Datum value) { return beginning_of(value); }
+
+static Datum matches(FunctionCallInfo fcinfo, Datum version, Datum list) {
+  bytea *value = is_whole_value(list) ? DatumGetByteaPP(list) : read_once(fcinfo, read_beginning, 0, list);
+  text *bytes = DatumGetTextPP(version);
   int status;
-  fits(NULL, list, "requirement");
-  status = versions_matches(list.bytes, list.len, span.bytes, span.len, &matches);
-  if (status == VERSIONS_NO_REQUIREMENTS) {
-    ereport(ERROR, (errcode(ERRCODE_INVALID_TEXT_REPRESENTATION),
-                    errmsg("invalid input syntax for type requirement: %s", quoted(list)), explain(list)));
-  }
-  if (status != VERSIONS_OK) report_damage(VERSIONS_MIXED, span);
+  bool matches = match(value, span_of(bytes), &status);
+  if (status != VERSIONS_OK) report_damage(VERSIONS_MIXED, span_of(bytes));
+  free_copy(bytes, version);
   PG_RETURN_BOOL(matches);
 }
 
-SQL_FUNCTION(version_matches) { return matches(PG_GETARG_DATUM(1), PG_GETARG_DATUM(0)); }
-SQL_FUNCTION(version_matched_by) { return matches(PG_GETARG_DATUM(0), PG_GETARG_DATUM(1)); }
+SQL_FUNCTION(version_matches) { return matches(fcinfo, PG_GETARG_DATUM(1), PG_GETARG_DATUM(0)); }
+SQL_FUNCTION(version_matched_by) { return matches(fcinfo, PG_GETARG_DATUM(0), PG_GETARG_DATUM(1)); }
+
+/* Reads a text as a list, for a function; and as a cast does, which fails as the input of the type. */
+static bytea *read_list(uint32 scheme, Datum argument) {
+  text *list = DatumGetTextPP(argument);
+  bytea *value = requirement_from(span_of(list));
+  if (!value) report_no_requirement(span_of(list));
+  free_copy(list, argument);
+  return value;
+}
+
+static bytea *cast_list(uint32 scheme, Datum argument) {
+  text *list = DatumGetTextPP(argument);
+  bytea *value = requirement_of_input(NULL, span_of(list));
+  free_copy(list, argument);
+  return value;
+}
+
+/* Fails for a text that is too long for a requirement. */
+static void check_list(Datum argument) {
+  Span list = {NULL, toast_raw_datum_size(argument) - VARHDRSZ};
+  fits(NULL, list, "requirement");
+}
+
+/*
+ * Whether a text matches a list. A list that was not given last is read with the text, in one pass; only one that is
+ * given again is read to be kept, unless it is too long. So it costs little that each row of a column has another.
+ */
+static bool match_list(FunctionCallInfo fcinfo, Reading *read, Datum argument, Span span, int *status) {
+  Span given = given_as(argument), list;
+  LastRead *last = last_given(fcinfo, VERSIONS_MIXED, given);
+  bool matches = false;
+  if (last && !last->value) keep_read(fcinfo, VERSIONS_MIXED, given, read(VERSIONS_MIXED, argument));
+  if (last) return match(last_read(fcinfo, VERSIONS_MIXED, given), span, status);
+  list = span_of(DatumGetTextPP(argument));
+  *status = versions_matches(list.bytes, list.len, span.bytes, span.len, &matches);
+  if (*status == VERSIONS_NO_REQUIREMENTS) read(VERSIONS_MIXED, argument);
+  if (list.len <= LONGEST) keep_read(fcinfo, VERSIONS_MIXED, given, NULL);
+  return matches;
+}
+
+SQL_FUNCTION(version_matches_text) {
+  int status;
+  bool matches = match_list(fcinfo, read_list, PG_GETARG_DATUM(0), span_of(PG_GETARG_TEXT_PP(1)), &status);
+  if (status != VERSIONS_OK) PG_RETURN_NULL();
+  PG_RETURN_BOOL(matches);
+}
+
+/* A text that is a list for a version. Of a constant the planner makes a requirement, with a cast: it fails as that. */
+SQL_FUNCTION(version_matches_cast) {
+  Span span = span_of(PG_GETARG_TEXT_PP(1));
+  int status;
+  bool matches;
+  check_list(PG_GETARG_DATUM(0));
+  matches = match_list(fcinfo, cast_list, PG_GETARG_DATUM(0), span, &status);
+  if (status != VERSIONS_OK) report_damage(VERSIONS_MIXED, span);
+  PG_RETURN_BOOL(matches);
+}
 
 SQL_FUNCTION(version_why_not) {
-  Span list = requirement_of(PG_GETARG_BYTEA_PP(0)).list, span = span_of(PG_GETARG_TEXT_PP(1));
+  Span list = requirement_of(whole_once(fcinfo, PG_GETARG_DATUM(0))).list, span = span_of(PG_GETARG_TEXT_PP(1));
   int status;
   Datum why = why_not(list, span, &status);
   if (status == VERSIONS_NO_REQUIREMENTS) report_damaged_requirement();
@@ -1030,18 +1183,15 @@ static Datum high_bytes(Range range) {
   return bytes_of(range.flags & VERSIONS_RANGE_HIGH ? range.high : above_all);
 }
 
-static Range range_of_text(const text *value) {
-  bytea *made;
-  fits(NULL, span_of(value), "requirement");
-  made = requirement_from(span_of(value));
-  if (!made) report_no_requirement(span_of(value));
-  return requirement_of(made).range;
+static Range range_of_list(FunctionCallInfo fcinfo) {
+  check_list(PG_GETARG_DATUM(0));
+  return requirement_of(read_once(fcinfo, read_list, VERSIONS_MIXED, PG_GETARG_DATUM(0))).range;
 }
 
 SQL_FUNCTION(version_low) { return low_bytes(range_of_argument(fcinfo)); }
 SQL_FUNCTION(version_high) { return high_bytes(range_of_argument(fcinfo)); }
-SQL_FUNCTION(version_low_text) { return low_bytes(range_of_text(PG_GETARG_TEXT_PP(0))); }
-SQL_FUNCTION(version_high_text) { return high_bytes(range_of_text(PG_GETARG_TEXT_PP(0))); }
+SQL_FUNCTION(version_low_text) { return low_bytes(range_of_list(fcinfo)); }
+SQL_FUNCTION(version_high_text) { return high_bytes(range_of_list(fcinfo)); }
 
 /* What the output writes. */
 SQL_FUNCTION(version_bound_in) {
@@ -1156,12 +1306,25 @@ static Set set_of(const struct varlena *value) {
   return set;
 }
 
+/*
+ * The longest form of a computed set, in bytes. It prints as two digits for each, which its input, a copy and a dump
+ * take. That of a set with a text may be longer, as it prints as its text.
+ */
+enum { LONGEST_FORM = 4 * LONGEST };
+
+static bool form_fits(fmNodePtr context, size_t len) {
+  if (len > LONGEST_FORM) {
+    ereturn(context, false,
+            (errcode(ERRCODE_PROGRAM_LIMIT_EXCEEDED),
+             errmsg("a form of %zu bytes is too long for a version_set", len),
+             errdetail("The longest form of a computed set has %d bytes.", LONGEST_FORM)));
+  }
+  return true;
+}
+
 /* A value with room for a form. */
 static bytea *value_for(size_t room) {
-  if (room > MaxAllocSize - VARHDRSZ - sizeof(uint32)) {
-    ereport(ERROR, (errcode(ERRCODE_PROGRAM_LIMIT_EXCEEDED), errmsg("the set of versions is too long")));
-  }
-  return palloc(VARHDRSZ + sizeof(uint32) + room);
+  return MemoryContextAllocHuge(CurrentMemoryContext, VARHDRSZ + sizeof(uint32) + room);
 }
 
 static uint8_t *form_in(bytea *value) { return (uint8_t *)VARDATA(value) + sizeof(uint32); }
@@ -1169,6 +1332,7 @@ static uint8_t *form_in(bytea *value) { return (uint8_t *)VARDATA(value) + sizeo
 /* Says how long the form in a value is, and what follows it. */
 static bytea *with_form(bytea *value, size_t form_len, size_t text_len) {
   uint32 len = (uint32)form_len;
+  if (text_len == 0) form_fits(NULL, form_len);
   memcpy(VARDATA(value), &len, sizeof len);
   SET_VARSIZE(value, VARHDRSZ + sizeof len + form_len + text_len);
   return value;
@@ -1195,10 +1359,18 @@ static const Refusal of_message = {ERRCODE_INVALID_BINARY_REPRESENTATION,
                                    "invalid binary representation of type version_set"};
 static const Refusal of_function = {ERRCODE_INVALID_PARAMETER_VALUE, "not a set of versions"};
 
-/* How long the scheme in front of a text is, as in deb:>=1, with its colon; 0 where none is. No set begins so. */
+static bool is_letter(char byte) { return (byte >= 'a' && byte <= 'z') || (byte >= 'A' && byte <= 'Z'); }
+
+/*
+ * How long the scheme in front of a text is, as in deb:>=1, with its colon; 0 where none is. It begins with a letter,
+ * and goes on with letters, digits and dots. No set begins so.
+ */
 static size_t len_of_scheme(Span text) {
   size_t len = 0;
-  while (len < text.len && text.bytes[len] >= 'a' && text.bytes[len] <= 'z') len++;
+  while (len < text.len && (is_letter(text.bytes[len]) ||
+                            (len > 0 && (text.bytes[len] == '.' || isdigit((unsigned char)text.bytes[len]))))) {
+    len++;
+  }
   return len > 0 && len < text.len && text.bytes[len] == ':' ? len + 1 : 0;
 }
 
@@ -1220,9 +1392,11 @@ static bytea *set_of_digits(Span digits) {
   return versions_set_count(form_in(value), len, &count) == VERSIONS_OK ? with_form(value, len, 0) : NULL;
 }
 
-/* The value of a text that is a set from a place on, before which its scheme stands; NULL where it is none. */
-static bytea *set_of_words(uint32 scheme, Span text, size_t from) {
-  const char *front = from == 0 && scheme != VERSIONS_MIXED ? psprintf("%s:", name_of(scheme)) : "";
+/*
+ * The value of a text that is a set from a place on, before which its scheme stands; NULL where it is none. It prints
+ * with what is put in front.
+ */
+static bytea *set_of_words(uint32 scheme, const char *front, Span text, size_t from) {
   size_t bound = 0, form_len, front_len = strlen(front);
   uint8_t *form;
   bytea *value = NULL;
@@ -1246,10 +1420,12 @@ static bytea *set_of_words(uint32 scheme, Span text, size_t from) {
  */
 static bytea *set_from(fmNodePtr context, Refusal refusal, uint32 scheme, Span text) {
   size_t from = len_of_scheme(text);
-  Span name = {text.bytes, from > 0 ? from - 1 : 0};
+  Span name = {text.bytes, from > 0 ? from - 1 : 0}, printed = text;
+  const char *front;
   bytea *value;
   if (text.len >= 2 && text.bytes[0] == '\\' && text.bytes[1] == 'x') {
     Span digits = {text.bytes + 2, text.len - 2};
+    if (!form_fits(context, digits.len / 2)) return NULL;
     value = set_of_digits(digits);
     if (!value) {
       ereturn(context, NULL, (errcode(refusal.code), errmsg("%s: %s", refusal.what, quoted(text)),
@@ -1257,12 +1433,14 @@ static bytea *set_from(fmNodePtr context, Refusal refusal, uint32 scheme, Span t
     }
     return value;
   }
-  if (!fits(context, text, "version_set")) return NULL;
   if (from > 0 && versions_scheme(name.bytes, name.len, &scheme) != VERSIONS_OK) {
     ereturn(context, NULL, (errcode(refusal.code), errmsg("%s: %s", refusal.what, quoted(text)),
                             errdetail("A %s.", not_a_scheme(name))));
   }
-  value = set_of_words(scheme, text, from);
+  front = from == 0 && scheme != VERSIONS_MIXED ? psprintf("%s:", name_of(scheme)) : "";
+  printed.len += strlen(front);
+  if (!fits(context, printed, "version_set")) return NULL;
+  value = set_of_words(scheme, front, text, from);
   if (!value) {
     ereturn(context, NULL, (errcode(refusal.code), errmsg("%s: %s", refusal.what, quoted(text)),
                             explain_set(scheme, text, from)));
@@ -1270,11 +1448,15 @@ static bytea *set_from(fmNodePtr context, Refusal refusal, uint32 scheme, Span t
   return value;
 }
 
+/* A cast of a text calls this for each row. */
 SQL_FUNCTION(version_set_in) {
   char *bytes = PG_GETARG_CSTRING(0);
   Span text = {bytes, strlen(bytes)};
-  bytea *value = set_from(fcinfo->context, of_input, VERSIONS_MIXED, text);
+  bytea *value = last_read(fcinfo, VERSIONS_MIXED, text);
+  if (value) PG_RETURN_BYTEA_P(copy_of(value));
+  value = set_from(fcinfo->context, of_input, VERSIONS_MIXED, text);
   if (!value) return (Datum)0;
+  keep_read(fcinfo, VERSIONS_MIXED, text, value);
   PG_RETURN_BYTEA_P(value);
 }
 
@@ -1304,11 +1486,19 @@ static Span said_of_set(Set set) {
 SQL_FUNCTION(version_set_out) { PG_RETURN_CSTRING(said_of_set(set_of(PG_GETARG_BYTEA_PP(0))).bytes); }
 SQL_FUNCTION(version_set_send) { return bytes_of(said_of_set(set_of(PG_GETARG_BYTEA_PP(0)))); }
 
+/* Reads a text as a set of a scheme, or of that in front of it. */
+static bytea *read_set(uint32 scheme, Datum argument) {
+  text *words = DatumGetTextPP(argument);
+  bytea *value = set_from(NULL, of_function, scheme, span_of(words));
+  free_copy(words, argument);
+  return value;
+}
+
 SQL_FUNCTION(version_set_of_text) {
   uint32 scheme = scheme_of(span_of(PG_GETARG_TEXT_PP(1)));
-  bytea *value = set_from(NULL, of_function, scheme, span_of(PG_GETARG_TEXT_PP(0)));
+  bytea *value = read_once(fcinfo, read_set, scheme, PG_GETARG_DATUM(0));
   check_scheme(scheme, set_of(value).scheme);
-  PG_RETURN_BYTEA_P(value);
+  PG_RETURN_BYTEA_P(copy_of(value));
 }
 
 SQL_FUNCTION(version_set_scheme) {
@@ -1404,32 +1594,11 @@ SQL_FUNCTION(version_set_minus) {
 }
 SQL_FUNCTION(version_set_complement) { PG_RETURN_BYTEA_P(complement_of(set_of(PG_GETARG_BYTEA_PP(0)))); }
 
-/* The set that a function has read in an earlier row of a statement, with the text and the scheme it was given. */
-typedef struct {
-  uint32 scheme;
-  Span text;
-  bytea *value;
-} ReadSet;
-
-/* A set that a function is given as a text, which is read once while it stays the same. */
-static Set set_read(FunctionCallInfo fcinfo, uint32 scheme, Span text) {
-  ReadSet *read = fcinfo->flinfo->fn_extra;
-  if (!read || read->scheme != scheme || !are_same(read->text, text)) {
-    bytea *value = set_from(NULL, of_function, scheme, text);
-    char *end;
-    fcinfo->flinfo->fn_extra = NULL;
-    if (read) pfree(read);
-    read = MemoryContextAllocHuge(fcinfo->flinfo->fn_mcxt, sizeof *read + VARSIZE(value) + text.len);
-    read->scheme = scheme;
-    read->value = memcpy(read + 1, value, VARSIZE(value));
-    end = (char *)read->value + VARSIZE(value);
-    read->text.bytes = memcpy(end, text.bytes, text.len);
-    read->text.len = text.len;
-    fcinfo->flinfo->fn_extra = read;
-    pfree(value);
-  }
-  return set_of(read->value);
+/* The sets that functions are given beside a version: as a text, and as a value. */
+static Set set_of_text(FunctionCallInfo fcinfo, uint32 scheme, Datum argument) {
+  return set_of(read_once(fcinfo, read_set, scheme, argument));
 }
+static Set set_of_value(FunctionCallInfo fcinfo, Datum argument) { return set_of(whole_once(fcinfo, argument)); }
 
 /* Whether a text is a version in a set, by the scheme of the set. NULL if it is not a version. */
 static Datum has_text(FunctionCallInfo fcinfo, Set set, Span version) {
@@ -1443,19 +1612,19 @@ static Datum has_text(FunctionCallInfo fcinfo, Set set, Span version) {
 }
 
 SQL_FUNCTION(text_in_set_text) {
-  Set set = set_read(fcinfo, VERSIONS_MIXED, span_of(PG_GETARG_TEXT_PP(0)));
+  Set set = set_of_text(fcinfo, VERSIONS_MIXED, PG_GETARG_DATUM(0));
   return has_text(fcinfo, set, span_of(PG_GETARG_TEXT_PP(1)));
 }
 
 SQL_FUNCTION(text_in_set_text_in_scheme) {
   uint32 scheme = scheme_of(span_of(PG_GETARG_TEXT_PP(2)));
-  Set set = set_read(fcinfo, scheme, span_of(PG_GETARG_TEXT_PP(0)));
+  Set set = set_of_text(fcinfo, scheme, PG_GETARG_DATUM(0));
   check_scheme(scheme, set.scheme);
   return has_text(fcinfo, set, span_of(PG_GETARG_TEXT_PP(1)));
 }
 
 SQL_FUNCTION(text_in_set) {
-  return has_text(fcinfo, set_of(PG_GETARG_BYTEA_PP(0)), span_of(PG_GETARG_TEXT_PP(1)));
+  return has_text(fcinfo, set_of_value(fcinfo, PG_GETARG_DATUM(0)), span_of(PG_GETARG_TEXT_PP(1)));
 }
 
 /* Whether a version of a type is in a set. */
@@ -1471,13 +1640,6 @@ static Datum has_value(uint32 scheme, Set set, Datum version) {
   }
   free_copy(value, version);
   PG_RETURN_BOOL(has);
-}
-
-static Datum value_has(uint32 scheme, Datum set, Datum version) {
-  bytea *value = DatumGetByteaPP(set);
-  Datum has = has_value(scheme, set_of(value), version);
-  free_copy(value, set);
-  return has;
 }
 
 static size_t count_of(Set set) {
@@ -1534,6 +1696,7 @@ static Datum key_of_argument(FunctionCallInfo fcinfo, uint32 scheme) {
   SQL_FUNCTION(type##_in) { return version_of_input(fcinfo, scheme); }                                           \
   SQL_FUNCTION(type##_recv) { return version_of_message(fcinfo, scheme); }                                       \
   SQL_FUNCTION(type##_of_text) { return version_of_argument(fcinfo, scheme); }                                   \
+  SQL_FUNCTION(to_##type) { return version_or_null(fcinfo, scheme); }                                            \
   ORDER_FUNCTIONS(type, ORDER_OF_ARGUMENTS(scheme), ORDER_OF_ARGUMENTS(scheme) < 0)                              \
   SQL_FUNCTION(type##_ne) { PG_RETURN_BOOL(ORDER_OF_ARGUMENTS(scheme) != 0); }                                   \
   SQL_FUNCTION(type##_larger) { PG_RETURN_DATUM(PG_GETARG_DATUM(ORDER_OF_ARGUMENTS(scheme) >= 0 ? 0 : 1)); }     \
@@ -1545,13 +1708,17 @@ static Datum key_of_argument(FunctionCallInfo fcinfo, uint32 scheme) {
   ORDER_FUNCTIONS(type##_bound, ORDER_WITH_BOUND(scheme, 0, 1),                                                  \
                   is_below(scheme, PG_GETARG_DATUM(0), PG_GETARG_DATUM(1)))                                      \
   ORDER_FUNCTIONS(bound_##type, -ORDER_WITH_BOUND(scheme, 1, 0), ORDER_WITH_BOUND(scheme, 1, 0) > 0)             \
-  SQL_FUNCTION(type##_in_set) { return value_has(scheme, PG_GETARG_DATUM(0), PG_GETARG_DATUM(1)); }              \
-  SQL_FUNCTION(type##_contained_by) { return value_has(scheme, PG_GETARG_DATUM(1), PG_GETARG_DATUM(0)); }        \
+  SQL_FUNCTION(type##_in_set) {                                                                                  \
+    return has_value(scheme, set_of_value(fcinfo, PG_GETARG_DATUM(0)), PG_GETARG_DATUM(1));                      \
+  }                                                                                                              \
+  SQL_FUNCTION(type##_contained_by) {                                                                            \
+    return has_value(scheme, set_of_value(fcinfo, PG_GETARG_DATUM(1)), PG_GETARG_DATUM(0));                      \
+  }                                                                                                              \
   SQL_FUNCTION(type##_in_set_text) {                                                                             \
-    return has_value(scheme, set_read(fcinfo, scheme, span_of(PG_GETARG_TEXT_PP(0))), PG_GETARG_DATUM(1));       \
+    return has_value(scheme, set_of_text(fcinfo, scheme, PG_GETARG_DATUM(0)), PG_GETARG_DATUM(1));               \
   }                                                                                                              \
   SQL_FUNCTION(type##_contained_by_text) {                                                                       \
-    return has_value(scheme, set_read(fcinfo, scheme, span_of(PG_GETARG_TEXT_PP(1))), PG_GETARG_DATUM(0));       \
+    return has_value(scheme, set_of_text(fcinfo, scheme, PG_GETARG_DATUM(1)), PG_GETARG_DATUM(0));               \
   }
 
 TYPE_FUNCTIONS(version, VERSIONS_MIXED)
@@ -1613,6 +1780,22 @@ static Node *call_of(Oid caller, const char *name, List *arguments) {
 /* The name of a scheme, as an argument of type text. */
 static Node *name_argument(uint32 scheme) {
   return (Node *)makeConst(TEXTOID, -1, DEFAULT_COLLATION_OID, -1, CStringGetTextDatum(name_of(scheme)), false, false);
+}
+
+/* A text as a requirement. */
+static Node *cast_to_requirement(Oid caller, Node *said) {
+  CoerceViaIO *cast = makeNode(CoerceViaIO);
+  cast->arg = (Expr *)said;
+  cast->resulttype = type_of(caller, "requirement");
+  cast->coerceformat = COERCE_EXPLICIT_CAST;
+  cast->location = -1;
+  return (Node *)cast;
+}
+
+/* What a function or its operator reads a text as, beside versions of a scheme: a requirement or a set. */
+static Node *value_of(Oid caller, Oid function, Node *said, uint32 scheme) {
+  if (strcmp(get_func_name(function), "version_matches") == 0) return cast_to_requirement(caller, said);
+  return call_of(caller, "version_set", list_make2(said, name_argument(scheme)));
 }
 
 /*
@@ -1696,14 +1879,15 @@ static bool is_whole(Asked asked) {
  */
 static List *index_conditions(SupportRequestIndexCondition *request, Oid caller) {
   List *arguments = arguments_of(request->node), *conditions = NIL;
-  Node *version, *low, *high;
+  Node *version, *other, *low, *high;
+  uint32 scheme;
   Asked asked;
   if (request->index->relam != BTREE_AM_OID || list_length(arguments) != 2) return NIL;
   version = list_nth(arguments, request->indexarg);
-  if (!is_asked(&asked, caller, scheme_of_type(exprType(version), caller),
-                list_nth(arguments, 1 - request->indexarg))) {
-    return NIL;
-  }
+  other = list_nth(arguments, 1 - request->indexarg);
+  scheme = scheme_of_type(exprType(version), caller);
+  if (scheme != 0 && exprType(other) == TEXTOID) other = value_of(caller, request->funcid, other, scheme);
+  if (!other || !is_asked(&asked, caller, scheme, other)) return NIL;
   if (!is_pseudo_constant_for_index(request->root, asked.expression, request->index)) return NIL;
   low = bound_of(asked, false);
   high = bound_of(asked, true);
@@ -1989,21 +2173,16 @@ static Selectivity share_of(PlannerInfo *root, Oid caller, Oid function, List *a
   return share;
 }
 
-/* A text as a requirement, or as a set of a scheme. */
-static Node *value_of(Oid caller, Node *said, uint32 scheme, bool is_set) {
-  CoerceViaIO *cast;
-  if (is_set) return call_of(caller, "version_set", list_make2(said, name_argument(scheme)));
-  cast = makeNode(CoerceViaIO);
-  cast->arg = (Expr *)said;
-  cast->resulttype = type_of(caller, "requirement");
-  cast->coerceformat = COERCE_EXPLICIT_CAST;
-  cast->location = -1;
-  return (Node *)cast;
+/* The constant set of a scheme that a constant text is read as. It needs no right to call a function. */
+static Node *constant_set(Oid caller, Datum words, uint32 scheme) {
+  bytea *value = read_set(scheme, words);
+  check_scheme(set_of(value).scheme, scheme);
+  return (Node *)makeConst(type_of(caller, "version_set"), -1, InvalidOid, -1, PointerGetDatum(value), false, false);
 }
 
 /*
- * A call with a text and a version is one with the requirement or the set that the text is read as, so that the planner
- * sees its bounds. NULL for another call.
+ * A call with a constant text and a version is one with the requirement or the set that the text is read as, so that the
+ * planner sees its bounds. NULL for another call: another text is read by the function, once while it stays the same.
  */
 static Node *with_value(SupportRequestSimplify *request, Oid caller) {
   const char *name = get_func_name(request->fcall->funcid);
@@ -2011,12 +2190,14 @@ static Node *with_value(SupportRequestSimplify *request, Oid caller) {
   bool is_set = strcmp(name, "version_matches") != 0;
   int at = exprType(linitial(arguments)) == TEXTOID ? 0 : 1;
   uint32 scheme = scheme_of_type(exprType(list_nth(arguments, 1 - at)), caller);
-  Node *value;
-  if (exprType(list_nth(arguments, at)) != TEXTOID || scheme == 0) return NULL;
-  value = value_of(caller, list_nth(arguments, at), scheme, is_set);
-  if (!value) return NULL;
+  Node *said = list_nth(arguments, at), *value;
+  if (!IsA(said, Const) || ((Const *)said)->consttype != TEXTOID || ((Const *)said)->constisnull || scheme == 0) {
+    return NULL;
+  }
+  value = is_set ? constant_set(caller, ((Const *)said)->constvalue, scheme)
+                 : eval_const_expressions(request->root, cast_to_requirement(caller, said));
   arguments = list_copy(arguments);
-  lfirst(list_nth_cell(arguments, at)) = eval_const_expressions(request->root, value);
+  lfirst(list_nth_cell(arguments, at)) = value;
   return call_of(caller, name, arguments);
 }
 

@@ -3,7 +3,8 @@
  *
  *   version_key(text), version_key(text, scheme)
  *                                        the sort key, a BLOB that sorts by precedence, or as a scheme orders
- *   is_version(text)                     1 or 0: whether a value is a version; NULL for NULL
+ *   is_version(text), is_version(text, scheme)
+ *                                        1 or 0: whether a value is a version; NULL for NULL
  *   version_kind(text)                   'ideal', 'general' or 'complex'
  *   version_compare(a, b), version_compare(a, b, scheme)
  *                                        -1, 0 or 1 if a is before, equal to or after b by precedence, or in a scheme
@@ -14,6 +15,8 @@
  *   version_low(requirement)             a BLOB: the key of no version that matches is below it
  *   version_high(requirement)            a BLOB: the key of each version that matches is below it, if its epoch has
  *                                        fewer than 4,080 digits or the requirement has a high bound
+ *   version_low(set, scheme), version_high(set, scheme)
+ *                                        the same of a set, for the keys of its scheme
  *   version_nth(text, n)                 the number at a place, an integer counted from 0
  *   version_epoch(text)                  the epoch, the number before the colon; at most 9223372036854775807
  *   version_pre_release(text)            the pre-release of a strict version, a TEXT
@@ -31,8 +34,10 @@
  *                                        the pre-release that comes next, of the version's own word or of one such as
  *                                        'rc'
  *   version_why_not(requirement, text)   why a version does not match, a sentence; NULL if it matches
- *   version_max(text)                    aggregate and window function: the greatest version of the rows
- *   version_min(text)                    the least version of the rows
+ *   version_max(text), version_max(text, scheme)
+ *                                        aggregate and window function: the greatest version of the rows
+ *   version_min(text), version_min(text, scheme)
+ *                                        the least version of the rows
  *   versions_version()                   the version of the library
  *   COLLATE VERSION                      by precedence, then by bytes; texts that are not versions come last
  *
@@ -42,9 +47,9 @@
  * requirement does not parse. version_nth and version_next return NULL for NULL, and fail if the place is not an
  * integer. version_in and version_next_pre return NULL if the prefix or the word is not a text.
  *
- * A scheme is a name, such as 'deb', and may differ from row to row; without one it is 'mixed'. The functions return
- * NULL for a scheme that is NULL, and else fail if it is not the name of one, whatever the other arguments are.
- * version_in_set returns NULL for a set that is NULL, and fails if the text is not a set of that scheme.
+ * A scheme is a name, such as 'deb', and may differ from row to row, but not in the rows of an aggregate, which fails
+ * then; without one it is 'mixed', or what stands in front of a set, as in 'deb:>=1.2'. The functions that take a scheme
+ * return NULL if an argument is NULL, and else fail if it is not the name of a scheme, or if a text is not a set of it.
  *
  * All functions are deterministic and have no side effects, so indexes and generated columns can use them.
  *
@@ -166,9 +171,17 @@ static void give_no_scheme(sqlite3_context *context, struct text text, int type)
   give_error(context, sqlite3_str_finish(message));
 }
 
+static bool has_null(int count, sqlite3_value **values) {
+  int at;
+  for (at = 0; at < count; at++) {
+    if (sqlite3_value_type(values[at]) == SQLITE_NULL) return true;
+  }
+  return false;
+}
+
 /*
  * The scheme that the last argument names, of a function that is called with `without` arguments if it has none.
- * Returns false for NULL and after a failure, and then the result is set.
+ * Returns false if one is there and an argument is NULL, and after a failure, and then the result is set.
  */
 static inline bool read_scheme(sqlite3_context *context, int count, sqlite3_value **values, int without,
                                uint32_t *scheme) {
@@ -178,7 +191,7 @@ static inline bool read_scheme(sqlite3_context *context, int count, sqlite3_valu
   name = text_of(values[without]);
   if (!name.bytes) {
     sqlite3_result_error_nomem(context);
-  } else if (sqlite3_value_type(values[without]) == SQLITE_NULL) {
+  } else if (has_null(count, values)) {
     sqlite3_result_null(context);
   } else if (versions_scheme(name.bytes, name.len, scheme) == VERSIONS_OK) {
     return true;
@@ -222,15 +235,24 @@ static void version_key(sqlite3_context *context, int count, sqlite3_value **val
   }
 }
 
+/* Whether a text is a version. The first call says the same for mixed. */
+static bool is_of(uint32_t scheme, struct text text) {
+  bool has = false;
+  if (scheme == VERSIONS_MIXED) return versions_kind(text.bytes, text.len) != VERSIONS_NONE;
+  versions_scheme_has(scheme, text.bytes, text.len, &has);
+  return has;
+}
+
 static void is_version(sqlite3_context *context, int count, sqlite3_value **values) {
   struct text text = text_of(values[0]);
-  (void)count;
+  uint32_t scheme;
+  if (!read_scheme(context, count, values, 1, &scheme)) return;
   if (!text.bytes) {
     sqlite3_result_error_nomem(context);
   } else if (sqlite3_value_type(values[0]) == SQLITE_NULL) {
     sqlite3_result_null(context);
   } else {
-    sqlite3_result_int(context, versions_kind(text.bytes, text.len) != VERSIONS_NONE);
+    sqlite3_result_int(context, is_of(scheme, text));
   }
 }
 
@@ -423,52 +445,105 @@ static void version_matches(sqlite3_context *context, int count, sqlite3_value *
   }
 }
 
-/* A set of versions of a scheme: its form, by which the library is asked. */
+/* A set of versions: its form, by which the library is asked, and the scheme that it was asked for, 0 for any. */
 struct set {
-  uint32_t scheme;
+  uint32_t asked;
   size_t len;
   uint8_t form[];
 };
 
-/* Fails with the text that is not a set of a scheme, where and why, or with the type of a value that is not a text. */
-static void give_no_set(sqlite3_context *context, uint32_t scheme, struct text text, int type) {
+static bool is_letter(char byte) { return (byte >= 'a' && byte <= 'z') || (byte >= 'A' && byte <= 'Z'); }
+
+static bool is_digit(char byte) { return byte >= '0' && byte <= '9'; }
+
+/*
+ * How long the scheme in front of a text is, as in deb:>=1, with its colon; 0 where none is. It begins with a letter,
+ * and goes on with letters, digits and dots. No set begins so.
+ */
+static size_t len_of_scheme(struct text text) {
+  size_t len = 0;
+  while (len < text.len &&
+         (is_letter(text.bytes[len]) || (len > 0 && (text.bytes[len] == '.' || is_digit(text.bytes[len]))))) {
+    len++;
+  }
+  return len > 0 && len < text.len && text.bytes[len] == ':' ? len + 1 : 0;
+}
+
+/* Begins to say that a value is not a set of a scheme. */
+static sqlite3_str *say_no_set(const char *of, uint32_t scheme, struct text text, int type) {
   sqlite3_str *message = sqlite3_str_new(NULL);
+  sqlite3_str_appendall(message, "not a set of versions");
+  if (of) append_scheme(message, of, scheme);
+  sqlite3_str_appendall(message, ": ");
+  append_value(message, text, type);
+  return message;
+}
+
+/*
+ * Fails with the text that is not a set of a scheme from a place on, where and why, or with the type of a value that is
+ * not a text.
+ */
+static void give_no_set(sqlite3_context *context, uint32_t scheme, struct text text, size_t from, int type) {
+  sqlite3_str *message = say_no_set(scheme == VERSIONS_MIXED ? NULL : " of ", scheme, text, type);
   size_t place, len;
   uint32_t reason;
   char why[100];
-  sqlite3_str_appendall(message, "not a set of versions");
-  if (scheme != VERSIONS_MIXED) append_scheme(message, " of ", scheme);
-  sqlite3_str_appendall(message, ": ");
-  append_value(message, text, type);
-  if (type == SQLITE_TEXT && versions_set_wrong(scheme, text.bytes, text.len, &place, &reason) == VERSIONS_OK &&
-      versions_set_wrong_text(scheme, text.bytes, text.len, why, sizeof why, &len) == VERSIONS_OK) {
-    sqlite3_str_appendf(message, "; at byte %lld: %.*s", (sqlite3_int64)place, (int)len, why);
+  if (type == SQLITE_TEXT &&
+      versions_set_wrong(scheme, text.bytes + from, text.len - from, &place, &reason) == VERSIONS_OK &&
+      versions_set_wrong_text(scheme, text.bytes + from, text.len - from, why, sizeof why, &len) == VERSIONS_OK) {
+    sqlite3_str_appendf(message, "; at byte %lld: %.*s", (sqlite3_int64)(from + place), (int)len, why);
   }
   give_error(context, sqlite3_str_finish(message));
 }
 
-/* The set of a value, for sqlite3_free. Null for NULL and after a failure, and then the result is set. */
-static struct set *set_of(sqlite3_context *context, uint32_t scheme, sqlite3_value *value) {
-  struct text text = text_of(value);
+/* Fails with a set of another scheme than the one that is asked for. */
+static void give_other_scheme(sqlite3_context *context, uint32_t asked, struct text text, uint32_t scheme) {
+  sqlite3_str *message = say_no_set(" of ", asked, text, SQLITE_TEXT);
+  append_scheme(message, "; it is one of ", scheme);
+  give_error(context, sqlite3_str_finish(message));
+}
+
+/* The set of a text from a place on, for sqlite3_free. Null after a failure, and then the result is set. */
+static struct set *set_from(sqlite3_context *context, uint32_t scheme, struct text text, size_t from, int type) {
   struct set *set = NULL;
   size_t room;
-  if (sqlite3_value_type(value) == SQLITE_NULL) {
-    sqlite3_result_null(context);
-    return NULL;
-  }
-  if (text.bytes && versions_set_bound(scheme, text.bytes, text.len, &room) == VERSIONS_OK) {
+  if (versions_set_bound(scheme, text.bytes + from, text.len - from, &room) == VERSIONS_OK) {
     set = sqlite3_malloc64(sizeof *set + room);
   }
   if (!set) {
     sqlite3_result_error_nomem(context);
-    return NULL;
-  }
-  set->scheme = scheme;
-  if (versions_set(scheme, text.bytes, text.len, set->form, room, &set->len) != VERSIONS_OK) {
-    give_no_set(context, scheme, text, sqlite3_value_type(value));
+  } else if (versions_set(scheme, text.bytes + from, text.len - from, set->form, room, &set->len) != VERSIONS_OK) {
+    give_no_set(context, scheme, text, from, type);
     sqlite3_free(set);
     return NULL;
   }
+  return set;
+}
+
+/*
+ * The set of a value, of the scheme in front of it or of the one that is asked for, for sqlite3_free. Null after a
+ * failure, and then the result is set.
+ */
+static struct set *set_of(sqlite3_context *context, uint32_t asked, sqlite3_value *value) {
+  struct text text = text_of(value);
+  struct set *set = NULL;
+  struct text name = text;
+  uint32_t scheme = asked ? asked : VERSIONS_MIXED;
+  size_t from;
+  if (!text.bytes) {
+    sqlite3_result_error_nomem(context);
+    return NULL;
+  }
+  from = len_of_scheme(text);
+  name.len = from > 0 ? from - 1 : 0;
+  if (from > 0 && versions_scheme(name.bytes, name.len, &scheme) != VERSIONS_OK) {
+    give_no_scheme(context, name, SQLITE_TEXT);
+  } else if (asked && scheme != asked) {
+    give_other_scheme(context, asked, text, scheme);
+  } else {
+    set = set_from(context, scheme, text, from, sqlite3_value_type(value));
+  }
+  if (set) set->asked = asked;
   return set;
 }
 
@@ -490,9 +565,12 @@ static void version_in_set(sqlite3_context *context, int count, sqlite3_value **
   struct text text = text_of(values[1]);
   uint32_t scheme;
   if (!read_scheme(context, count, values, 2, &scheme)) return;
+  if (count == 2) scheme = 0;
   if (!text.bytes) {
     sqlite3_result_error_nomem(context);
-  } else if (set && set->scheme == scheme) {
+  } else if (has_null(2, values)) {
+    sqlite3_result_null(context);
+  } else if (set && set->asked == scheme) {
     give_has(context, set, text);
   } else {
     set = set_of(context, scheme, values[0]);
@@ -500,6 +578,35 @@ static void version_in_set(sqlite3_context *context, int count, sqlite3_value **
     give_has(context, set, text);
     sqlite3_set_auxdata(context, 0, set, sqlite3_free);
   }
+}
+
+/* Gives an outermost end of a set: of its first interval or of its last. A set that has none has no key. */
+static void give_end(sqlite3_context *context, uint32_t scheme, sqlite3_value *value, bool is_high) {
+  struct set *set = set_of(context, scheme, value);
+  size_t count = 0, low = 0, low_end = 0, high = 0, high_end = 0;
+  if (!set) return;
+  versions_set_count(set->form, set->len, &count);
+  if (count > 0) {
+    versions_set_interval(set->form, set->len, is_high ? count - 1 : 0, &low, &low_end, &high, &high_end);
+  }
+  if (is_high && count > 0 && high == high_end) {
+    sqlite3_result_blob64(context, unbounded, sizeof unbounded, SQLITE_STATIC);
+  } else if (is_high) {
+    sqlite3_result_blob64(context, set->form + high, high_end - high, SQLITE_TRANSIENT);
+  } else {
+    sqlite3_result_blob64(context, set->form + low, low_end - low, SQLITE_TRANSIENT);
+  }
+  sqlite3_free(set);
+}
+
+static void low_of_set(sqlite3_context *context, int count, sqlite3_value **values) {
+  uint32_t scheme;
+  if (read_scheme(context, count, values, 1, &scheme)) give_end(context, scheme, values[0], false);
+}
+
+static void high_of_set(sqlite3_context *context, int count, sqlite3_value **values) {
+  uint32_t scheme;
+  if (read_scheme(context, count, values, 1, &scheme)) give_end(context, scheme, values[0], true);
 }
 
 /* Gives why a version does not match a list, a sentence that is too long for the stack, in memory of its length. */
@@ -757,15 +864,19 @@ struct candidate {
 struct window {
   struct candidate *first, *last;
   sqlite3_int64 came, left; /* numbers of rows */
+  uint32_t scheme; /* 0 before the first row that has one */
 };
 
 /* The result of a comparison with a worse version: the user data of version_max and of version_min. */
 static const int32_t above = 1, below = -1;
 
-static bool is_better(sqlite3_context *context, struct text text, const struct candidate *than) {
+/* In mixed ties are broken. */
+static bool is_better(sqlite3_context *context, uint32_t scheme, struct text text, const struct candidate *than) {
   const int32_t *better = sqlite3_user_data(context);
   int32_t order;
-  int status = versions_compare_total(text.bytes, text.len, than->bytes, than->len, &order);
+  int status = scheme == VERSIONS_MIXED
+                   ? versions_compare_total(text.bytes, text.len, than->bytes, than->len, &order)
+                   : versions_scheme_compare(scheme, text.bytes, text.len, than->bytes, than->len, &order);
   return status == VERSIONS_OK && order == *better;
 }
 
@@ -813,17 +924,30 @@ static bool append(struct window *window, struct text text) {
   return true;
 }
 
+/* Whether rows have been of this scheme alone. Else fails: versions of two schemes are in no order. */
+static bool is_of_one_scheme(sqlite3_context *context, struct window *window, uint32_t scheme) {
+  sqlite3_str *message;
+  if (window->scheme == 0) window->scheme = scheme;
+  if (window->scheme == scheme) return true;
+  message = sqlite3_str_new(NULL);
+  append_scheme(message, "versions of two schemes have no order: of ", window->scheme);
+  append_scheme(message, " and of ", scheme);
+  give_error(context, sqlite3_str_finish(message));
+  return false;
+}
+
 static void best_step(sqlite3_context *context, int count, sqlite3_value **values) {
   struct window *window = sqlite3_aggregate_context(context, sizeof *window);
   struct text text = text_of(values[0]);
-  (void)count;
+  uint32_t scheme;
   if (!window || !text.bytes) {
     sqlite3_result_error_nomem(context);
     return;
   }
   window->came++;
-  if (versions_kind(text.bytes, text.len) == VERSIONS_NONE) return;
-  while (window->last && is_better(context, text, window->last)) drop_last(window);
+  if (!read_scheme(context, count, values, 1, &scheme) || !is_of_one_scheme(context, window, scheme)) return;
+  if (!is_of(scheme, text)) return;
+  while (window->last && is_better(context, scheme, text, window->last)) drop_last(window);
   if (window->last && has_text(window->last, text)) {
     window->last->row = window->came;
   } else if (!append(window, text)) {
@@ -897,6 +1021,7 @@ static int define_functions(sqlite3 *db) {
       {"version_key", 1, version_key},
       {"version_key", 2, version_key},
       {"is_version", 1, is_version},
+      {"is_version", 2, is_version},
       {"version_kind", 1, version_kind},
       {"version_compare", 2, version_compare},
       {"version_compare", 3, version_compare},
@@ -905,6 +1030,8 @@ static int define_functions(sqlite3 *db) {
       {"version_in_set", 3, version_in_set},
       {"version_low", 1, version_low},
       {"version_high", 1, version_high},
+      {"version_low", 2, low_of_set},
+      {"version_high", 2, high_of_set},
       {"version_nth", 2, version_nth},
       {"version_epoch", 1, version_epoch},
       {"version_pre_release", 1, version_pre_release},
@@ -939,9 +1066,14 @@ static int define_matches(sqlite3 *db) {
   return sqlite3_create_function_v2(db, "version_matches", 2, flags, calls, version_matches, NULL, NULL, sqlite3_free);
 }
 
+/* Defines an aggregate of a text, and of a text and a scheme. */
 static int define_aggregate(sqlite3 *db, const char *name, const int32_t *better) {
-  return sqlite3_create_window_function(db, name, 1, flags, (void *)better, best_step, best_final, best_value,
-                                        best_inverse, NULL);
+  int status = SQLITE_OK, count;
+  for (count = 1; count <= 2 && status == SQLITE_OK; count++) {
+    status = sqlite3_create_window_function(db, name, count, flags, (void *)better, best_step, best_final, best_value,
+                                            best_inverse, NULL);
+  }
+  return status;
 }
 
 /* A requirement of the extension that is not met here; null if all are met. */

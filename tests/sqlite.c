@@ -117,6 +117,11 @@ static const char *const statements[] = {
     "SELECT hex(version_key('1.0~rc1', 'deb') || version_key(" LONG ", 'deb'))",
     "SELECT version_compare('1.0', " LONG ", 'rpm') || version_compare('1.0', '1..2', 'deb')",
     "SELECT version_key('1', 'dpkg')",
+    "SELECT is_version(" LONG ", 'deb') || is_version('1.0', 'dpkg')",
+    "SELECT version_in_set('deb:>=1.0 || =' || " LONG ", " LONG ")",
+    "SELECT version_in_set('dpkg:>=1.0', '1') || version_in_set('deb:>=1.0', '1', 'rpm')",
+    "SELECT hex(version_low('>=1.0, <' || " LONG ", 'deb') || version_high('>=1.0, <' || " LONG ", 'deb'))",
+    "SELECT hex(version_high('rpm:>=1', 'rpm')) || version_low('>=', 'rpm')",
     "SELECT version_compare('1', '2', 7)",
     "SELECT version_in_set('>=1.0, <2 || =' || " LONG ", " LONG ")",
     "SELECT version_in_set('>=1.0,', '1')",
@@ -139,6 +144,9 @@ static const char *const statements[] = {
     "SELECT column1 FROM (VALUES ('1.10'), ('x y'), (" LONG "), ('1.9')) ORDER BY column1 COLLATE VERSION",
     ROWS("30") "SELECT version_max(v) || version_min(v) FROM versions",
     ROWS("30") "SELECT version_max(v) OVER (ORDER BY i ROWS 3 PRECEDING) FROM versions",
+    ROWS("30") "SELECT version_max(v, 'deb') || version_min(v, 'semver') FROM versions",
+    ROWS("30") "SELECT version_max(v, iif(i < 9, 'deb', 'rpm')) FROM versions",
+    ROWS("30") "SELECT version_min(v, 'semver') OVER (ORDER BY i ROWS 3 PRECEDING) FROM versions",
     ROWS("30") "SELECT version_min(v || '+' || printf('%080d', i)) OVER"
                " (ORDER BY i ROWS BETWEEN 2 FOLLOWING AND 9 FOLLOWING) FROM versions",
 };
@@ -246,6 +254,7 @@ static void try_kept(void) {
       "SELECT version_in_set(?1, v) FROM t",
       "SELECT version_in_set('>=1.2, <2 || >=3', v, 'deb') FROM t",
       "SELECT version_in_set(?1, v, s) FROM t",
+      "SELECT version_in_set('deb:>=1.2, <2', v) FROM t",
   };
   static const char *const at_each_row[] = {
       "SELECT version_in_set(w, v) FROM t",

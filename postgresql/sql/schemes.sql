@@ -11,14 +11,16 @@ SELECT scheme, a, b, version_compare(a, b, scheme), version_compare(b, a, scheme
 SELECT version_key('1_0', 'deb'), version_compare('1_0', '1', 'deb'), version_compare('1', '1_0', 'deb'),
   version_key('1_0', 'mixed') IS NOT NULL AS mixed;
 SELECT version_key(NULL, 'deb'), version_key('1', NULL), version_compare('1', '2', NULL),
-  version_compare(NULL, '2', 'debian');
-SELECT version_key('1', 'debian');
+  version_compare(NULL, '2', 'maven');
+SELECT version_key('1', 'maven');
 SELECT version_compare('1', '2', '');
 -- The types. Input, output and casts.
 SELECT deb_version '1.0~rc1', '1.a'::rpm_version, pypi_version('v1.0'), 'v1.0'::text::pypi_version::varchar(3),
   semver_version '1.0.0-rc.1', gem_version '1.0.a';
 SELECT deb_version '1_0';
 SELECT 'a'::text::gem_version;
+SELECT to_deb_version('1.0~rc1'), to_deb_version('1_0'), is_version('1_0', 'deb'),
+  version_compare(deb_version '1.0~rc1', '1.0');
 SELECT deb_version '1' = version '1';
 -- The order is the scheme's, and versions that tie are equal.
 SELECT v FROM unnest('{1.0.1,1.0+b,9,1:0,1.0,1.0a,1.0~rc1}'::deb_version[]) v ORDER BY v;

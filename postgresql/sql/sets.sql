@@ -34,7 +34,7 @@ SELECT version_in_set(NULL, '1'), version_in_set('*', NULL), version_in_set('*',
   version_in_set('*', 'x y'), version_in_set('*', '1_0', 'deb'), version_in_set(version_set('*', 'deb'), '1_0');
 SELECT version_in_set('>=1.2,', '1');
 SELECT version_in_set('~1.2', 'x y', 'deb');
-SELECT version_in_set('>=1', '1', 'debian');
+SELECT version_in_set('>=1', '1', 'maven');
 SELECT version_in_set('deb:>=1', '1', 'rpm');
 -- The type: it prints as it was written, with the scheme in front of that of another than mixed.
 SELECT version_set '>=1.2,  <2 || ^3', 'deb:>=1.2~'::version_set, version_set('>=1.2~', 'deb'),
@@ -42,7 +42,7 @@ SELECT version_set '>=1.2,  <2 || ^3', 'deb:>=1.2~'::version_set, version_set('>
 SELECT version_set_scheme(s), s FROM unnest('{>=1,"mixed:>=1",deb:>=1,semver:>=1.0.0}'::version_set[]) s;
 SELECT version_set '>=1 | <2';
 SELECT version_set 'deb:~1.2';
-SELECT version_set 'debian:>=1';
+SELECT version_set 'maven:>=1';
 SELECT version_set '';
 SELECT version_set('deb:>=1', 'rpm');
 -- Sets are equal if they have the same keys of one scheme.

@@ -20,6 +20,7 @@ from sets import DOUBLED, PIECE, SINGLE, Model, Wrong
 
 COUNT = int(sys.argv[2]) if len(sys.argv) > 2 else 100_000
 CONSTANT, ROWS = 30, 300  # sets of each scheme that are the same in each of so many rows
+WINDOW = 7  # rows before a row, in windows
 SEPARATORS = (" ", ", ", "\t", ",", " || ", "||")
 MIXED = """0 0.1 1 1.0 0:1.0 1.2 01.2 1.2+x 1.2-1 1.2.0-rc.1 1.2.0 1.2rc1 1.2.3 1.2.3.1 1.2_3 1.10 1.a 2 2.0.0-rc.1
     3.1-4+g 1:0.1 1:1.2 2:1_3 1.2~rc1 1_2 8:2007f~dfsg-7 1..2 v1.2 1.x latest""".split()
@@ -205,8 +206,57 @@ class Trial:
             said = [(text, b) for b in self.seconds]
             for place, words in (("?2", (text, self.name)), ("scheme", (text,))):
                 self.same(f"one set, {place}", self.ask(f"version_in_set(?1, b, {place})", *words), wanted, said)
+            named = f"{self.name}:{text}"
+            self.same("one set, its scheme in front", self.ask("version_in_set(?1, b)", named), wanted, said)
+            self.same("one set, its scheme in front and beside", self.ask("version_in_set(?1, b, scheme)", named), wanted,
+                      said)
+            self.bounds(text, named, wanted)
             made = self.versions.VersionSet(text, scheme=self.name).has_all(self.seconds)
             self.same("one set, by the package", made, wanted, said)
+
+    def bounds(self, text, named, wanted):
+        """The bounds of a set: all that it has are between them, and the least and the greatest end are those of it."""
+        low, high = self.database.execute("SELECT version_low(?, ?), version_high(?, ?)", (text, self.name) * 2).fetchone()
+        between = self.ask("version_key(b, scheme) >= version_low(?1, scheme) AND "
+                           "version_key(b, scheme) < version_high(?1, scheme)", named)
+        out = [b for b, has, inside in zip(self.seconds, wanted, between) if has and not inside]
+        intervals = self.versions.VersionSet(text, scheme=self.name).intervals
+        ends = (intervals[0][0], intervals[-1][1] or b"\xff" * 16) if intervals else (b"", b"")
+        check(f"{self.name}: the bounds of {text!r}", not out and (low, high) == ends, out[:5], low, high, ends)
+
+    def greatest(self):
+        """The greatest and the least of windows and of all, by keys, which are those of the package."""
+        texts = [text for text, _ in self.pairs]
+        self.insert([None] * len(texts))
+        keys = self.versions.sort_keys(texts, scheme=self.name)
+        for name, is_better in (("max", lambda a, b: a > b), ("min", lambda a, b: a < b)):
+            for place, words in (("scheme", ()), ("?1", (self.name,))):
+                found = self.ask_windows(f"version_{name}(a, {place})", words)
+                wanted = [self.best(texts, keys, at, is_better) for at in range(len(texts))]
+                self.same(f"version_{name} of windows, {place}", found, wanted, [(text,) for text in texts])
+            found, = self.database.execute(f"SELECT version_{name}(a, scheme) FROM texts").fetchone()
+            places = [place for place, key in enumerate(keys) if key is not None]
+            check(f"{self.name}: version_{name} of all", found is not None and
+                  not any(is_better(keys[place], keys[texts.index(found)]) for place in places), found)
+        known = [int(self.scheme.known[text]) for text in texts]
+        self.same("is_version", self.ask("is_version(a, scheme)"), known, [(text,) for text in texts])
+
+    def ask_windows(self, call, words):
+        statement = f"SELECT {call} OVER (ORDER BY rowid ROWS {WINDOW} PRECEDING) FROM texts ORDER BY rowid"
+        return [answer for answer, in self.database.execute(statement, words)]
+
+    def best(self, texts, keys, at, is_better):
+        """The best of a row and those before it: of those that tie the first, and in mixed the best with ties broken."""
+        best = None
+        for place in range(max(0, at - WINDOW), at + 1):
+            if keys[place] is None:
+                continue
+            if best is None or is_better(keys[place], keys[best]) or (
+                self.name == "mixed" and keys[place] == keys[best]
+                and is_better(self.versions.compare_total(texts[place], texts[best]), 0)
+            ):
+                best = place
+        return None if best is None else texts[best]
 
     def conclude(self):
         share = COUNT // 1000
@@ -244,6 +294,7 @@ def main(extension, work):
     for scheme in schemes:
         trial = Trial(database, versions, scheme, draw)
         trial.order()
+        trial.greatest()
         trial.long_texts()
         trial.in_sets()
         trial.in_constant_sets()
