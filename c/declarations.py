@@ -106,25 +106,32 @@ def prototypes(header):
 
 def functions(header):
     """The calls. A pointer before a length is to an array, and may be null where the length is 0; another may not be
-    null. A call that writes nothing returns its answer, which is no status, so it returns -VERSIONS_NULL.
+    null. No array that is read has more bytes than one can have, and of one that is written no more count. A call that
+    writes nothing returns its answer, which is no status, so it returns -VERSIONS_NULL and -VERSIONS_TOO_LONG.
     """
     made = []
     for call in header.proved():
-        null, passed, refused = [], [], "-VERSIONS_NULL"
-        names = [name for _, name in call.parameters]
+        null, read, passed, sign = [], [], [], "-"
         pointers = [name for kind, name in call.parameters if kind.endswith("*")]
+        plain = {}  # what is passed for the lengths of arrays, where no pointer is null
         for (kind, name), (next_kind, next_name) in zip(call.parameters, [*call.parameters[1:], ("", "")]):
             is_pointer, is_const = kind.endswith("*"), kind.startswith("const ")
             is_array = is_pointer and next_kind == "size_t"
-            passed.append(f"{'from' if is_const else 'to'}({name})" if is_array else name)
+            passed.append(f"{'from' if is_const else 'to'}({name})" if is_array else plain.get(name, name))
+            if is_array:
+                read += [(name, next_name)] if is_const else []
+                plain[next_name] = next_name if is_const else f"within({next_name}, MOST({name}))"
             if is_pointer:
                 null.append(f"lacks({name}, {next_name})" if is_array else f"{name} == NULL")
-                if not is_const:
-                    refused = "VERSIONS_NULL"
+                sign = sign if is_const else ""
+        names = [plain.get(name, name) for _, name in call.parameters]
         made += [call.prototype() + " {"]
         if names != passed:  # few calls have a null pointer, so the others take no test that they don't need
-            made += [f"  if ({' && '.join(pointers)}) return proved_{call.name}({', '.join(names)});"]
-        made += [f"  if ({' || '.join(null)}) return {refused};"] if null else []
+            usual = [*pointers, *(f"{length} <= MOST({array})" for array, length in read)]
+            made += [f"  if ({' && '.join(usual)}) return proved_{call.name}({', '.join(names)});"]
+        made += [f"  if ({' || '.join(null)}) return {sign}VERSIONS_NULL;"] if null else []
+        long = " || ".join(f"{length} > MOST({array})" for array, length in read)
+        made += [f"  if ({long}) return {sign}VERSIONS_TOO_LONG;"] if read else []
         made += [f"  return proved_{call.name}({', '.join(passed)});", "}"]
     return made
 

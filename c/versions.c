@@ -24,9 +24,15 @@ static const void *from(const void *pointer) { return is_null(pointer) ? &nothin
 /* The pointer, or one that is not null, to write to. */
 static void *to(void *pointer) { return is_null(pointer) ? &nothing : pointer; }
 
+/* The most elements that an array can have, by a pointer to one. A slice in Rust has no more bytes either. */
+#define MOST(array) ((size_t)PTRDIFF_MAX / sizeof *(array))
+
+/* A length, or the most that an array to write to can have. */
+static size_t within(size_t len, size_t most) { return len > most ? most : len; }
+
 /*
- * The calls. Each returns VERSIONS_NULL if a pointer is null that should point to something, and otherwise calls the
- * proved function.
+ * The calls. Each returns VERSIONS_NULL if a pointer is null that should point to something, VERSIONS_TOO_LONG if an
+ * array to read from is longer than one can be, and otherwise calls the proved function.
  */
 #include "functions.inc"
 

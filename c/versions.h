@@ -25,6 +25,10 @@
  * Null pointers. A null pointer with length 0 is an empty text or an empty array. Any other null pointer is an error:
  * the call returns VERSIONS_NULL, whatever else is wrong, and reads and writes nothing.
  *
+ * Lengths. No array has more than PTRDIFF_MAX bytes. If one that is read has a greater length, the call returns
+ * VERSIONS_TOO_LONG, and reads and writes nothing. The length of one that is written may be greater: SIZE_MAX as the room
+ * of a buffer says that there is enough.
+ *
  * Ownership. The caller owns all memory that a call reads or writes, and may free it when the call returns. The library
  * owns only the constant texts that versions_status_text and versions_version return. Output must not overlap anything
  * else that is passed to the call. No call allocates memory.
@@ -79,6 +83,7 @@ extern "C" {
 #define VERSIONS_OTHER_SCHEME 21    /* the two sets are of different schemes */
 #define VERSIONS_NO_INTERVAL 22     /* the set has no interval at that place */
 #define VERSIONS_IS_VERSION 23      /* the text is a version */
+#define VERSIONS_TOO_LONG 24        /* the length of an array is above PTRDIFF_MAX bytes */
 
 /* The kinds. */
 #define VERSIONS_NONE 0    /* not a version */
@@ -165,7 +170,8 @@ extern "C" {
 /*
  * Returns the kind of a text: VERSIONS_NONE, VERSIONS_IDEAL, VERSIONS_GENERAL or VERSIONS_COMPLEX.
  *
- * This is not a status. If text is null and text_len is not 0, the call returns -VERSIONS_NULL, which is not a kind.
+ * This is not a status. If text is null and text_len is not 0, the call returns -VERSIONS_NULL, which is not a kind, and
+ * if text_len is above PTRDIFF_MAX, -VERSIONS_TOO_LONG.
  */
 int versions_kind(const char *text, size_t text_len);
 
@@ -417,7 +423,7 @@ int versions_after_prefix(const char *prefix, size_t prefix_len, const char *tag
  * letters may be in upper or lower case: 1.2.3-R1 is stable.
  *
  * This is not a status. If text is null and text_len is not 0, the call returns -VERSIONS_NULL, which is not a
- * stability.
+ * stability, and if text_len is above PTRDIFF_MAX, -VERSIONS_TOO_LONG.
  */
 int versions_stability(const char *text, size_t text_len);
 
@@ -664,8 +670,9 @@ int versions_scheme_sort(uint32_t scheme, const char *texts, size_t texts_len, c
  *
  * `room` is the size of the buffer `form`. The call sets *form_len to the length of the form, which is the first bytes
  * of `form`; the bytes behind it are unspecified. If it returns VERSIONS_NO_ROOM, it sets *form_len to a size that is
- * enough, that of versions_set_bound. With every other status than VERSIONS_OK and VERSIONS_NO_SCHEME the whole buffer
- * is unspecified. It is linear in the text, times the logarithm of the number of members.
+ * enough, that of versions_set_bound, and the whole buffer is unspecified. If the text is
+ * not a set, it returns VERSIONS_NO_SET and writes nothing, however small the buffer is. It is linear in the text, times
+ * the logarithm of the number of members.
  *
  * Returns VERSIONS_OK, VERSIONS_NO_SCHEME, VERSIONS_NO_SET or VERSIONS_NO_ROOM.
  */
@@ -788,8 +795,9 @@ int versions_set_part_of(const uint8_t *one, size_t one_len, const uint8_t *othe
 int versions_set_meets(const uint8_t *one, size_t one_len, const uint8_t *other, size_t other_len, bool *meet);
 
 /*
- * Counts the intervals of a set, and checks its form whole: whether it is the bytes that a call writes for a set. The
- * other calls do not. It takes time linear in the form.
+ * Counts the intervals of a set, and checks its form whole, which the other calls do not: the number is that of a
+ * scheme, and the ends rise and lie one behind another through the last byte. Any bytes are such ends, so a set that
+ * passes may have keys that no version has. It takes time linear in the form.
  *
  * Returns VERSIONS_OK, VERSIONS_NO_FORM or VERSIONS_NO_SCHEME.
  */

@@ -1544,7 +1544,7 @@ static void bad_offsets(void) {
 // Every status has its own text, its comment in the header up to a semicolon.
 static void statuses(void) {
   CHECK(strcmp(versions_status_text(VERSIONS_NO_MEMORY), "memory allocation failed") == 0);
-  for (int a = VERSIONS_OK; a <= VERSIONS_IS_VERSION + 1; a++) {
+  for (int a = VERSIONS_OK; a <= VERSIONS_TOO_LONG + 1; a++) {
     CHECK(strlen(versions_status_text(a)) > 5);
     for (int b = VERSIONS_OK; b < a; b++) CHECK(strcmp(versions_status_text(a), versions_status_text(b)) != 0);
   }
@@ -1658,6 +1658,34 @@ static void worked_sets(void) {
   CHECK(versions_set_wrong_text(VERSIONS_MIXED, "2", 1, why, why_length, &why_length) == VERSIONS_OK);
   CHECK(memcmp(why, "an operator is missing", 22) == 0);
   release(why);
+
+  // A text that is not a set is none however small the buffer is, and nothing is written.
+  static const char not_a_set[] = ">=1, <2 || ~1.2.3 ^1 || !=4, 5";
+  uint8_t buffer[1000], before[1000];
+  for (size_t room = 0; room <= sizeof buffer; room += 250) {
+    memset(buffer, 7, sizeof buffer), memset(before, 7, sizeof before);
+    length = 77;
+    CHECK(versions_set(VERSIONS_MIXED, not_a_set, strlen(not_a_set), buffer, room, &length) == VERSIONS_NO_SET);
+    CHECK(length == 77 && memcmp(buffer, before, sizeof buffer) == 0);
+  }
+}
+
+// Lengths that no array has, and a room that says that there is enough.
+static void too_long(void) {
+  static const size_t lengths[] = {(size_t)PTRDIFF_MAX + 1, SIZE_MAX};
+  uint8_t key[20];
+  size_t length = 77;
+  int32_t order = 77;
+  for (size_t i = 0; i < 2; i++) {
+    CHECK(versions_kind("1", lengths[i]) == -VERSIONS_TOO_LONG);
+    CHECK(versions_stability("1", lengths[i]) == -VERSIONS_TOO_LONG);
+    CHECK(versions_kind(NULL, lengths[i]) == -VERSIONS_NULL);
+    CHECK(versions_compare("1", lengths[i], "2", 1, &order) == VERSIONS_TOO_LONG && order == 77);
+    CHECK(versions_compare("1", 1, "2", lengths[i], &order) == VERSIONS_TOO_LONG && order == 77);
+    CHECK(versions_sort_key("1", lengths[i], key, sizeof key, &length) == VERSIONS_TOO_LONG && length == 77);
+    CHECK(versions_sort_key("1.2.3", 5, key, lengths[i], &length) == VERSIONS_OK && length == 15);
+    length = 77;
+  }
 }
 
 // A key in a block of just its length, of a version of a scheme.
@@ -2345,6 +2373,7 @@ int main(int count, char **words) {
     worked_flaws();
     statuses();
     library();
+    too_long();
   } else if (strcmp(word, "long") == 0) {
     long_texts();
   } else if (strcmp(word, "many") == 0) {

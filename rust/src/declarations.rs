@@ -28,6 +28,7 @@ pub const NO_SCHEME: c_int = 20;
 pub const OTHER_SCHEME: c_int = 21;
 pub const NO_INTERVAL: c_int = 22;
 pub const IS_VERSION: c_int = 23;
+pub const TOO_LONG: c_int = 24;
 
 pub const NONE: c_int = 0;
 pub const IDEAL: c_int = 1;

@@ -109,7 +109,7 @@ const WRONG: [(Scheme, &str, usize, &str); 21] = [
         Scheme::Mixed,
         ">=1.x",
         2,
-        "the version has a part x: write =1.* for what begins with 1",
+        "the version has a part x: write >=1 <2, or =1.* where versions have parts",
     ),
     (
         Scheme::Mixed,

@@ -18,8 +18,22 @@ SPAN = re.compile("`([^`]+)`")
 (ASKS_FOR_PARTS,) = re.findall(r"^\| each of these \| `~[^`]*` \| \d+ \| (.*) \|$", PAGE, re.M)
 # Which orders of a version and the member's version each operator has.
 OPERATORS = {"=": (0,), "==": (0,), "!=": (-1, 1), "<": (-1,), "<=": (-1, 0), ">": (1,), ">=": (0, 1)}
-# What a text has that can't be a version in a set.
-NOT_IN_SETS = re.compile(r"[ \t|,]|\.\*$")
+# What a text has that can't be a version in a set, or is refused there as a slip: no digit, v first, or a part x.
+NOT_IN_SETS = re.compile(r"[ \t|,]|\.\*$|^[^0-9]*$|^[vV][0-9]|^([0-9]*:)?([A-Za-z0-9]*\.)*[xX](?![A-Za-z0-9])")
+# Slips, with the place and the reason, and what is none though it has a v, an x or few digits.
+LETTER_V, PART_X, NO_DIGIT = 9, 10, 11
+SLIPS = {
+    "deb": ((">=1.x", 2, PART_X), ("=1:1.2.X-1", 1, PART_X), (">= 2.x+dfsg-1", 3, PART_X)),
+    "rpm": ((">=1.x", 2, PART_X), ("<X.1", 1, PART_X), ("=latest", 1, NO_DIGIT), ("= .", 2, NO_DIGIT), (">=v1.2", 2, LETTER_V)),
+    "gem": ((">=1.x", 2, PART_X), ("<2.0.X", 1, PART_X)),
+}
+NO_SLIPS = {
+    "deb": ("=1.2-x", "=1.2+x", "=1.2~x.1", "=1.x1", "=1.xx", "=1x.2", "=1:2:3.x"),
+    "rpm": ("=x1", "=1.2-x", "=1_x", "=1.vx", "=v.1", "=1^x"),
+    "pypi": ("=v1.2", ">=V1.2"),
+    "semver": ("=1.2.3-x", "=1.2.3-rc.x", "=1.2.3+v1.x"),
+    "gem": ("=1.x1", "=1.2x", "=1-x"),
+}
 # Shapes of `[epoch:]version[-release]`: N is a number, S a sign, W a word, and E an epoch.
 OF_THREE_PARTS = "N NSN N.NSN NWN N.NSW WSN N.NSWSN E:NSN N.N-N NSN-NWN N.NWN-SWN E:NSNWN-NSN NSNWNSN-WSN N-N-N".split()
 

@@ -11,6 +11,7 @@ pub mod Reader
 pub mod Reading
 pub mod Reason
 pub mod Set
+pub mod Slips
 pub mod Start
 pub mod Steps
 pub mod Whole

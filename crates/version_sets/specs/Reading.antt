@@ -9,6 +9,7 @@ use Rattle.version_texts.specs.keyed.Keyed.{PlainKeyed}
 use Rattle.version_sets.specs.Comparison.{asks_bare, asks_doubled, asks_parts, before_star, ends_with, has_doubled, has_parts, starred}
 use Rattle.version_sets.specs.Ends.{has}
 use Rattle.version_sets.specs.Pieces.{PlainPiece, Word, pieces}
+use Rattle.version_sets.specs.Slips.{slip_of}
 use Rattle.version_sets.specs.Steps.{PlainStep, All, Asks, Closes, Fault, Goes, step, unfinished}
 use Rattle.version_sets.specs.declared.read.comparison.Comparison.{Comparison}
 use Rattle.version_sets.specs.declared.read.fault.Reason.{Reason}
@@ -75,7 +76,7 @@ module _ (read_as : List ℕ → Option PlainKeyed) (words : Words) where
     where
       by : Option PlainKeyed → Asked
       by None = Not NotVersion
-      by (Some version) = unless_slip version.slip (allowed c version)
+      by (Some version) = unless_slip (slip_of read_as version text) (allowed c version)
 
   -- a comparison with the text of its version, behind which `.*` may stand
   abbrev pub asked : Comparison → List ℕ → Asked

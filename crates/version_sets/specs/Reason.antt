@@ -15,5 +15,5 @@ reason_text NotBare = codes ".* stands behind an epoch and parts alone: cut off 
 reason_text NoParts = codes "versions of this scheme have no parts, which ~, ^ and .* ask for"
 reason_text NotDoubled = codes "<< and >> are for Debian's versions alone: write < or >"
 reason_text (Slip LetterV) = codes "the version begins with v: cut it off"
-reason_text (Slip PartX) = codes "the version has a part x: write =1.* for what begins with 1"
+reason_text (Slip PartX) = codes "the version has a part x: write >=1 <2, or =1.* where versions have parts"
 reason_text (Slip NoDigit) = codes "the version has no digit"

@@ -14,6 +14,7 @@ pub(crate) mod member;
 pub(crate) mod pieces;
 pub(crate) mod pile;
 pub(crate) mod reader;
+pub(crate) mod slip;
 pub(crate) mod steps;
 
 use crate::read::fault::Fault;

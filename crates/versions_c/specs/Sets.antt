@@ -1,11 +1,11 @@
 -- Sets of versions in the caller's buffers, and what is answered of them.
-use Rattle.std.specs.Prelude.{◌≡◌, ◌⊎◌, ◌<◌, ◌≤◌, ◌∷◌, ⊤, ℕ, ℤ, Bool, List, Option, Some, None, length, slice_range}
+use Rattle.std.specs.Prelude.{◌≡◌, ◌≢◌, ◌⊎◌, ◌<◌, ◌≤◌, ◌∷◌, ⊤, ℕ, ℤ, Bool, false, true, IsSome, List, Option, Some, None, length, slice_range}
 use Rattle.version_schemes.specs.Scheme.{Rules}
 use Rattle.version_schemes.specs.declared.scheme.Scheme.{Scheme}
 use Rattle.version_sets.specs.Ends.{Rise, has}
 use Rattle.version_sets.specs.Form.{form_bytes}
 use Rattle.version_sets.specs.Reader.{IsWrittenSet}
-use Rattle.version_sets.specs.Reading.{Reading, Right, Wrong, set_has}
+use Rattle.version_sets.specs.Reading.{Reading, Right, Wrong, fault_of, set_has}
 use Rattle.version_sets.specs.declared.read.fault.Reason.{Reason}
 use Rattle.version_sets.specs.declared.read.fault.Reason.TheVariants.{NoMember, NoOperator, NoParts, NoVersion, NotBare, NotDoubled, NotVersion, OneBar, Slip, StarBehind}
 use Rattle.version_texts.specs.declared.versioning_ref.slip.Slip.TheVariants.{LetterV, NoDigit, PartX}
@@ -15,7 +15,7 @@ use Rattle.versions_c.specs.Ranges.{one_if}
 use Rattle.versions_c.specs.Schemes.{reading_by, room_by}
 use Rattle.versions_c.specs.Written.{IsWritten}
 use Rattle.versions_c.specs.declared.sets.TheConstants as reason
-use Rattle.versions_c.specs.declared.status.TheConstants.{NO_INTERVAL, NO_ROOM, NO_SCHEME, NO_SET, NO_VERSION, NO_WRONG_MEMBER, OK}
+use Rattle.versions_c.specs.declared.status.TheConstants.{NO_FORM, NO_INTERVAL, NO_ROOM, NO_SCHEME, NO_SET, NO_VERSION, NO_WRONG_MEMBER, OK}
 
 -- ---- texts
 
@@ -24,18 +24,14 @@ abbrev pub IsForm : ℕ → Reading → List ℕ → ℕ → Type 0
 IsForm scheme (Wrong place why) new len = ⊥
 IsForm scheme (Right first others) new len = IsWrittenSet new scheme len (set_has (first ∷ others))
 
--- whether a text is wrong
-abbrev pub IsWrong : Reading → Type 0
-IsWrong (Wrong place why) = ⊤
-IsWrong (Right first others) = ⊥
-
--- What is answered for a text: its form begins the buffer; or it is no set; or the buffer is smaller than
--- what is enough.
+-- What is answered for a text: its form begins the buffer; or it is no set; or it is one, and the buffer is
+-- smaller than what is enough.
 abbrev pub IsRead : Rules → ℕ → List ℕ → List ℕ → List ℕ → ℕ → ℤ → Type 0
 IsRead rules scheme text old new len status =
     ((status ≡ OK) × IsForm scheme (reading_by rules text) new len)
-    ⊎ ((status ≡ NO_SET) × IsWrong (reading_by rules text))
-    ⊎ ((status ≡ NO_ROOM) × (length old < room_by rules text) × (len ≡ saturated (room_by rules text)))
+    ⊎ ((status ≡ NO_SET) × IsSome (fault_of (reading_by rules text)))
+    ⊎ ((status ≡ NO_ROOM) × (fault_of (reading_by rules text) ≡ None) × (length old < room_by rules text)
+    × (len ≡ saturated (room_by rules text)))
 
 -- the number of a reason
 abbrev pub reason_code : Reason → ℕ
@@ -58,6 +54,11 @@ wrong_set_status None = NO_WRONG_MEMBER
 wrong_set_status (Some fault) = OK
 
 -- ---- forms
+
+-- the status tells whether bytes end too early for a form
+abbrev pub TellsEarly : Bool → ℤ → Type 0
+TellsEarly true status = status ≡ NO_FORM
+TellsEarly false status = status ≢ NO_FORM
 
 -- the status for a set of a scheme, and for it with a text
 abbrev pub scheme_status : Option Scheme → ℤ

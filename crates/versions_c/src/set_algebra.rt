@@ -1,15 +1,15 @@
 //! Sets of versions by their forms: what is in them, what is made of two, and their intervals.
 
-ghost use Rattle.std.specs.Prelude.{◌≡◌, ◌≢◌, ◌⊎◌, Err, IfErr, ◌+◌, ◌≤◌, ◌<◌, ◌&&◌, ◌||◌, List, not, length, slice_index, IfSome, MatchOption, Bool, ℕ};
+ghost use Rattle.std.specs.Prelude.{◌≡◌, ◌≢◌, ◌⊎◌, Err, IfErr, IfOk, ◌+◌, ◌≤◌, ◌<◌, ◌&&◌, ◌||◌, List, not, length, slice_index, IfSome, MatchOption, Bool, false, ℕ};
 ghost use Rattle.std.specs.Result.{IsOkAnd};
 ghost use Rattle.version_schemes.specs.Scheme.{numbered, rules};
 ghost use Rattle.version_sets.specs.Ends.{has, IsPart, Meet, Rise};
-ghost use Rattle.version_sets.specs.Form.{form_bytes};
+ghost use Rattle.version_sets.specs.Form.{ends_early, form_bytes};
 ghost use Rattle.version_sets.specs.Intervals.{interval_at, intervals};
 ghost use Rattle.version_sets.specs.Set.{by_rule, ends_of, left};
 ghost use Rattle.versions_c.specs.Offsets.{text_at, AreOffsets};
 ghost use Rattle.versions_c.specs.Ranges.{one_if};
-ghost use Rattle.versions_c.specs.Sets.{has_code, has_status, interval_status, scheme_status, IsInterval, IsMade};
+ghost use Rattle.versions_c.specs.Sets.{has_code, has_status, interval_status, scheme_status, IsInterval, IsMade, TellsEarly};
 ghost use Rattle.versions_c.specs.Written.{IsWritten};
 
 use crate::offsets::{answer_each, are_offsets};
@@ -23,6 +23,7 @@ use version_texts::Keyed;
 /// Writes the number of the scheme of a set.
 #[unsafe(no_mangle)]
 pub extern "C" fn versions_set_scheme(form: &[u8], scheme: &mut u32) -> i32
+    ensures early { TellsEarly (ends_early form.now) result }
     ensures scheme { (number : ℕ) (ends : List (List ℕ)) → form.now ≡ form_bytes number ends
         → (result ≡ scheme_status (numbered number)) × (result ≡ OK → scheme.new ≡ number) }
     ensures kept { result ≢ OK → scheme.new ≡ scheme.old }
@@ -41,6 +42,7 @@ pub extern "C" fn versions_set_scheme(form: &[u8], scheme: &mut u32) -> i32
 /// Writes whether a version of its scheme is in a set.
 #[unsafe(no_mangle)]
 pub extern "C" fn versions_set_has(form: &[u8], text: &[u8], answer: &mut u8) -> i32
+    ensures early { TellsEarly (ends_early form.now) result }
     ensures status { (scheme : ℕ) (ends : List (List ℕ)) → form.now ≡ form_bytes scheme ends
         → MatchOption (numbered scheme) (result ≡ NO_SCHEME)
         (λ scheme. result ≡ has_status ((rules scheme).read_as text.now)) }
@@ -85,6 +87,8 @@ pub extern "C" fn versions_set_has_all(
     ensures answers { (scheme : ℕ) (ends : List (List ℕ)) → form.now ≡ form_bytes scheme ends → Rise ends → result ≡ OK
         → IfSome (numbered scheme) (λ scheme. (i : ℕ) → i < length answers.old → slice_index answers.new i
         ≡ has_code ends ((rules scheme).read_as (text_at texts.now offsets.now i))) }
+    ensures early { AreOffsets offsets.now (length texts.now) (length answers.old)
+        → TellsEarly (ends_early form.now) result }
     ensures bad { ¬ (AreOffsets offsets.now (length texts.now) (length answers.old)) → result ≡ BAD_OFFSETS }
     ensures kept { result ≢ OK → answers.new ≡ answers.old }
 {
@@ -126,6 +130,7 @@ pub extern "C" fn versions_set_and(
     form: &mut [u8],
     form_len: &mut usize,
 ) -> i32
+    ensures early { TellsEarly (ends_early one.now || ends_early other.now) result }
     ensures made { (scheme : ℕ) (first second : List (List ℕ)) → one.now ≡ form_bytes scheme first
         → other.now ≡ form_bytes scheme second → Rise first → Rise second
         → IsMade (λ key. has first key && has second key) (length one.now + length other.now) scheme form.old form.new form_len.new result }
@@ -145,6 +150,7 @@ pub extern "C" fn versions_set_or(
     form: &mut [u8],
     form_len: &mut usize,
 ) -> i32
+    ensures early { TellsEarly (ends_early one.now || ends_early other.now) result }
     ensures made { (scheme : ℕ) (first second : List (List ℕ)) → one.now ≡ form_bytes scheme first
         → other.now ≡ form_bytes scheme second → Rise first → Rise second
         → IsMade (λ key. has first key || has second key) (length one.now + length other.now) scheme form.old form.new form_len.new result }
@@ -158,6 +164,7 @@ pub extern "C" fn versions_set_or(
 
 // Writes the form of what a rule makes of two sets.
 fn combine(rule: Rule, one: &[u8], other: &[u8], form: &mut [u8], form_len: &mut usize) -> i32
+    ensures early { TellsEarly (ends_early one.now || ends_early other.now) result }
     ensures made { (scheme : ℕ) (first second : List (List ℕ)) → one.now ≡ form_bytes scheme first
         → other.now ≡ form_bytes scheme second → Rise first → Rise second
         → IsMade (λ key. by_rule rule (has first key) (has second key)) (length one.now + length other.now) scheme form.old form.new form_len.new result }
@@ -181,6 +188,8 @@ fn of_one_scheme<'a>(one: &'a [u8], other: &'a [u8]) -> Result<(u8, Form<'a>, Fo
         → IsOkAnd result (λ sets. (sets.0 ≡ scheme) × (ends_of sets.1 ≡ first) × (ends_of sets.2 ≡ second)) }
     ensures other { (scheme another : ℕ) (first second : List (List ℕ)) → one.now ≡ form_bytes scheme first
         → other.now ≡ form_bytes another second → scheme ≢ another → result ≡ Err OTHER_SCHEME }
+    ensures early { IfErr result (TellsEarly (ends_early one.now || ends_early other.now)) }
+    ensures long { IfOk result (λ _. (ends_early one.now || ends_early other.now) ≡ false) }
     ensures err { IfErr result (λ status. (status ≡ NO_FORM) ⊎ (status ≡ OTHER_SCHEME)) }
 {
     let Some((scheme, first)) = Form::of(one) else {
@@ -198,6 +207,7 @@ fn of_one_scheme<'a>(one: &'a [u8], other: &'a [u8]) -> Result<(u8, Form<'a>, Fo
 /// Writes the form of the set of all that a set has not.
 #[unsafe(no_mangle)]
 pub extern "C" fn versions_set_not(set: &[u8], form: &mut [u8], form_len: &mut usize) -> i32
+    ensures early { TellsEarly (ends_early set.now) result }
     ensures made { (scheme : ℕ) (ends : List (List ℕ)) → set.now ≡ form_bytes scheme ends → Rise ends
         → IsMade (λ key. not (has ends key)) (length set.now + 17) scheme form.old form.new form_len.new result }
     ensures kept { result ≢ OK → form.new ≡ form.old }
@@ -229,6 +239,7 @@ fn write(scheme: u8, merge: Merge<'_>, form: &mut [u8], form_len: &mut usize) ->
 /// Writes whether another set has all that a set has.
 #[unsafe(no_mangle)]
 pub extern "C" fn versions_set_part_of(one: &[u8], other: &[u8], is_part: &mut u8) -> i32
+    ensures early { TellsEarly (ends_early one.now || ends_early other.now) result }
     ensures part { (scheme : ℕ) (first second : List (List ℕ)) → one.now ≡ form_bytes scheme first
         → other.now ≡ form_bytes scheme second → Rise first → Rise second
         → (result ≡ OK) × ((b : Bool) × (is_part.new ≡ one_if b) × IsPart b (has first) (has second)) }
@@ -246,6 +257,7 @@ pub extern "C" fn versions_set_part_of(one: &[u8], other: &[u8], is_part: &mut u
 /// Writes whether two sets have a key in common.
 #[unsafe(no_mangle)]
 pub extern "C" fn versions_set_meets(one: &[u8], other: &[u8], meet: &mut u8) -> i32
+    ensures early { TellsEarly (ends_early one.now || ends_early other.now) result }
     ensures meet { (scheme : ℕ) (first second : List (List ℕ)) → one.now ≡ form_bytes scheme first
         → other.now ≡ form_bytes scheme second → Rise first → Rise second
         → (result ≡ OK) × ((b : Bool) × (meet.new ≡ one_if b) × Meet b (has first) (has second)) }
@@ -288,6 +300,7 @@ pub extern "C" fn versions_set_interval(
     high: &mut usize,
     high_end: &mut usize,
 ) -> i32
+    ensures early { TellsEarly (ends_early form.now) result }
     ensures interval { (scheme : ℕ) (ends : List (List ℕ)) → form.now ≡ form_bytes scheme ends
         → (result ≡ interval_status (interval_at ends place))
         × IsInterval form.now (interval_at ends place) (low.new, low_end.new) (high.new, high_end.new) }

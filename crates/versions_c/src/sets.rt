@@ -16,7 +16,7 @@ ghost use Rattle.versions_c.specs.Written.{IsWritten};
 use crate::schemes::write_text;
 use crate::status::{NO_ROOM, NO_SCHEME, NO_SET, NO_VERSION, NO_WRONG_MEMBER, OK};
 use version_schemes::{ByKey, Deb, Gem, Pypi, Rpm, Scheme, SemVer, VersioningRef, by_scheme};
-use version_sets::{Fault, Reason, Unread, find_fault, read_set, set_room, write_tied};
+use version_sets::{Fault, Reason, find_fault, read_set, set_room, write_tied};
 use version_texts::{Keyed, Slip};
 
 /// A member has to come.
@@ -55,7 +55,7 @@ pub extern "C" fn versions_set(
     ensures set { IfSome (numbered scheme) (λ scheme. IsRead (rules scheme) (scheme_number scheme)
         text.now form.old form.new form_len.new result) }
     ensures no_scheme { numbered scheme ≡ None → result ≡ NO_SCHEME }
-    ensures kept { result ≡ NO_SCHEME → form.new ≡ form.old }
+    ensures kept { result ≢ OK → result ≢ NO_ROOM → form.new ≡ form.old }
 
     // Where there is no form there is no length.
     ensures no_length { result ≢ OK → result ≢ NO_ROOM → form_len.new ≡ form_len.old }
@@ -69,7 +69,7 @@ pub extern "C" fn versions_set(
 // Writes the form of a set of a scheme that a text is.
 fn put_set(scheme: Scheme, text: &[u8], form: &mut [u8], form_len: &mut usize) -> i32
     ensures set { IsRead (rules scheme) (scheme_number scheme) text.now form.old form.new form_len.new result }
-    ensures status { result ≢ NO_SCHEME }
+    ensures kept { result ≢ OK → result ≢ NO_ROOM → form.new ≡ form.old }
     ensures no_length { result ≢ OK → result ≢ NO_ROOM → form_len.new ≡ form_len.old }
 {
     let number = scheme.number();
@@ -92,20 +92,19 @@ fn put_set_of<'t, V: Keyed<'t>>(
 ) -> i32
     ensures set { IsRead (record { read_as = V.read_as; words = V.words; most = V.most }) order
         text.now form.old form.new form_len.new result }
-    ensures status { result ≢ NO_SCHEME }
+    ensures kept { result ≢ OK → result ≢ NO_ROOM → form.new ≡ form.old }
     ensures no_length { result ≢ OK → result ≢ NO_ROOM → form_len.new ≡ form_len.old }
 {
-    match read_set::<V>(order, text, form) {
-        Ok(length) => {
-            *form_len = length;
-            OK
-        }
-        Err(Unread::Wrong(_)) => NO_SET,
-        Err(Unread::NoRoom) => {
-            *form_len = set_room::<V>(text);
-            NO_ROOM
-        }
+    // A set is read into the buffer, so a text that is none has to be known before.
+    if find_fault::<V>(text).is_some() {
+        return NO_SET;
     }
+    let Ok(length) = read_set::<V>(order, text, form) else {
+        *form_len = set_room::<V>(text);
+        return NO_ROOM;
+    };
+    *form_len = length;
+    OK
 }
 
 /// Writes a size of buffer that is enough for the form of a text.

@@ -16,6 +16,7 @@ use Rattle.version_sets.specs.Comparison.{asks_bare, asks_doubled, asks_parts, b
 use Rattle.version_sets.specs.Form.{form_bytes}
 use Rattle.version_sets.specs.Pieces.{PlainPiece, Bar, Bars, Comma, Word}
 use Rattle.version_sets.specs.Reading.{Asked, With, allowed, asked, piece_room, unless_slip, with_version}
+use Rattle.version_sets.specs.Slips.{slip_of}
 use Rattle.version_sets.specs.Steps.{All, Asks, Goes, begin_member, is_all, step}
 use Rattle.version_sets.specs.declared.read.comparison.Comparison.{Comparison}
 use Rattle.version_sets.specs.declared.read.steps.State.{State}
@@ -270,7 +271,7 @@ module _ (read_as : List ℕ → Option PlainKeyed) (words : Words) where
       by None is = cc (rw is at e)
       by (Some version) is =
           let found = allowed_read c other version plain
-          (unless_read version.slip (allowed read_as words c version) other plain (rw is at e)) in
+          (unless_read (slip_of read_as version text) (allowed read_as words c version) other plain (rw is at e)) in
           record {
             front = text;
             read = is ∙ ap Some found.1;

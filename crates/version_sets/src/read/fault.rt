@@ -50,7 +50,7 @@ impl Reason {
             Reason::NotDoubled => "<< and >> are for Debian's versions alone: write < or >",
             Reason::Slip(Slip::LetterV) => "the version begins with v: cut it off",
             Reason::Slip(Slip::PartX) =>
-                "the version has a part x: write =1.* for what begins with 1",
+                "the version has a part x: write >=1 <2, or =1.* where versions have parts",
             Reason::Slip(Slip::NoDigit) => "the version has no digit",
         }
     }

@@ -12,6 +12,7 @@ ghost use Rattle.version_texts.specs.keyed.Keyed.{end_of};
 
 use crate::read::comparison::Comparison;
 use crate::read::fault::Reason;
+use crate::read::slip::slip_of;
 use crate::write::{number, write_at, write_head};
 use version_rules::End;
 use version_texts::{Count, Keyed, Room, Words};
@@ -46,7 +47,7 @@ fn with_version<'t, V: Keyed<'t>>(
     ensures { plain_asked V.plain result ≡ with_version V.read_as V.words comparison text.now }
 {
     let version = V::read(text).ok_or(Reason::NotVersion)?;
-    if let Some(slip) = version.slip() {
+    if let Some(slip) = slip_of(&version, text) {
         return Err(Reason::Slip(slip));
     }
     let words = V::words();
