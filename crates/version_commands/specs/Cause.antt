@@ -7,6 +7,7 @@ use Rattle.version_commands.specs.Arranged.{policy}
 use Rattle.version_commands.specs.Choice.{wrong_set}
 use Rattle.version_commands.specs.Each.{has_version, place_of, spelling_of, AreTexts, IsFirstWithoutNext}
 use Rattle.version_commands.specs.Fault.{first_wrong, ComesOfLines, ComesOfMatching, ComesOfPut, ComesOfReading, ComesOfSets, ComesOfStandard, ComesOfTestOfSet, ComesOfTestOfSets, ComesOfTestOfTwo, ComesOfWords}
+use Rattle.version_commands.specs.FirstWord.{HoldsByWords}
 use Rattle.version_commands.specs.Inputs.{counts_before_last, joined, line_in, names_read, AreInputs, IsLineIn, Reading}
 use Rattle.version_commands.specs.Lists.{bad_lines_of, lines_of_list, names_of}
 use Rattle.version_commands.specs.Ends.{Ends}
@@ -147,7 +148,7 @@ ComesOfChanges lists reads old other = ComesOfReading lists.end reads old (names
 -- the faults of each task, but for a writer that takes no more
 abbrev pub ComesOf : Task → Reading → Option (List ℕ) → Fault → Type 0
 ComesOf (task.Lines arrangement options) reads old fault =
-    ComesOfArranging arrangement options reads old fault
+    HoldsByWords (λ asked with. ComesOfArranging asked with reads old fault) arrangement options
 ComesOf (task.Each question options) reads old fault = ComesOfAsking question options old fault
 ComesOf (task.TestTwo spelling a operator b) reads old fault =
     ComesOfTestOfTwo spelling (first_wrong (spelled spelling) (a.now ∷ b.now ∷ [])) fault

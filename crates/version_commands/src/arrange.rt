@@ -21,7 +21,7 @@ use crate::choice::Chooser;
 use crate::faults::Fault;
 use crate::files::{Files, Stage};
 use crate::header::{arrangement_by, names_line, options_by};
-use crate::hint::tell_hints;
+use crate::hint::{tell_of_arranged, tell_of_filter, tell_of_newest};
 use crate::inputs::{line_in, read_inputs};
 use crate::options::{Arrangement, Choice, Invalid, LineOptions, VersionPlace};
 use crate::pick::{Chooses, EveryVersion, Takes, pick};
@@ -130,8 +130,8 @@ fn write_told<'w, F: Files, W: Write>(
     ensures kept { UnlessLate (files.new ≡ files.old) result }
 {
     let written = write_input(alloc, arrangement, options, chooser, input, files, writer);
-    if written.is_ok() {
-        tell_hints(&arrangement, options, chooser, input, files);
+    if written.is_ok() && matches!(arrangement, Arrangement::Filter { .. }) {
+        tell_of_filter(options, chooser, input, files);
     }
     written
 }
@@ -277,7 +277,11 @@ fn write_keyed<'w, B: SortBy + Copy, C: Chooses, F: Files, W: Write>(
     tell(options, files, Stage::Kept(kept.count()));
     arrange(alloc, arrangement, options.place.crlf, &mut kept)?;
     tell(options, files, Stage::Ordered(kept.count()));
-    write_lines(alloc, options, input.head, &bad, &kept, files, writer)
+    let written = write_lines(alloc, options, input.head, &bad, &kept, files, writer);
+    if written.is_ok() {
+        tell_of_arranged(arrangement, options, chooser, &kept, input.body, files);
+    }
+    written
 }
 
 // Writes the lines that are kept, those of each scheme arranged, one scheme after another.
@@ -345,15 +349,12 @@ fn write_newest<'w, B: SortBy, C: Chooses, F: Files, W: Write>(
     let mut newest = NewestLine::new(by);
     let bad = pick(alloc, &mut newest, chooser, options.end, input.body)?;
     refuse_bad(alloc, options, &bad)?;
-    write_lines(
-        alloc,
-        options,
-        input.head,
-        &bad,
-        &newest.line(),
-        files,
-        writer,
-    )
+    let line = newest.line();
+    let written = write_lines(alloc, options, input.head, &bad, &line, files, writer);
+    if written.is_ok() {
+        tell_of_newest(None, options, chooser, line, input.body, files);
+    }
+    written
 }
 
 /// Arranges lines that stand as they were added.

@@ -23,8 +23,12 @@ pub enum Hint<'w> {
     NotVersion(&'w str, Option<Remark>),
     /// This word of `filter` looks like a version, and there is no file of that name.
     NoFile(&'w str),
-    /// Each version begins with a `v` and a digit, and was compared as a whole.
+    /// A version begins with a `v` and a digit and was taken as a whole, and with `--tags` the answer would be another.
     Tags,
+    /// Bytes between columns are named and no column is asked for, so that each line is its version.
+    WholeLines,
+    /// In the list of this name so many lines have the name of an earlier line, which counts in their place.
+    Repeated(&'w str, usize),
     /// The input has lines, and none was kept.
     NothingKept {
         /// Whether the first of them ends in a carriage return that was taken for a part of it.
@@ -56,6 +60,9 @@ pub trait Files {
         ensures put { OnOk result (puts self.old self.new name.now bytes.now) }
         ensures others { alters self.old self.new name.now };
 
+    /// Returns whether the file of this name is there.
+    fn has(&self, name: &str) -> bool;
+
     /// Tells how far the run is. Only `--progress` asks for it.
     fn tell(&self, stage: Stage);
 
@@ -82,6 +89,10 @@ impl Files for NoFiles {
 
     fn put(&mut self, _name: &str, _bytes: &[u8]) -> Result<(), Trouble> {
         Err(Trouble::System)
+    }
+
+    fn has(&self, _name: &str) -> bool {
+        false
     }
 
     fn tell(&self, _stage: Stage) {}

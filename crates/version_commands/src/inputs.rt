@@ -98,8 +98,8 @@ fn add_count(counts: &mut Vec<usize>, count: usize) -> Result<(), AllocError>
     Ok(())
 }
 
-// Returns how many lines a text has.
-fn count_lines(end: LineEnd, text: &[u8]) -> usize
+/// Returns how many lines a text has.
+pub fn count_lines(end: LineEnd, text: &[u8]) -> usize
     ensures { result ≡ length (lines_of end text.now) }
 {
     let (mut count, mut rest) = (0, text);

@@ -15,7 +15,6 @@ ghost use Rattle.version_commands.specs.Place.{mixed_spelling, spelled, spelled_
 ghost use Rattle.version_commands.specs.Test.{answer_line};
 ghost use Rattle.version_lines.specs.Lines.{line_feed};
 
-use crate::arrange::serve_lines;
 use crate::bad::refuse_first;
 use crate::compare::sign_line;
 use crate::difference::add_difference;
@@ -23,7 +22,11 @@ use crate::each::answer_each;
 use crate::explain::add_explained;
 use crate::faults::Fault;
 use crate::files::Files;
-use crate::hint::{tell_before_last, tell_of_fault, tell_of_two, tell_of_words};
+use crate::first_word::serve_by_words;
+use crate::hint::{
+    tell_before_last, tell_of_fault, tell_of_next, tell_of_repeated, tell_of_separators,
+    tell_of_two, tell_of_why, tell_of_words,
+};
 use crate::inputs::read_input;
 use crate::label::write_labels;
 use crate::lists::{add_lists, read_names};
@@ -60,7 +63,8 @@ pub fn serve<'w, F: Files, R: Read, W: Write>(
 {
     match task {
         Task::Lines(arrangement, options) => {
-            let served = serve_lines(alloc, *arrangement, options, files, reader, writer);
+            let served = serve_by_words(alloc, *arrangement, options, files, reader, writer);
+            tell_of_separators(arrangement, options, &served, files);
             tell_of_fault(arrangement, &options.place, &served, files);
             served?;
             Ok(true)
@@ -68,13 +72,16 @@ pub fn serve<'w, F: Files, R: Read, W: Write>(
         Task::Each(question, options) => {
             let answered = answer_each(alloc, *question, options, reader);
             tell_before_last(*question, options, &answered, files);
-            write_answer(writer, answered?.as_slice())?;
+            tell_of_next(*question, options, &answered, files);
+            let answers = answered?;
+            tell_of_why(alloc, *question, options, files)?;
+            write_answer(writer, answers.as_slice())?;
             Ok(tell_of_words(*question, options, files))
         }
         Task::TestTwo(spelling, first, operator, second) => {
-            test_two(spelling, first, *operator, second)
+            test_two(spelling, first, *operator, second, files)
         }
-        Task::TestSet(spelling, version, set) => test_set(alloc, spelling, version, set),
+        Task::TestSet(spelling, version, set) => test_set(alloc, spelling, version, set, files),
         Task::Implies(scheme, one, other) => {
             write_yes_or_no(writer, implies(alloc, *scheme, one, other)?)
         }
@@ -201,6 +208,22 @@ fn changes<'w, F: Files, R: Read>(
     let (new_names, new_bad) = read_names(alloc, lists, new.as_slice())?;
     refuse_of_list(alloc, lists, lists.old, &old_bad)?;
     refuse_of_list(alloc, lists, lists.new, &new_bad)?;
+    tell_of_repeated(
+        lists,
+        lists.old,
+        old.as_slice(),
+        old_names.count(),
+        old_bad.lines.len(),
+        files,
+    );
+    tell_of_repeated(
+        lists,
+        lists.new,
+        new.as_slice(),
+        new_names.count(),
+        new_bad.lines.len(),
+        files,
+    );
     let mut output = Vec::new(alloc);
     add_lists(&old_names, &new_names, lists.end.byte, &mut output)?;
     Ok(output)

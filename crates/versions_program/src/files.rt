@@ -87,6 +87,10 @@ impl Files for SystemFiles<'_> {
         }
     }
 
+    fn has(&self, name: &str) -> bool {
+        fs::File::open(self.rt, name).is_ok()
+    }
+
     fn tell(&self, stage: Stage) {
         let _ = match stage {
             Stage::Read(bytes) => eprintln!(self.rt; "versions: {bytes} bytes read"),
@@ -108,8 +112,19 @@ impl Files for SystemFiles<'_> {
                 eprintln!(self.rt; "versions: {shown} is a version: versions test {shown} SET")
             }
             Hint::Tags => eprintln!(self.rt;
-                "versions: all versions begin with v: --tags compares what follows it"
+                "versions: a version begins with v: with --tags the answer is another"
             ),
+            Hint::WholeLines => eprintln!(self.rt;
+                "versions: each line is taken for its version: -k names a column between -t"
+            ),
+            Hint::Repeated(name, count) => {
+                let shown = Shown {
+                    text: name.as_bytes(),
+                };
+                eprintln!(self.rt;
+                    "versions: lines left out of {shown}, since an earlier one has their name: {count}"
+                )
+            }
             Hint::NothingKept { has_returns: false } => eprintln!(self.rt;
                 "versions: no line was kept"
             ),
