@@ -44,6 +44,9 @@ pub trait Files {
     // Between the two states the bytes were written to the file of this name, in place of what it held.
     ghost puts: { Self → Self → List ℕ → List ℕ → Type 0 };
 
+    // Writing the file of this name may fail.
+    ghost refuses: { Self → List ℕ → Type 0 };
+
     // Between the two states at most the file of this name changed.
     ghost alters: { Self → Self → List ℕ → Type 0 };
 
@@ -58,6 +61,8 @@ pub trait Files {
     /// Writes the bytes to the file, in place of what it holds. After an error, it may hold anything.
     fn put(&mut self, name: &str, bytes: &[u8]) -> Result<(), Trouble>
         ensures put { OnOk result (puts self.old self.new name.now bytes.now) }
+        ensures failed { IfErr result
+            (λ trouble. trouble ≡ Trouble.System → refuses self.old name.now) }
         ensures others { alters self.old self.new name.now };
 
     /// Returns whether the file of this name is there.
@@ -75,11 +80,13 @@ pub trait Files {
 pub struct NoFiles;
 
 impl Files for NoFiles {
-    ghost use Rattle.std.specs.Prelude.{◌≡◌, None};
+    ghost use Rattle.std.specs.Prelude.{◌≡◌, ⊤, None};
 
     ghost reads = { λ _ _ text. text ≡ None };
 
     ghost puts = { λ _ _ _ _. ⊥ };
+
+    ghost refuses = { λ _ _. ⊤ };
 
     ghost alters = { λ old new _. new ≡ old };
 

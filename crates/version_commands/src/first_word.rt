@@ -16,12 +16,13 @@ use crate::files::Files;
 use crate::options::{Arrangement, Choice, LineOptions};
 use crate::set::Set;
 use std::alloc::{AllocError, Global};
-use std::io::{Read, Write};
+use std::io::Write;
+use version_lines::Source;
 use version_tasks::Stability;
 
 /// Reads the inputs, and writes those of their lines that the arrangement asks for. Where the first word of `filter` is no
 /// set and names a file that is there, and something else says which versions are kept, it is the first input.
-pub fn serve_by_words<'w, F: Files, R: Read, W: Write>(
+pub fn serve_by_words<'w, F: Files, R: Source, W: Write>(
     alloc: Global,
     arrangement: Arrangement<'w>,
     options: &LineOptions<'w>,
@@ -32,8 +33,8 @@ pub fn serve_by_words<'w, F: Files, R: Read, W: Write>(
     ensures ends { Ends (λ output. HoldsByWords (λ asked with. IsOrdered asked with (F.reads files.old)
         (R.remaining reader.old) (R.remaining reader.new) (Leaves F.puts files.old files.new) output)
         arrangement.entry options.now)
-        (λ fault. HoldsByWords (λ asked with. ComesOfArranging asked with (F.reads files.old) (R.remaining reader.old) fault)
-        arrangement.entry options.now)
+        (λ fault. HoldsByWords (λ asked with. ComesOfArranging asked with (F.reads files.old) (F.refuses files.old)
+        (R.may_fail reader.old) (R.remaining reader.old) fault) arrangement.entry options.now)
         (W.contents writer.old) (W.contents writer.new) result }
     ensures unread { reads_standard (names_read (map (λ name. name.now) options.now.files.items)) ≡ false
         → may_be_standard arrangement.entry options.now.choice ≡ false → reader.new ≡ reader.old }

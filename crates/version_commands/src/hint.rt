@@ -2,7 +2,6 @@
 
 ghost use Rattle.std.specs.Prelude.{◌≡◌};
 ghost use Rattle.std.specs.Option.{option_map};
-ghost use Rattle.version_commands.specs.Each.{are_versions};
 ghost use Rattle.version_commands.specs.Hint.{asks_by_name, begins_with_v, compare_otherwise, is_bare, is_kept_by, is_kept_otherwise, is_newer, is_tested_otherwise, order_of_tags, stands_otherwise, tagged, takes_whole_lines};
 ghost use Rattle.version_schemes.specs.any.AnyVersion.{plain_any};
 ghost use Rattle.version_schemes.specs.any.Order.{any_of};
@@ -410,38 +409,8 @@ pub fn tell_of_fault<F: Files>(
     }
 }
 
-/// Tells which words are no versions, and returns whether all are.
-pub fn tell_of_words<F: Files>(question: Question<'_>, options: &EachOptions<'_>, files: &F) -> bool
-    ensures { result ≡ are_versions question.entry options.now }
-{
-    let spelling = question.spelling(options.naming);
-    let all = options
-        .versions
-        .iter()
-        .all(|word| spelling.version(word.as_bytes()).is_some());
-    if !all {
-        tell_others(&spelling, options.versions.as_slice(), files);
-    }
-    all
-}
-
-/// Tells which words but the last are no versions, if that one is the fault.
-pub fn tell_before_last<F: Files>(
-    question: Question<'_>,
-    options: &EachOptions<'_>,
-    answered: &Result<Vec<u8>, Fault<'_>>,
-    files: &F,
-) {
-    if let (Err(Fault::NotVersion(..)), [before @ .., _]) = (
-        answered,
-        options.versions.as_slice(),
-    ) {
-        tell_others(&question.spelling(options.naming), before, files);
-    }
-}
-
-// Tells which words are no versions.
-fn tell_others<F: Files>(spelling: &Spelling<'_>, words: &[&str], files: &F) {
+/// Tells which words are no versions.
+pub fn tell_others<F: Files>(spelling: &Spelling<'_>, words: &[&str], files: &F) {
     for word in words {
         if spelling.version(word.as_bytes()).is_none() {
             files.hint(Hint::NotVersion(word, spelling.remark(word.as_bytes())));

@@ -24,8 +24,8 @@ use crate::faults::Fault;
 use crate::files::Files;
 use crate::first_word::serve_by_words;
 use crate::hint::{
-    tell_before_last, tell_of_fault, tell_of_next, tell_of_repeated, tell_of_separators,
-    tell_of_two, tell_of_why, tell_of_words,
+    tell_of_fault, tell_of_next, tell_of_repeated, tell_of_separators, tell_of_two, tell_of_why,
+    tell_others,
 };
 use crate::inputs::read_input;
 use crate::label::write_labels;
@@ -37,14 +37,15 @@ use crate::test::{answer_line, implies, meets, test_set, test_two};
 use crate::word::{mixed_of_word, version_of_word};
 use crate::write::write_answer;
 use std::alloc::Global;
-use std::io::{Read, Write};
+use std::io::Write;
+use version_lines::Source;
 use version_schemes::Scheme;
 
 /// Does a task, and returns whether it answers yes: one that answers by its output alone does. What it writes is
 /// `IsOutput` of the task and of what its files and the reader hold, and a fault `ComesOf` the same. At a fault the writer got nothing, or a proper beginning if it takes no more. A task that doesn't
 /// read standard input leaves the reader as it is. Each leaves all files as they are but the one for lines without a
 /// version, at a fault too.
-pub fn serve<'w, F: Files, R: Read, W: Write>(
+pub fn serve<'w, F: Files, R: Source, W: Write>(
     alloc: Global,
     task: &Task<'w>,
     files: &mut F,
@@ -54,7 +55,8 @@ pub fn serve<'w, F: Files, R: Read, W: Write>(
     ensures answers { IfOk result (Answers task.now) }
     ensures ends { Ends (IsOutput task.now (F.reads files.old) (R.remaining reader.old)
         (R.remaining reader.new) (Leaves F.puts files.old files.new))
-        (ComesOf task.now (F.reads files.old) (R.remaining reader.old))
+        (ComesOf task.now (F.reads files.old) (F.refuses files.old) (R.may_fail reader.old)
+        (R.remaining reader.old))
         (W.contents writer.old) (W.contents writer.new) result }
     ensures unread { asks_reader task.now ≡ false → reader.new ≡ reader.old }
     ensures files { AltersAtMost F.alters (file_of task.now) files.old files.new }
@@ -70,13 +72,14 @@ pub fn serve<'w, F: Files, R: Read, W: Write>(
             Ok(true)
         }
         Task::Each(question, options) => {
-            let answered = answer_each(alloc, *question, options, reader);
-            tell_before_last(*question, options, &answered, files);
+            let answered = answer_each(alloc, *question, options, files, reader);
             tell_of_next(*question, options, &answered, files);
-            let answers = answered?;
+            let answered = answered?;
             tell_of_why(alloc, *question, options, files)?;
-            write_answer(writer, answers.as_slice())?;
-            Ok(tell_of_words(*question, options, files))
+            write_answer(writer, answered.output.as_slice())?;
+            let spelling = question.spelling(options.naming);
+            tell_others(&spelling, answered.others.as_slice(), files);
+            Ok(answered.others.is_empty())
         }
         Task::TestTwo(spelling, first, operator, second) => {
             test_two(spelling, first, *operator, second, files)
@@ -191,7 +194,7 @@ fn difference<'w>(
 }
 
 // Returns the lines of `diff --lists`.
-fn changes<'w, F: Files, R: Read>(
+fn changes<'w, F: Files, R: Source>(
     alloc: Global,
     lists: &Lists<'w>,
     files: &F,
@@ -200,7 +203,8 @@ fn changes<'w, F: Files, R: Read>(
     ensures output { IfOk result (λ output. AreChanges lists.now (F.reads files.now)
         (R.remaining reader.old) (R.remaining reader.new) output.items) }
     ensures unread { reads_standard (names_of lists.now) ≡ false → reader.new ≡ reader.old }
-    ensures faults { IfErr result (ComesOfChanges lists.now (F.reads files.now) (R.remaining reader.old)) }
+    ensures faults { IfErr result (ComesOfChanges lists.now (F.reads files.now) (R.may_fail reader.old)
+        (R.remaining reader.old)) }
 {
     let old = read_input(alloc, lists.old, lists.end, files, reader)?;
     let new = read_input(alloc, lists.new, lists.end, files, reader)?;

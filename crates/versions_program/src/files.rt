@@ -72,6 +72,8 @@ impl Files for SystemFiles<'_> {
 
     ghost puts = { λ _ _ _ _. ⊤ };
 
+    ghost refuses = { λ _ _. ⊤ };
+
     ghost alters = { λ _ _ _. ⊤ };
 
     fn read_onto(&self, name: &str, input: &mut Vec<u8>) -> Result<(), Trouble> {

@@ -24,4 +24,4 @@ returns-clause-ends g c =
     (λ output. is-arranged (version_in reads) options c.args.input.now.head.now c.args.input.now.body.now _ _ _ _ output
     (c.in_ok-bad.ensures.bad.0 ∙ (λ i. bad_lines (version_in (g.B.SortBy.reads (by i))) lines)) rows
     (λ fail. ap (map (λ (line : Bor (List ℕ)). line.now)) (c.in_ok-refuse_bad.ensures.none fail)))
-    (put-faults options (version_in reads) c.args.input.now.body.now) c.write_lines.ensures.ends
+    (put-faults options (g.F.Files.refuses c.args.files.now) (version_in reads) c.args.input.now.body.now) c.write_lines.ensures.ends
