@@ -33,7 +33,7 @@ SPLIT = form(1, b"", KEYS["1"], KEYS["2.5"])  # <1 || >=2.5
 FROM_2_5, BELOW_2_5 = form(1, KEYS["2.5"]), form(1, b"", KEYS["2.5"])
 FROM_1, FROM_2 = form(1, KEYS["1"]), form(1, KEYS["2"])
 BELOW_1, BELOW_2 = form(1, b"", KEYS["1"]), form(1, b"", KEYS["2"])
-NO_OPERATOR = b"an operator is missing before the version: = for it alone, >= for it and all later"
+NO_MEMBER = b"a member is missing: * has all versions"
 ROWS = {
     "kind": [((b"1:2.0rc1-3",), (2,))],
     "compare": [((b"1.2", b"1.10.0"), (OK, -1))],
@@ -73,10 +73,10 @@ ROWS = {
     "scheme_key": [((1, b"1.2.3", 20), (OK, KEYS["1.2.3"], 15))],
     "scheme_keys": [((1, b"1.2.3x!", [0, 5, 7], 100, 3), (OK, KEYS["1.2.3"], [0, 15, 15]))],
     "scheme_sort": [((1, b"2.01.0", [0, 3, 6], 100, 3, 2), (OK, KEYS["2.0"] + KEYS["1.0"], [0, 10, 20], [1, 0]))],
-    "set": [((1, b">=1.2, <2", 100), (OK, form(1, KEYS["1.2"], KEYS["2"]), 43))],
+    "set": [((1, b">=1.2, <2", 400), (OK, form(1, KEYS["1.2"], KEYS["2"]), 43))],
     "set_bound": [((1, b">=1.2, <2"), (OK, 2 * (9 + 3 * (9 + 3 * 5 + 5) + 9 + 3 * (9 + 3 * 2 + 5))))],
     "set_wrong": [((1, b">=1, 2"), (OK, 5, 3))],
-    "set_wrong_text": [((1, b"1.2", 100), (OK, NO_OPERATOR, len(NO_OPERATOR)))],
+    "set_wrong_text": [((1, b">=1,", 100), (OK, NO_MEMBER, len(NO_MEMBER)))],
     "set_of_version": [((1, b"1.2", 100), (OK, form(1, *alone("1.2")), 48))],
     "set_scheme": [((form(2, b""),), (OK, 2))],
     "set_has": [((FROM_1, b"1.5"), (OK, 1))],
@@ -84,7 +84,7 @@ ROWS = {
     "set_and": [((FROM_1, BELOW_2_5, 100), (OK, form(1, KEYS["1"], KEYS["2.5"]), 43))],
     "set_or": [((FROM_2_5, BELOW_1, 100), (OK, SPLIT, 51))],
     "set_not": [((FROM_1, 100), (OK, BELOW_1, 32))],
-    "set_part_of": [((FROM_2_5, FROM_1), (OK, 1))],
+    "set_part_of": [((FROM_2_5, FROM_1), (OK, 1)), ((FROM_2, FROM_1), (OK, 1))],
     "set_meets": [((FROM_1, BELOW_2), (OK, 1))],
     "set_count": [((SPLIT,), (OK, 2))],
     "set_interval": [((SPLIT, 1), (OK, 40, 51, 33, 33)), ((SPLIT, 0), (OK, 33, 33, 33, 40))],
@@ -94,7 +94,7 @@ ROWS = {
     "newest": [((b"v1.5v1.7beta", [0, 4, 12], b"<1.8", 5, 1), (OK, 0))],
     "sort_keys": [((b"1.2.3x!", [0, 5, 7], 100, 3), (OK, KEYS["1.2.3"], [0, 15, 15]))],
     "sort": [((b"2.01.0", [0, 3, 6], 100, 3, 2), (OK, KEYS["2.0"] + KEYS["1.0"], [0, 10, 20], [1, 0]))],
-    "match_all": [((b"<1.5", TEXTS, TWO, 3), (OK, bytes([1, 0, 2])))],
+    "match_all": [((b"<1.25", TEXTS, TWO, 3), (OK, bytes([1, 0, 2])))],
     "in_range_all": [((TEXTS, TWO, KEYS["1.0"], KEYS["2.0"][:-4], 10, 3), (OK, bytes([1, 0, 2]))),
                      ((TEXTS, TWO, KEYS["1"][:4], KEYS["1.0"] + b"\0", 10, 3), (OK, bytes([1, 0, 2])))],
 }
