@@ -23,6 +23,11 @@ PLACES = [*NUMBERS, "release", "pre"]
 # A member of a set, as it stands there.
 MEMBER = re.compile(r"\*|[=!<>~^]+[ \t]*[^ \t,|]+")
 SHOWN = 60
+SCHEME_NAMES = (
+    b"mixed, deb (debian, ubuntu), rpm (redhat, fedora, suse), pypi (python, pip, pep440), "
+    b"semver (npm, cargo, crates.io), gem (rubygems, ruby)"
+)
+TAGS = b"versions: a version begins with v: with --tags the answer is another\n"
 ORDINALS = "first second third fourth fifth sixth seventh eighth ninth tenth".split()
 
 SHORT = {"r": "reverse", "u": "unique", "k": "key", "t": "field-separator", "z": "zero-terminated", "n": "count"}
@@ -68,18 +73,18 @@ class Run:
     def __init__(self, words, given, read):
         self.given, self.read, self.written, self.output = given, read, {}, b""
         self.reads_given, self.scheme, self.by_name = False, None, False
-        self.status, self.error = 0, b""
+        self.status, self.error, self.beside, self.filtered = 0, b"", b"", None
         try:
             self.output = self.answer([*words])
         except Ended as ended:
             self.status, self.error = ended.status, ended.text
             if self.error:
-                self.error = b"versions: " + self.error + b"\n"
+                self.error = self.beside + b"versions: " + self.error + b"\n"
 
     def answer(self, words):
         if not words or words[0] not in COMMANDS:
             raise WRONG
-        command = words.pop(0)
+        self.command = command = words.pop(0)
         self.options, rest = parsed(command, words)
         self.scheme = self.options.get("scheme", "mixed")
         return getattr(self, command)(*rest)
@@ -252,7 +257,7 @@ class Run:
                 scheme = readable(self.column(line, number(self.options["scheme-column"])))
             text, below = self.column(line, self.key_column(key)), b""
             if scheme not in versions.SCHEMES:
-                said = shown(line) + b": no scheme is named"
+                said = shown(line) + b": no scheme is named, of " + SCHEME_NAMES
             elif text is None:
                 said = shown(line) + b": no such column"
             else:
@@ -273,6 +278,8 @@ class Run:
         head, lines = lines[:header], lines[header:]
         self.look_up(head)
         texts = self.texts(lines, self.key_column())
+        if self.takes_whole_lines():
+            self.beside = b"versions: each line is taken for its version: -k names a column between -t\n"
         bad = self.bad(lines, texts, asked, header)
         rows = [(line, text) for line, text in zip(lines, texts) if text is not None]
         least = STABILITIES.index(self.options.get("min-stability", "dev"))
@@ -284,17 +291,78 @@ class Run:
         if "match" in self.options:
             rows = matching(rows, wanted, True)
         good = [line for group in self.by_scheme(rows) for line, _ in arrange(group)]
-        self.hints([text for text in texts if text is not None], default == "skip" and not good and lines)
+        if self.answers_otherwise(lines, texts, good, wanted):
+            self.error += TAGS
+        self.hints(default == "skip" and not good and lines)
+        self.error += self.beside
         if "invalid-to" in self.options:
             self.written[self.options["invalid-to"]] = b"".join(line + self.end() for line in bad)
         kept = {"first": bad + good, "last": good + bad}.get(asked, good)
         return b"".join(line + self.end() for line in head + kept)
 
-    def hints(self, texts, left_out):
-        """What is told beside of versions that look like tags, and of lines of which none was kept."""
-        whole = not {"tags", "prefix", "scheme-column"} & {*self.options} and self.scheme == "mixed"
-        if texts and whole and all(re.match("[vV][0-9]", text) for text in texts):
-            self.error += b"versions: all versions begin with v: --tags compares what follows it\n"
+    def takes_whole_lines(self):
+        """Whether bytes between columns are named, and no column is asked for."""
+        return "field-separator" in self.options and not {"csv", *COLUMNS} & {*self.options}
+
+    def answers_otherwise(self, lines, texts, good, wanted):
+        """Whether a version begins with v, and other lines would be written, or in another order, with --tags."""
+        if {"tags", "prefix", "scheme-column"} & {*self.options}:
+            return False
+        columns = {id(line): self.column(line, self.key_column()) or b"" for line in lines}
+
+        def is_kept(text):
+            return (
+                text is not None
+                and self.levels([text])[0] >= STABILITIES.index(self.options.get("min-stability", "dev"))
+                and ("match" not in self.options or versions.match_all(wanted, [text])[0])
+                and (self.filtered is None or versions.match_all(self.filtered[0], [text])[0] is self.filtered[1])
+            )
+
+        def is_kept_otherwise(line, text):
+            tag = self.tagged(columns[id(line)])
+            return begins_with_v(columns[id(line)]) and tag is not None and is_kept(tag) != is_kept(text)
+
+        def order(*two):
+            found = [self.tagged(columns[id(line)]) for line in two]
+            if None in found or not any(begins_with_v(columns[id(line)]) for line in two):
+                return None
+            return versions.compare(*found, scheme=self.scheme)
+
+        if self.command == "newest" and good:
+            group = int(self.options.get("group", 0))
+            groups = {id(line): self.column(line, group) or b"" if group else b"" for line in lines}
+            rest = [line for line in lines if groups[id(line)] == groups[id(good[0])]]
+            return any(order(good[0], line) == -1 and is_kept(self.tagged(columns[id(line)])) for line in rest)
+        if any(map(is_kept_otherwise, lines, texts)):
+            return True
+        wrong = [-1 if "reverse" in self.options else 1] + [0] * ("unique" in self.options)
+        return self.command == "sort" and any(order(*two) in wrong for two in zip(good, good[1:]))
+
+    def tagged(self, column):
+        """The version in a tag, or None."""
+        text = readable(text_in_tag(column))
+        return text if text is not None and versions.sort_keys([text], scheme=self.scheme)[0] else None
+
+    def tell_of_two(self, first, second, answer):
+        """Tells where two words compare otherwise with --tags, one of which begins with v."""
+        found = [self.tagged(word.encode()) for word in (first, second)]
+        whole = not NAMING & {*self.options} and any(begins_with_v(word.encode()) for word in (first, second))
+        if whole and None not in found and answer(versions.compare(*found, scheme=self.scheme)):
+            self.error += TAGS
+
+    def tell_of_set(self, words, wanted):
+        """Tells where a set has the version in the tag of a word that begins with v, and hasn't the word, or the other way."""
+        if NAMING & {*self.options}:
+            return
+        for word in words:
+            tag, found = self.tagged(word.encode()), versions.sort_keys([word], scheme=self.scheme)[0]
+            has = found and versions.match_all(wanted, [word])[0]
+            if begins_with_v(word.encode()) and tag is not None and versions.match_all(wanted, [tag])[0] != bool(has):
+                self.error += TAGS
+                return
+
+    def hints(self, left_out):
+        """What is told beside of lines of which none was kept."""
         if left_out:
             returns = not {"crlf", "csv"} & {*self.options} and left_out[0].endswith(b"\r")
             self.error += b"versions: no line was kept" + (b": they end in carriage returns: --crlf" if returns else b"") + b"\n"
@@ -332,8 +400,18 @@ class Run:
     def filter(self, *words):
         if not words:
             return self.lines([], "skip", lambda rows: rows)
+        asks = self.options.get("min-stability", "dev") != "dev" or "match" in self.options
+        if asks and "invert-match" not in self.options and self.is_there(words[0]):
+            try:
+                self.version_set(words[0])
+            except Ended:
+                return self.lines(words, "skip", lambda rows: rows)
         wanted, keeps = self.version_set(words[0]), "invert-match" not in self.options
+        self.filtered = wanted, keeps
         return self.lines(words[1:], "skip", lambda rows: matching(rows, wanted, keeps))
+
+    def is_there(self, name):
+        return name in ("-", ".") or self.read(name) is not None
 
     # One version or two.
 
@@ -375,7 +453,12 @@ class Run:
             first = [next(text for text, member in members if one not in member) for members in alternatives]
             return [given + b" is left out by " + " and by ".join(first).encode()]
 
-        return head + self.each(words, lines)
+        answer = head + self.each(words, lines)
+        if words != ("-",):
+            told, self.error = self.error, b""
+            self.tell_of_set(words, found)
+            self.error += told
+        return answer
 
     def next(self, place, *words):
         if place not in PLACES and not (re.fullmatch("[0-9]+", place) and int(place) < 2**64):
@@ -392,10 +475,25 @@ class Run:
                 return one.next_release()
             return one.next(NUMBERS.index(place) if place in NUMBERS else int(place))
 
+        def has_next_in_tag(word):
+            """Whether no version comes next to a word that begins with v, and one does to the version in its tag."""
+            found = [word if versions.sort_keys([word])[0] else None, self.tagged(word.encode())]
+            if not begins_with_v(word.encode()) or None in found:
+                return False
+            nexts = []
+            for text in found:
+                try:
+                    nexts.append(following(versions.Version(text)))
+                except (ValueError, OverflowError):
+                    nexts.append(None)
+            return nexts[0] is None and nexts[1] is not None
+
         def answer(given, one):
             try:
                 return [given.removesuffix(str(one).encode()) + str(following(one)).encode()]
             except (ValueError, OverflowError):
+                if words != ("-",) and not NAMING & {*self.options} and any(map(has_next_in_tag, words)):
+                    self.beside = TAGS
                 raise Ended(1, b"no version comes next at that place: " + shown(given)) from None
 
         return self.each(words, answer)
@@ -404,11 +502,14 @@ class Run:
         if len(words) == 3 and SIGNS.get(words[1], words[1]) not in HOLDS:
             raise WRONG
         if len(words) == 2:
-            one = self.version(words[0], 2)
-            return self.ending(one in self.version_set(words[1], 2))
+            one, wanted = self.version(words[0], 2), self.version_set(words[1], 2)
+            self.tell_of_set(words[:1], wanted)
+            return self.ending(one in wanted)
         first, second = self.version(words[0], 2), self.version(words[2], 2)
-        order = versions.compare(first, second, scheme=self.scheme)
-        return self.ending(order in HOLDS[SIGNS.get(words[1], words[1])])
+        holds = HOLDS[SIGNS.get(words[1], words[1])]
+        answer = versions.compare(first, second, scheme=self.scheme) in holds
+        self.tell_of_two(words[0], words[2], lambda order: (order in holds) != answer)
+        return self.ending(answer)
 
     def implies(self, one, other):
         return self.ending(self.version_set(one, 2) <= self.version_set(other, 2), b"yes\n", b"no\n")
@@ -423,10 +524,9 @@ class Run:
         return yes if answer else no
 
     def compare(self, first, second):
-        first, second = self.version(first), self.version(second)
+        words, first, second = (first, second), self.version(first), self.version(second)
         sign = "<=>"[versions.compare(first, second, scheme=self.scheme) + 1]
-        if self.scheme == "mixed" and not NAMING & {*self.options} and all(map(looks_like_a_tag, (first, second))):
-            self.error = b"versions: all versions begin with v: --tags compares what follows it\n"
+        self.tell_of_two(*words, lambda order: "<=>"[order + 1] != sign)
         if "explain" not in self.options:
             return f"{sign}\n".encode()
         return f"{first} {sign} {second}: {explained(first, second, sign)}\n".encode()
@@ -450,6 +550,11 @@ class Run:
             for line, text in zip(lines, found):
                 if text is not None:
                     names.setdefault(self.column(line, number(self.options.get("group", "1"))) or b"", text)
+        for file, names, found in zip(files, (old, new), texts):
+            repeated = sum(text is not None for text in found) - len(names)
+            if repeated:
+                left_out = b"versions: lines left out of %s, since an earlier one has their name: %d\n"
+                self.error += left_out % (shown(file.encode()), repeated)
         answer = b""
         for name, text in old.items():
             order = versions.compare(text, new[name], scheme=self.scheme) if name in new else 0
@@ -574,8 +679,8 @@ def csv_fields(record, separator, end):
     return fields
 
 
-def looks_like_a_tag(one):
-    return re.match("[vV][0-9]", str(one))
+def begins_with_v(text):
+    return re.match(b"[vV][0-9]", text) is not None
 
 
 def explained(first, second, sign):

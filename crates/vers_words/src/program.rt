@@ -7,8 +7,9 @@ ghost use Rattle.vers_words.specs.declared.faults.Fault.TheVariants.{Task};
 use crate::faults::Fault;
 use crate::words::task_of;
 use std::alloc::Global;
-use std::io::{Read, Write};
+use std::io::Write;
 use version_commands::{Files, NoFiles, serve};
+use version_lines::Source;
 
 /// Runs the command that the words name. `ideal`, `show`, `sort` and `match R` read the whole input and write their
 /// output for its lines; without words, the command is `ideal`. `cmp A B` and `key V` compare and key their words, and
@@ -20,18 +21,18 @@ use version_commands::{Files, NoFiles, serve};
 /// was.
 ///
 /// A call of `read` or `write` that fails is not retried, even if it was interrupted; a `write` that writes nothing has
-/// failed. `read` may return bytes 18446744073709551615 times; a longer input can't be read. Nothing is flushed.
+/// failed. Nothing is flushed.
 ///
 /// It allocates the whole input and two buffers of 64 KiB. `sort` also allocates the sort keys of all lines, in one
 /// list, and 48 bytes a line; `key` the sort key and the line.
-pub fn run<'w, R: Read, W: Write>(
+pub fn run<'w, R: Source, W: Write>(
     alloc: Global,
     words: &'w [String],
     reader: &mut R,
     writer: &mut W,
 ) -> Result<bool, Fault<'w>>
-    ensures { RunsBy ⟦<NoFiles as Files>⟧.reads ⟦<NoFiles as Files>⟧.puts ⟦<NoFiles as Files>⟧.alters R.remaining no_files no_files
-        reader.old reader.new
+    ensures { RunsBy ⟦<NoFiles as Files>⟧.reads ⟦<NoFiles as Files>⟧.puts ⟦<NoFiles as Files>⟧.refuses
+        ⟦<NoFiles as Files>⟧.alters R.remaining R.may_fail no_files no_files reader.old reader.new
         (W.contents writer.old) (W.contents writer.new) (Means (map string_bytes words.now))
         (IsOfWords (map string_bytes words.now)) Task result }
 {

@@ -1,12 +1,13 @@
 -- Why a task fails: what each of its faults comes of. Refused memory and a writer that takes no more
 -- can end any task.
 use Rattle.std.proofs.Common.{Bor, Global, String}
-use Rattle.std.specs.Prelude.{◌≡◌, ◌⊎◌, ⊤, ℕ, false, List, [], ◌∷◌, ◌++◌, codes, map, Option, None, Some, Result, string_bytes}
+use Rattle.std.specs.Prelude.{◌≡◌, ◌⊎◌, ⊤, ℕ, Bool, false, List, [], ◌∷◌, ◌++◌, map, Option, None, Some, Result, string_bytes}
 use Rattle.std.specs.Io.KnownBytes.{Consumes, IsAtEnd}
 use Rattle.version_commands.specs.Arranged.{policy}
 use Rattle.version_commands.specs.Choice.{wrong_set}
 use Rattle.version_commands.specs.Each.{has_version, place_of, spelling_of, AreTexts, IsFirstWithoutNext}
 use Rattle.version_commands.specs.Fault.{first_wrong, ComesOfLines, ComesOfMatching, ComesOfPut, ComesOfReading, ComesOfSets, ComesOfStandard, ComesOfTestOfSet, ComesOfTestOfSets, ComesOfTestOfTwo, ComesOfWords}
+use Rattle.version_commands.specs.FirstWord.{HoldsByWords}
 use Rattle.version_commands.specs.Inputs.{counts_before_last, joined, line_in, names_read, AreInputs, IsLineIn, Reading}
 use Rattle.version_commands.specs.Lists.{bad_lines_of, lines_of_list, names_of}
 use Rattle.version_commands.specs.Ends.{Ends}
@@ -35,30 +36,31 @@ use Rattle.version_lines.specs.Sort.{version_in}
 
 -- the faults of a run over the lines of an input: of the lines that have no version, or of the file
 -- for these
-abbrev pub ComesOfArranged : LineOptions → Versions → List ℕ → Fault → Type 0
-ComesOfArranged options versions input (fault.Write name) = ComesOfPut options (fault.Write name)
-ComesOfArranged options versions input other =
+abbrev pub ComesOfArranged : LineOptions → (List ℕ → Type 0) → Versions → List ℕ → Fault → Type 0
+ComesOfArranged options Refuses versions input (fault.Write name) = ComesOfPut options Refuses (fault.Write name)
+ComesOfArranged options Refuses versions input other =
     ComesOfLines (policy options) options.place options.scheme_column None options.header versions
     (lines_of options.end input) other
 
 -- these lines of an input are written, or one of those faults stops that
 abbrev pub EndsArranged : {T : Type 0} → Versions → LineOptions → Input → List (List ℕ)
-    → (Option (List ℕ × List ℕ) → Type 0) → Option (List ℕ) → Option (List ℕ) → Result T Fault → Type 0
-EndsArranged versions options input lines leaves =
+    → (Option (List ℕ × List ℕ) → Type 0) → (List ℕ → Type 0) → Option (List ℕ) → Option (List ℕ)
+    → Result T Fault → Type 0
+EndsArranged versions options input lines leaves Refuses =
     Ends (IsArranged versions options input.head.now input.body.now lines leaves)
-    (ComesOfArranged options versions input.body.now)
+    (ComesOfArranged options Refuses versions input.body.now)
 
 -- the faults of an input with columns of numbers alone
-abbrev pub ComesOfArrangedOf : LineOptions → List ℕ → Fault → Type 0
-ComesOfArrangedOf options input =
-    ComesOfArranged options (versions_by options.place options.scheme_column) (body_of options input)
+abbrev pub ComesOfArrangedOf : LineOptions → (List ℕ → Type 0) → List ℕ → Fault → Type 0
+ComesOfArrangedOf options Refuses input =
+    ComesOfArranged options Refuses (versions_by options.place options.scheme_column) (body_of options input)
 
 -- those of an input: no column has a name that is asked for, or else those with the columns of the names
-abbrev pub ComesOfInput : LineOptions → List ℕ → Fault → Type 0
-ComesOfInput options input fault.Memory = ⊤
-ComesOfInput options input (fault.NoColumn name) = name_missing options input ≡ Some name
-ComesOfInput options input other = (name_missing options input ≡ None)
-    × ComesOfArrangedOf (options_in options input) input other
+abbrev pub ComesOfInput : LineOptions → (List ℕ → Type 0) → List ℕ → Fault → Type 0
+ComesOfInput options Refuses input fault.Memory = ⊤
+ComesOfInput options Refuses input (fault.NoColumn name) = name_missing options input ≡ Some name
+ComesOfInput options Refuses input other = (name_missing options input ≡ None)
+    × ComesOfArrangedOf (options_in options input) Refuses input other
 
 -- the fault of a line is told by its file and its number there; each other stays
 abbrev pub IsInItsFile : List (List ℕ) → List ℕ → Fault → Fault → Type 0
@@ -69,19 +71,21 @@ IsInItsFile names counts other told = told ≡ other
 
 -- the faults of `sort`, `newest` and `filter`: of a word that is no set, of an input, of a name that no column has, of
 -- the lines that have no version, or of the file for these
-abbrev pub ComesOfArranging : Arrangement → LineOptions → Reading → Option (List ℕ) → Fault → Type 0
-ComesOfArranging arrangement options files old (fault.NotSet wrong) =
+abbrev pub ComesOfArranging : Arrangement → LineOptions → Reading → (List ℕ → Type 0) → Bool → Option (List ℕ) → Fault
+    → Type 0
+ComesOfArranging arrangement options reads Refuses fails old (fault.NotSet wrong) =
     ComesOfSets options.place.scheme (wrong_set options.place.scheme options.choice arrangement) (fault.NotSet wrong)
-ComesOfArranging arrangement options files old (fault.Read name) =
-    ComesOfReading options.end files old (names_read (map (λ name. name.now) options.files.items)) (fault.Read name)
-ComesOfArranging arrangement options files old (fault.Unclosed name number) =
-    ComesOfReading options.end files old (names_read (map (λ name. name.now) options.files.items))
+ComesOfArranging arrangement options reads Refuses fails old (fault.Read name) =
+    ComesOfReading options.end reads fails old (names_read (map (λ name. name.now) options.files.items))
+    (fault.Read name)
+ComesOfArranging arrangement options reads Refuses fails old (fault.Unclosed name number) =
+    ComesOfReading options.end reads fails old (names_read (map (λ name. name.now) options.files.items))
     (fault.Unclosed name number)
-ComesOfArranging arrangement options files old fault.Memory = ⊤
-ComesOfArranging arrangement options files old other =
+ComesOfArranging arrangement options reads Refuses fails old fault.Memory = ⊤
+ComesOfArranging arrangement options reads Refuses fails old other =
     (new : Option (List ℕ)) × (texts : List (List ℕ)) × (found : Fault)
-    × AreInputs files old new (names_read (map (λ name. name.now) options.files.items)) texts
-    × ComesOfInput options (joined options.end.byte texts) found
+    × AreInputs reads old new (names_read (map (λ name. name.now) options.files.items)) texts
+    × ComesOfInput options Refuses (joined options.end.byte texts) found
     × IsInItsFile (map (λ name. name.now) options.files.items) (counts_before_last options.end texts) found other
 
 -- this is what is wrong with the question's word for its set
@@ -108,22 +112,22 @@ ComesOfAnswering question naming end texts other = (other ≡ fault.Memory)
 
 -- the faults of `show`, `key`, `why` and `next`: of the last word if none is a version, or without words of
 -- standard input or a line of it, of a version that none comes next to, or of the set of `why`
-abbrev pub ComesOfAsking : Question → EachOptions → Option (List ℕ) → Fault → Type 0
-ComesOfAsking question options old (fault.NotVersion text remark) =
+abbrev pub ComesOfAsking : Question → EachOptions → Bool → Option (List ℕ) → Fault → Type 0
+ComesOfAsking question options fails old (fault.NotVersion text remark) =
     IsRemark (spelling_of question options.naming) text.now remark × (has_version question options ≡ false)
     × (before : List (List ℕ)) × (map (λ word. word.now) options.versions.items ≡ before ++ text.now ∷ [])
-ComesOfAsking question options old (fault.BadLine bad) =
+ComesOfAsking question options fails old (fault.BadLine bad) =
     (options.versions.items ≡ []) × (new : Option (List ℕ)) × (input : List ℕ)
     × Consumes old new input × IsAtEnd new
     × ComesOfLines Fail (place_of question options.naming options.crlf) None None 0
     (version_in (reads_of (place_of question options.naming options.crlf))) (lines_of (plain_end options.end) input)
     (fault.BadLine bad)
-ComesOfAsking question options old (fault.Read name) =
-    (options.versions.items ≡ []) × (name.now ≡ codes "-")
-ComesOfAsking question options old (fault.NoNext text) =
+ComesOfAsking question options fails old (fault.Read name) =
+    (options.versions.items ≡ []) × ComesOfStandard fails (fault.Read name)
+ComesOfAsking question options fails old (fault.NoNext text) =
     (new : Option (List ℕ)) × (texts : List (List ℕ)) × AreTexts question options old new texts
     × QuotesFirstWithoutNext question options.naming options.end texts (string_bytes text)
-ComesOfAsking question options old other = ComesOfQuestion question other
+ComesOfAsking question options fails old other = ComesOfQuestion question other
 
 -- the faults of the lines without a version of a list, which the file of this name holds
 abbrev pub ComesOfOne : Lists → Bor (List ℕ) → List ℕ → Fault → Type 0
@@ -137,31 +141,31 @@ ComesOfEither lists first second fault = ComesOfOne lists lists.old first fault
     ⊎ ((bad_lines_of lists first ≡ []) × ComesOfOne lists lists.new second fault)
 
 -- the faults of `diff --lists`: of an input, or of the lines of a list that have no version
-abbrev pub ComesOfChanges : Lists → Reading → Option (List ℕ) → Fault → Type 0
-ComesOfChanges lists reads old (fault.BadLine bad) =
+abbrev pub ComesOfChanges : Lists → Reading → Bool → Option (List ℕ) → Fault → Type 0
+ComesOfChanges lists reads fails old (fault.BadLine bad) =
     (new : Option (List ℕ)) × (first second : List ℕ)
     × AreInputs reads old new (names_of lists) (first ∷ second ∷ [])
     × ComesOfEither lists first second (fault.BadLine bad)
-ComesOfChanges lists reads old other = ComesOfReading lists.end reads old (names_of lists) other
+ComesOfChanges lists reads fails old other = ComesOfReading lists.end reads fails old (names_of lists) other
 
 -- the faults of each task, but for a writer that takes no more
-abbrev pub ComesOf : Task → Reading → Option (List ℕ) → Fault → Type 0
-ComesOf (task.Lines arrangement options) reads old fault =
-    ComesOfArranging arrangement options reads old fault
-ComesOf (task.Each question options) reads old fault = ComesOfAsking question options old fault
-ComesOf (task.TestTwo spelling a operator b) reads old fault =
+abbrev pub ComesOf : Task → Reading → (List ℕ → Type 0) → Bool → Option (List ℕ) → Fault → Type 0
+ComesOf (task.Lines arrangement options) reads Refuses fails old fault =
+    HoldsByWords (λ asked with. ComesOfArranging asked with reads Refuses fails old fault) arrangement options
+ComesOf (task.Each question options) reads Refuses fails old fault = ComesOfAsking question options fails old fault
+ComesOf (task.TestTwo spelling a operator b) reads Refuses fails old fault =
     ComesOfTestOfTwo spelling (first_wrong (spelled spelling) (a.now ∷ b.now ∷ [])) fault
-ComesOf (task.TestSet spelling version set) reads old fault =
+ComesOf (task.TestSet spelling version set) reads Refuses fails old fault =
     ComesOfTestOfSet spelling version.now set.now fault
-ComesOf (task.Implies scheme one other) reads old fault = ComesOfTestOfSets scheme one.now other.now fault
-ComesOf (task.Meets scheme one other) reads old fault = ComesOfTestOfSets scheme one.now other.now fault
-ComesOf (task.Compare spelling a b) reads old fault =
+ComesOf (task.Implies scheme one other) reads Refuses fails old fault = ComesOfTestOfSets scheme one.now other.now fault
+ComesOf (task.Meets scheme one other) reads Refuses fails old fault = ComesOfTestOfSets scheme one.now other.now fault
+ComesOf (task.Compare spelling a b) reads Refuses fails old fault =
     ComesOfWords spelling (first_wrong (spelled spelling) (a.now ∷ b.now ∷ [])) fault
-ComesOf (task.Explain naming a b) reads old fault =
+ComesOf (task.Explain naming a b) reads Refuses fails old fault =
     ComesOfWords (mixed_spelling naming) (first_wrong (spelled_mixed naming) (a.now ∷ b.now ∷ [])) fault
-ComesOf (task.Difference naming a b) reads old fault =
+ComesOf (task.Difference naming a b) reads Refuses fails old fault =
     ComesOfWords (mixed_spelling naming) (first_wrong (spelled_mixed naming) (a.now ∷ b.now ∷ [])) fault
-ComesOf (task.Lists lists) reads old fault = ComesOfChanges lists reads old fault
-ComesOf (task.Match list) reads old fault = ComesOfMatching list.now fault
-ComesOf (task.Label labels) reads old fault = ComesOfStandard fault
-ComesOf (task.Say text) reads old fault = ⊥
+ComesOf (task.Lists lists) reads Refuses fails old fault = ComesOfChanges lists reads fails old fault
+ComesOf (task.Match list) reads Refuses fails old fault = ComesOfMatching list.now fails fault
+ComesOf (task.Label labels) reads Refuses fails old fault = ComesOfStandard fails fault
+ComesOf (task.Say text) reads Refuses fails old fault = ⊥

@@ -1,6 +1,6 @@
 -- What `show`, `key`, `why` and `next` write.
 use Rattle.std.proofs.Common.{Bor}
-use Rattle.std.specs.Prelude.{◌≡◌, ◌⊎◌, ⊤, ℕ, Bool, true, List, [], ◌∷◌, ◌++◌, map, Option, None, Some, is_some, IsSomeAnd}
+use Rattle.std.specs.Prelude.{◌≡◌, ◌⊎◌, ⊤, ℕ, Bool, true, List, [], ◌∷◌, ◌++◌, map, not, Option, None, Some, is_some, IsSomeAnd}
 use Rattle.std.specs.List.{filter, list_all, list_any}
 use Rattle.std.specs.Io.KnownBytes.{Consumes, IsAtEnd}
 use Rattle.version_commands.specs.Json.{json_line}
@@ -118,21 +118,24 @@ AreLineTexts options old new texts =
     (input : List ℕ) × Consumes old new input × IsAtEnd new
     × (texts ≡ map (line_text options.crlf) (lines_of (plain_end options.end) input))
 
--- whether a text is a version to a question, those of some texts that are, and whether all words are
+-- whether a text is a version to a question, those of some texts that are and that aren't, and whether all words are
 abbrev pub is_version : Question → Naming → List ℕ → Bool
 is_version question naming text = is_some (version_asked question naming text)
 
 abbrev pub versions_among : Question → Naming → List (List ℕ) → List (List ℕ)
 versions_among question naming = filter (is_version question naming)
 
+abbrev pub others_among : Question → Naming → List (List ℕ) → List (List ℕ)
+others_among question naming = filter (λ text. not (is_version question naming text))
+
 abbrev pub are_versions : Question → EachOptions → Bool
 are_versions question options =
-    list_all (λ word. is_version question options.naming word.now) options.versions.items
+    list_all (is_version question options.naming) (map (λ word. word.now) options.versions.items)
 
 -- whether any word is one
 abbrev pub has_version : Question → EachOptions → Bool
 has_version question options =
-    list_any (λ word. is_version question options.naming word.now) options.versions.items
+    list_any (is_version question options.naming) (map (λ word. word.now) options.versions.items)
 
 -- a version is asked: there are no words, or one of them is a version
 abbrev pub IsAsked : Question → EachOptions → Type 0

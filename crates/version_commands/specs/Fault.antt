@@ -1,6 +1,6 @@
 -- The faults of a task: what a message says of them, and what they come of.
 use Rattle.std.proofs.Common.{Bor}
-use Rattle.std.specs.Prelude.{◌≡◌, ◌⊎◌, ◌+◌, ◌-◌, ◌^◌, min, ⊤, ℕ, List, [], ◌∷◌, Option, None, Some, IsSome, IsSomeAnd, codes, if◌then◌else◌, map, string_bytes, ◌++◌}
+use Rattle.std.specs.Prelude.{◌≡◌, ◌⊎◌, ◌+◌, ◌-◌, ◌^◌, min, ⊤, ℕ, Bool, true, List, [], ◌∷◌, Option, None, Some, IsSome, IsSomeAnd, codes, if◌then◌else◌, map, string_bytes, ◌++◌}
 use Rattle.std.specs.Fmt.{decimal}
 use Rattle.std.specs.Option.{option_map_or, option_or}
 use Rattle.version_commands.specs.declared.options.Invalid.{Invalid}
@@ -13,7 +13,7 @@ use Rattle.version_lines.specs.declared.input.Trouble.{Trouble}
 use Rattle.version_lines.specs.declared.input.Trouble.TheVariants as trouble
 use Rattle.version_lines.specs.declared.lines.LineEnd.{LineEnd}
 use Rattle.version_commands.specs.Bad.{Reports}
-use Rattle.version_commands.specs.Inputs.{EndsOpen, IsFirstOpen, IsRefused, MayFail, Reading}
+use Rattle.version_commands.specs.Inputs.{ComesFirstAt, EndsOpen, MayFail, Reading}
 use Rattle.version_commands.specs.Picked.{bad_lines, good_before, Versions}
 use Rattle.version_commands.specs.Place.{spelled}
 use Rattle.version_commands.specs.Remark.{no_version_text, others_text, IsRemark}
@@ -87,29 +87,32 @@ abbrev pub not_read : Bor (List ℕ) → Trouble → Fault
 not_read name trouble.Memory = Memory
 not_read name trouble.System = Read name
 
--- the faults of reading standard input
-abbrev pub ComesOfStandard : Fault → Type 0
-ComesOfStandard Memory = ⊤
-ComesOfStandard (Read name) = name.now ≡ codes "-"
-ComesOfStandard fault = ⊥
+-- the faults of reading standard input, by whether that may fail
+abbrev pub ComesOfStandard : Bool → Fault → Type 0
+ComesOfStandard fails Memory = ⊤
+ComesOfStandard fails (Read name) = (name.now ≡ codes "-") × (fails ≡ true)
+ComesOfStandard fails fault = ⊥
 
 -- the faults that reading what the input of this name holds can end in
-abbrev pub ComesOfText : Reading → List ℕ → Fault → Type 0
-ComesOfText reads name Memory = ⊤
-ComesOfText reads name (Read shown) = (shown.now ≡ name) × MayFail reads name
-ComesOfText reads name fault = ⊥
+abbrev pub ComesOfText : Reading → Bool → List ℕ → Fault → Type 0
+ComesOfText reads fails name Memory = ⊤
+ComesOfText reads fails name (Read shown) = (shown.now ≡ name) × MayFail reads fails name
+ComesOfText reads fails name fault = ⊥
 
 -- those of reading its lines
-abbrev pub ComesOfReadingOne : LineEnd → Reading → Option (List ℕ) → List ℕ → Fault → Type 0
-ComesOfReadingOne end reads old name (Unclosed shown number) = (shown.now ≡ name) × EndsOpen end reads old name number
-ComesOfReadingOne end reads old name fault = ComesOfText reads name fault
+abbrev pub ComesOfReadingOne : LineEnd → Reading → Bool → Option (List ℕ) → List ℕ → Fault → Type 0
+ComesOfReadingOne end reads fails old name (Unclosed shown number) =
+    (shown.now ≡ name) × EndsOpen end reads old name number
+ComesOfReadingOne end reads fails old name fault = ComesOfText reads fails name fault
 
--- those of reading the inputs of these names in turn
-abbrev pub ComesOfReading : LineEnd → Reading → Option (List ℕ) → List (List ℕ) → Fault → Type 0
-ComesOfReading end reads old names Memory = ⊤
-ComesOfReading end reads old names (Read shown) = IsRefused reads names shown.now
-ComesOfReading end reads old names (Unclosed shown number) = IsFirstOpen end reads old names shown.now number
-ComesOfReading end reads old names fault = ⊥
+-- those of reading the inputs of these names in turn: of the first that can't be read or ends open
+abbrev pub ComesOfReading : LineEnd → Reading → Bool → Option (List ℕ) → List (List ℕ) → Fault → Type 0
+ComesOfReading end reads fails old names Memory = ⊤
+ComesOfReading end reads fails old names (Read shown) =
+    ComesFirstAt end reads old names shown.now (λ between. MayFail reads fails shown.now)
+ComesOfReading end reads fails old names (Unclosed shown number) =
+    ComesFirstAt end reads old names shown.now (λ between. EndsOpen end reads between shown.now number)
+ComesOfReading end reads fails old names fault = ⊥
 
 -- the faults that lines without a version can end in, of a file, before the first of which come so many with one
 abbrev pub ComesOfBadAfter : Invalid → VersionPlace → Option Column → Option (Bor (List ℕ)) → ℕ → List (List ℕ) → Fault
@@ -132,9 +135,9 @@ ComesOfLines policy place schemes file header versions lines =
     ComesOfBadAfter policy place schemes file (header + good_before versions lines) (bad_lines versions lines)
 
 -- the faults of `match` of `vers`, by the word of its list
-abbrev pub ComesOfMatching : List ℕ → Fault → Type 0
-ComesOfMatching list (NotRequirement word) = (word.now ≡ list) × (requirements_of list ≡ None)
-ComesOfMatching list other = ComesOfStandard other
+abbrev pub ComesOfMatching : List ℕ → Bool → Fault → Type 0
+ComesOfMatching list fails (NotRequirement word) = (word.now ≡ list) × (requirements_of list ≡ None)
+ComesOfMatching list fails other = ComesOfStandard fails other
 
 -- the faults of a word that should be a set
 abbrev pub ComesOfSet : Scheme → List ℕ → Fault → Type 0
@@ -192,8 +195,8 @@ ComesOfTestOfSets scheme one other (NotTestedSet wrong) =
     IsWrongSet scheme one wrong ⊎ (IsSome (keys_of scheme one) × IsWrongSet scheme other wrong)
 ComesOfTestOfSets scheme one other fault = ⊥
 
--- the faults that the file for lines without a version can end in: they name it
-abbrev pub ComesOfPut : LineOptions → Fault → Type 0
-ComesOfPut options Memory = ⊤
-ComesOfPut options (Write (Some name)) = options.invalid_to ≡ Some name
-ComesOfPut options fault = ⊥
+-- the faults that the file for lines without a version can end in: they name it, and writing it may fail
+abbrev pub ComesOfPut : LineOptions → (List ℕ → Type 0) → Fault → Type 0
+ComesOfPut options Refuses Memory = ⊤
+ComesOfPut options Refuses (Write (Some name)) = (options.invalid_to ≡ Some name) × Refuses name.now
+ComesOfPut options Refuses fault = ⊥

@@ -2,7 +2,7 @@
 use Rattle.std.proofs.Common.{Bor}
 use Rattle.std.specs.Prelude.{◌≡◌, ◌==◌, ℕ, Bool, true, false, List, [], ◌∷◌, ◌++◌, Option, None, Some, codes, if◌then◌else◌, ◌-◌, length, map, nat_le, take, IsSomeAnd}
 use Rattle.std.specs.Io.KnownBytes.{Consumes, IsAtEnd}
-use Rattle.std.specs.List.{flat_map, list_any, Contains}
+use Rattle.std.specs.List.{flat_map, list_any}
 use Rattle.std.specs.Str.{bytes_eq}
 use Rattle.version_commands.specs.declared.inputs.Inputs.{Inputs}
 use Rattle.version_lines.specs.Lines.{ends_quoted, lines_of}
@@ -90,9 +90,10 @@ pub record EndsOpen (end : LineEnd) (reads : Reading) (old : Option (List ℕ)) 
   pub unclosed : is_open end text ≡ true
   pub number_is : number ≡ line_count end text
 
--- this is the first of the inputs of these names, which are read in turn, that does so
-pub record IsFirstOpen (end : LineEnd) (reads : Reading) (old : Option (List ℕ)) (names : List (List ℕ))
-    (name : List ℕ) (number : ℕ) : Type 0 where
+-- this comes at the input of a name among those of these, which are read in turn: those before it were read, and none of
+-- them goes on in what follows it
+pub record ComesFirstAt (end : LineEnd) (reads : Reading) (old : Option (List ℕ)) (names : List (List ℕ))
+    (name : List ℕ) (Comes : Option (List ℕ) → Type 0) : Type 0 where
   pub before : List (List ℕ)
   pub after : List (List ℕ)
   pub texts : List (List ℕ)
@@ -100,7 +101,7 @@ pub record IsFirstOpen (end : LineEnd) (reads : Reading) (old : Option (List ℕ
   pub names_are : names ≡ before ++ name ∷ after
   pub texts_are : AreInputs reads old between before texts
   pub closed : list_any (is_open end) texts ≡ false
-  pub opens : EndsOpen end reads between name number
+  pub comes : Comes between
 
 -- the names that are read: those that were given, or that of standard input
 abbrev pub names_read : List (List ℕ) → List (List ℕ)
@@ -111,11 +112,11 @@ names_read (name ∷ names) = name ∷ names
 abbrev pub reads_standard : List (List ℕ) → Bool
 reads_standard names = list_any is_standard names
 
--- reading the input of this name may fail
-abbrev pub MayFail : Reading → List ℕ → Type 0
-MayFail reads name = is_standard name ≡ false → reads name None
+-- reading standard input, or else the file of this name, may fail
+abbrev pub MayFailBy : Bool → Reading → Bool → List ℕ → Type 0
+MayFailBy true reads fails name = fails ≡ true
+MayFailBy false reads fails name = reads name None
 
--- the name is one of these, and reading its input may fail
-pub record IsRefused (reads : Reading) (names : List (List ℕ)) (name : List ℕ) : Type 0 where
-  pub among : Contains names name
-  pub failed : MayFail reads name
+-- reading the input of this name may fail
+abbrev pub MayFail : Reading → Bool → List ℕ → Type 0
+MayFail reads fails name = MayFailBy (is_standard name) reads fails name

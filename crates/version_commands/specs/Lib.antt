@@ -11,7 +11,9 @@ pub mod Ends
 pub mod Explain
 pub mod Fault
 pub mod Files
+pub mod FirstWord
 pub mod Header
+pub mod Hint
 pub mod Inputs
 pub mod Json
 pub mod Key

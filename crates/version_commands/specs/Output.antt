@@ -1,10 +1,11 @@
 -- What a task writes.
-use Rattle.std.specs.Prelude.{◌≡◌, ◌==◌, ℕ, Bool, false, true, List, [], ◌∷◌, length, map, Option, None, Some, string_bytes}
+use Rattle.std.specs.Prelude.{◌≡◌, ◌==◌, ◌||◌, ℕ, Bool, false, true, List, [], ◌∷◌, length, map, Option, None, Some, string_bytes}
 use Rattle.std.specs.List.{list_any}
 use Rattle.version_commands.specs.Compare.{comparison_line}
 use Rattle.version_commands.specs.Difference.{difference_line}
 use Rattle.version_commands.specs.Each.{are_versions, IsAnswered, IsAsked}
 use Rattle.version_commands.specs.Explain.{explained_line}
+use Rattle.version_commands.specs.FirstWord.{may_be_standard, HoldsByWords}
 use Rattle.version_commands.specs.Inputs.{ended, is_open, names_read, reads_standard, AreInputs, Reading}
 use Rattle.version_commands.specs.Label.{AreLabelled}
 use Rattle.version_commands.specs.Lists.{bad_lines_of, difference_text, names_of, rows_of}
@@ -61,7 +62,7 @@ Answers other answer = answer ≡ true
 abbrev pub IsOutput : Task → Reading → Option (List ℕ) → Option (List ℕ)
     → (Option (List ℕ × List ℕ) → Type 0) → List ℕ → Type 0
 IsOutput (task.Lines arrangement options) reads old new leaves output =
-    IsOrdered arrangement options reads old new leaves output
+    HoldsByWords (λ asked with. IsOrdered asked with reads old new leaves output) arrangement options
 IsOutput (task.Each question options) reads old new leaves output =
     IsAnswered question options old new output
 IsOutput (task.TestTwo spelling a operator b) reads old new leaves output = output ≡ []
@@ -85,6 +86,7 @@ IsOutput (task.Say text) reads old new leaves output = output ≡ string_bytes t
 abbrev pub asks_reader : Task → Bool
 asks_reader (task.Lines arrangement options) =
     reads_standard (names_read (map (λ name. name.now) options.files.items))
+    || may_be_standard arrangement options.choice
 asks_reader (task.Each question options) = length options.versions.items == 0
 asks_reader (task.Lists lists) = reads_standard (names_of lists)
 asks_reader (task.Label labels) = true

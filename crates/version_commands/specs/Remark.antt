@@ -77,6 +77,7 @@ no_version_text None text more = quoted text ++ more
 no_version_text (Some (Prefix count)) text more =
     quoted text ++ (codes ": --prefix " ++ (quoted (take count text) ++ more))
 no_version_text (Some NoColumn) text more = quoted text ++ (codes ": no such column" ++ more)
-no_version_text (Some NoScheme) text more = quoted text ++ (codes ": no scheme is named" ++ more)
+no_version_text (Some NoScheme) text more = quoted text
+    ++ (codes ": no scheme is named, of mixed, deb (debian, ubuntu), rpm (redhat, fedora, suse), pypi (python, pip, pep440), semver (npm, cargo, crates.io), gem (rubygems, ruby)" ++ more)
 no_version_text (Some (Flaw reason pointed)) text more =
     reason_text reason ++ (more ++ (10 ∷ (codes "  " ++ (quoted text ++ pointer_line pointed))))

@@ -16,14 +16,16 @@ EndsAs of_task served result =
     MatchResult served (λ value. result ≡ Ok value) (λ fault. result ≡ Err (of_task fault))
 
 module _ {F R : Type 0} (reads : F → Reading) (puts : F → F → List ℕ → List ℕ → Type 0)
-    (alters : F → F → List ℕ → Type 0)
-    (remaining : R → Option (List ℕ)) (files left : F) (reader after : R) (old new : Option (List ℕ))
+    (refuses : F → List ℕ → Type 0)
+    (alters : F → F → List ℕ → Type 0) (remaining : R → Option (List ℕ)) (may_fail : R → Bool)
+    (files left : F) (reader after : R) (old new : Option (List ℕ))
   where
     -- A task was done: it answered, wrote what the task asks for, and left the reader and the files as they
     -- were where the task doesn't ask for these, or a fault came before.
     pub record Does (task : Task) (result : Result Bool Fault) : Type 0 where
       pub ends : Ends (IsOutput task (reads files) (remaining reader) (remaining after)
-          (Leaves puts files left)) (ComesOf task (reads files) (remaining reader)) old new result
+          (Leaves puts files left)) (ComesOf task (reads files) (refuses files) (may_fail reader)
+          (remaining reader)) old new result
       pub answers : IfOk result (Answers task)
       pub unread : asks_reader task ≡ false → after ≡ reader
       pub files_are : AltersAtMost alters (file_of task) files left

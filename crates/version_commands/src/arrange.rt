@@ -21,21 +21,21 @@ use crate::choice::Chooser;
 use crate::faults::Fault;
 use crate::files::{Files, Stage};
 use crate::header::{arrangement_by, names_line, options_by};
-use crate::hint::tell_hints;
+use crate::hint::{tell_of_arranged, tell_of_filter, tell_of_newest};
 use crate::inputs::{line_in, read_inputs};
 use crate::options::{Arrangement, Choice, Invalid, LineOptions, VersionPlace};
 use crate::pick::{Chooses, EveryVersion, Takes, pick};
 use crate::place::{ByColumn, ByVersion};
 use crate::write::{whole_if, write_answers, write_lines};
 use std::alloc::{AllocError, Global};
-use std::io::{Read, Write};
+use std::io::Write;
 use version_lines::{
-    Answer, Column, KeyedLines, LineCommand, NewestLine, SortBy, WholeLines, after_lines,
+    Answer, Column, KeyedLines, LineCommand, NewestLine, SortBy, Source, WholeLines, after_lines,
 };
 use version_schemes::AnyVersion;
 
 /// Reads the inputs, and writes those of their lines that the arrangement asks for.
-pub fn serve_lines<'w, F: Files, R: Read, W: Write>(
+pub fn serve_lines<'w, F: Files, R: Source, W: Write>(
     alloc: Global,
     arrangement: Arrangement<'w>,
     options: &LineOptions<'w>,
@@ -45,7 +45,8 @@ pub fn serve_lines<'w, F: Files, R: Read, W: Write>(
 ) -> Result<(), Fault<'w>>
     ensures ends { Ends (IsOrdered arrangement.entry options.now (F.reads files.old)
         (R.remaining reader.old) (R.remaining reader.new) (Leaves F.puts files.old files.new))
-        (ComesOfArranging arrangement.entry options.now (F.reads files.old) (R.remaining reader.old))
+        (ComesOfArranging arrangement.entry options.now (F.reads files.old) (F.refuses files.old)
+        (R.may_fail reader.old) (R.remaining reader.old))
         (W.contents writer.old) (W.contents writer.new) result }
     ensures unread { reads_standard (names_read (map (λ name. name.now) options.now.files.items)) ≡ false
         → reader.new ≡ reader.old }
@@ -96,7 +97,7 @@ fn write_asked<'w, F: Files, W: Write>(
     ensures ends { (whole : List ℕ) → input.now.head.now ≡ head_of options.now whole
         → input.now.body.now ≡ body_of options.now whole
         → Ends (IsArrangedIn arrangement.entry options.now (is_kept chooser.now) whole
-        (Leaves F.puts files.old files.new)) (ComesOfInput options.now whole)
+        (Leaves F.puts files.old files.new)) (ComesOfInput options.now (F.refuses files.old) whole)
         (W.contents writer.old) (W.contents writer.new) result }
     ensures files { AltersAtMost F.alters (bad_file options.now) files.old files.new }
     ensures kept { UnlessLate (files.new ≡ files.old) result }
@@ -125,13 +126,13 @@ fn write_told<'w, F: Files, W: Write>(
 ) -> Result<(), Fault<'w>>
     ensures ends { EndsArranged (versions_by options.now.place options.now.scheme_column) options.now input.now
         (ordered_by options.now.scheme_column (is_kept chooser.now) arrangement.entry options.now input.now.body.now)
-        (Leaves F.puts files.old files.new) (W.contents writer.old) (W.contents writer.new) result }
+        (Leaves F.puts files.old files.new) (F.refuses files.old) (W.contents writer.old) (W.contents writer.new) result }
     ensures files { AltersAtMost F.alters (bad_file options.now) files.old files.new }
     ensures kept { UnlessLate (files.new ≡ files.old) result }
 {
     let written = write_input(alloc, arrangement, options, chooser, input, files, writer);
-    if written.is_ok() {
-        tell_hints(&arrangement, options, chooser, input, files);
+    if written.is_ok() && matches!(arrangement, Arrangement::Filter { .. }) {
+        tell_of_filter(options, chooser, input, files);
     }
     written
 }
@@ -148,7 +149,7 @@ fn write_input<'w, F: Files, W: Write>(
 ) -> Result<(), Fault<'w>>
     ensures ends { EndsArranged (versions_by options.now.place options.now.scheme_column) options.now input.now
         (ordered_by options.now.scheme_column (is_kept chooser.now) arrangement.entry options.now input.now.body.now)
-        (Leaves F.puts files.old files.new) (W.contents writer.old) (W.contents writer.new) result }
+        (Leaves F.puts files.old files.new) (F.refuses files.old) (W.contents writer.old) (W.contents writer.new) result }
     ensures files { AltersAtMost F.alters (bad_file options.now) files.old files.new }
     ensures kept { UnlessLate (files.new ≡ files.old) result }
 {
@@ -209,7 +210,7 @@ fn write_arranged<'w, F: Files, W: Write>(
 ) -> Result<(), Fault<'w>>
     ensures ends { EndsArranged (version_in (reads_of options.now.place)) options.now input.now
         (arranged_in (reads_of options.now.place) (is_kept chooser.now) arrangement.entry options.now input.now.body.now)
-        (Leaves F.puts files.old files.new) (W.contents writer.old) (W.contents writer.new) result }
+        (Leaves F.puts files.old files.new) (F.refuses files.old) (W.contents writer.old) (W.contents writer.new) result }
     ensures files { AltersAtMost F.alters (bad_file options.now) files.old files.new }
     ensures kept { UnlessLate (files.new ≡ files.old) result }
 {
@@ -264,7 +265,7 @@ fn write_keyed<'w, B: SortBy + Copy, C: Chooses, F: Files, W: Write>(
     requires { is_reversed arrangement ≡ B.is_reversed by }
     ensures ends { EndsArranged (version_in (B.reads by)) options.now input.now
         (arranged_in (B.reads by) (C.keeps chooser.now) arrangement.entry options.now input.now.body.now)
-        (Leaves F.puts files.old files.new) (W.contents writer.old) (W.contents writer.new) result }
+        (Leaves F.puts files.old files.new) (F.refuses files.old) (W.contents writer.old) (W.contents writer.new) result }
     ensures files { AltersAtMost F.alters (bad_file options.now) files.old files.new }
     ensures kept { UnlessLate (files.new ≡ files.old) result }
 {
@@ -277,7 +278,11 @@ fn write_keyed<'w, B: SortBy + Copy, C: Chooses, F: Files, W: Write>(
     tell(options, files, Stage::Kept(kept.count()));
     arrange(alloc, arrangement, options.place.crlf, &mut kept)?;
     tell(options, files, Stage::Ordered(kept.count()));
-    write_lines(alloc, options, input.head, &bad, &kept, files, writer)
+    let written = write_lines(alloc, options, input.head, &bad, &kept, files, writer);
+    if written.is_ok() {
+        tell_of_arranged(arrangement, options, chooser, &kept, input.body, files);
+    }
+    written
 }
 
 // Writes the lines that are kept, those of each scheme arranged, one scheme after another.
@@ -294,7 +299,7 @@ fn write_by_schemes<'w, F: Files, W: Write>(
     ensures ends { EndsArranged (version_by options.now.place column.entry) options.now input.now
         (arranged_by_schemes options.now.place column.entry arrangement.entry
         (kept_in (version_by options.now.place column.entry) (is_kept chooser.now) options.now input.now.body.now))
-        (Leaves F.puts files.old files.new) (W.contents writer.old) (W.contents writer.new) result }
+        (Leaves F.puts files.old files.new) (F.refuses files.old) (W.contents writer.old) (W.contents writer.new) result }
     ensures files { AltersAtMost F.alters (bad_file options.now) files.old files.new }
     ensures kept { UnlessLate (files.new ≡ files.old) result }
 {
@@ -338,22 +343,19 @@ fn write_newest<'w, B: SortBy, C: Chooses, F: Files, W: Write>(
 ) -> Result<(), Fault<'w>>
     ensures ends { EndsArranged (version_in (B.reads by)) options.now input.now
         (newest_alone (B.reads by) (kept_in (version_in (B.reads by)) (C.keeps chooser.now) options.now input.now.body.now))
-        (Leaves F.puts files.old files.new) (W.contents writer.old) (W.contents writer.new) result }
+        (Leaves F.puts files.old files.new) (F.refuses files.old) (W.contents writer.old) (W.contents writer.new) result }
     ensures files { AltersAtMost F.alters (bad_file options.now) files.old files.new }
     ensures kept { UnlessLate (files.new ≡ files.old) result }
 {
     let mut newest = NewestLine::new(by);
     let bad = pick(alloc, &mut newest, chooser, options.end, input.body)?;
     refuse_bad(alloc, options, &bad)?;
-    write_lines(
-        alloc,
-        options,
-        input.head,
-        &bad,
-        &newest.line(),
-        files,
-        writer,
-    )
+    let line = newest.line();
+    let written = write_lines(alloc, options, input.head, &bad, &line, files, writer);
+    if written.is_ok() {
+        tell_of_newest(None, options, chooser, line, input.body, files);
+    }
+    written
 }
 
 /// Arranges lines that stand as they were added.
@@ -406,7 +408,7 @@ fn write_kept<'w, F: Files, W: Write>(
 ) -> Result<(), Fault<'w>>
     ensures ends { EndsArranged (version_in (reads_of options.now.place)) options.now input.now
         (kept_in (version_in (reads_of options.now.place)) (is_kept chooser.now) options.now input.now.body.now)
-        (Leaves F.puts files.old files.new) (W.contents writer.old) (W.contents writer.new) result }
+        (Leaves F.puts files.old files.new) (F.refuses files.old) (W.contents writer.old) (W.contents writer.new) result }
     ensures files { AltersAtMost F.alters (bad_file options.now) files.old files.new }
     ensures kept { UnlessLate (files.new ≡ files.old) result }
 {

@@ -158,6 +158,17 @@ fn passes(filter: &Option<Filter>, version: &AnyVersion<'_>) -> bool
     }
 }
 
+impl Chooses for Set {
+    ghost use Rattle.version_commands.specs.Choice.{is_of};
+    ghost use Rattle.version_sets.specs.Ends.{has};
+
+    ghost keeps = { λ set. is_of (has set) };
+
+    fn keeps(&self, version: &AnyVersion<'_>) -> bool {
+        self.has(version)
+    }
+}
+
 impl Chooses for Chooser {
     ghost use Rattle.version_commands.specs.Choice.{is_kept};
 

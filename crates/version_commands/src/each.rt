@@ -1,10 +1,10 @@
 //! The commands that ask the same of each of several versions: `show`, `key`, `why` and `next`.
-ghost use Rattle.std.specs.Prelude.{◌≡◌, ◌==◌, ◌<◌, ◌++◌, ◌∷◌, [], false, length, map, ℕ, List, Option, Some, IfErr, IfOk, OnOk};
+ghost use Rattle.std.specs.Prelude.{◌≡◌, ◌==◌, ◌<◌, ◌++◌, ◌∷◌, [], false, length, map, ℕ, Bool, List, Option, Some, IfErr, IfOk, OnOk};
 ghost use Rattle.std.specs.Io.KnownBytes.{Consumes, IsAtEnd};
 ghost use Rattle.version_commands.specs.Cause.{ComesOfAnswering, ComesOfAsking, ComesOfQuestion};
 ghost use Rattle.version_commands.specs.declared.each.Answers.{Answers};
-ghost use Rattle.version_commands.specs.Early.{IfOfWord};
-ghost use Rattle.version_commands.specs.Each.{has_version, place_of, scheme_of, spelling_of, version_asked, versions_among, AreAnswered, HasSet, HaveAnswered, IsAnswer, IsAnswered, IsAsked, IsHead};
+ghost use Rattle.version_commands.specs.Early.{is_of_word, IfOfWord};
+ghost use Rattle.version_commands.specs.Each.{are_versions, others_among, place_of, scheme_of, spelling_of, version_asked, versions_among, AreAnswered, HasSet, HaveAnswered, IsAnswer, IsAnswered, IsAsked, IsHead};
 ghost use Rattle.version_commands.specs.Pieces.{Adds};
 ghost use Rattle.version_commands.specs.Place.{line_text};
 ghost use Rattle.version_lines.specs.Lines.{lines_of, plain_end};
@@ -12,6 +12,8 @@ ghost use Rattle.version_schemes.specs.any.AnyVersion.{plain_any};
 
 use crate::bad::refuse_first;
 use crate::faults::Fault;
+use crate::files::Files;
+use crate::hint::tell_others;
 use crate::inputs::read_standard;
 use crate::json::add_json;
 use crate::key::add_key_line;
@@ -25,31 +27,52 @@ use crate::show::add_show;
 use crate::why::{add_head, add_why};
 use crate::word::set_of_word;
 use std::alloc::{AllocError, Global};
-use std::io::Read;
-use version_lines::LineEnd;
+use version_lines::{LineEnd, Source};
 use version_schemes::{AnyVersion, Scheme};
 
+/// The answers to a question, and the words that were left out.
+#[derive(Drop)]
+pub struct Answered<'w> {
+    pub output: Vec<u8>,
+    /// Those that are no versions.
+    pub others: Vec<&'w str>,
+}
+
 /// Answers the question for each version: of the words, or without any of the lines of the reader. Words that are none
-/// are left out beside one that is; a line that is none is a fault.
-pub fn answer_each<'w, R: Read>(
+/// are left out beside one that is, else the last of them is the fault, and those before it are told; a line that is none
+/// is a fault.
+pub fn answer_each<'w, F: Files, R: Source>(
     alloc: Global,
     question: Question<'w>,
     options: &EachOptions<'w>,
+    files: &F,
     reader: &mut R,
-) -> Result<Vec<u8>, Fault<'w>>
-    ensures output { IfOk result (λ output. IsAnswered question.entry options.now
-        (R.remaining reader.old) (R.remaining reader.new) output.items) }
+) -> Result<Answered<'w>, Fault<'w>>
+    ensures output { IfOk result (λ answered. IsAnswered question.entry options.now
+        (R.remaining reader.old) (R.remaining reader.new) answered.output.items) }
+    ensures others { IfOk result (λ answered. map (λ word. word.now) answered.others.items
+        ≡ others_among question.entry options.now.naming (map (λ word. word.now) options.now.versions.items)) }
+    ensures all { IfOk result (λ answered.
+        (length answered.others.items == 0) ≡ are_versions question.entry options.now) }
     ensures unread { length options.now.versions.items == 0 ≡ false → reader.new ≡ reader.old }
     ensures early { IfOfWord (reader.new ≡ reader.old) result }
     ensures asked { OnOk result (IsAsked question.entry options.now) }
-    ensures faults { IfErr result (ComesOfAsking question.entry options.now (R.remaining reader.old)) }
+    ensures faults { IfErr result (ComesOfAsking question.entry options.now (R.may_fail reader.old)
+        (R.remaining reader.old)) }
 {
     let asked = ask(alloc, question, options.end)?;
     if options.versions.is_empty() {
         let input = read_standard(alloc, reader)?;
         answer_lines(alloc, question, options, asked, input.as_slice())
     } else {
-        answer_words(alloc, question, options, options.versions.as_slice(), asked)
+        answer_words(
+            alloc,
+            question,
+            options,
+            options.versions.as_slice(),
+            asked,
+            files,
+        )
     }
 }
 
@@ -84,24 +107,27 @@ fn ask<'w>(alloc: Global, question: Question<'w>, end: u8) -> Result<Asked, Faul
     })
 }
 
-// Answers the question for each word that is a version. It fails with the last word if none is.
-fn answer_words<'w>(
+// Answers the question for each word that is a version. If none is, it fails with the last word, and tells the others.
+fn answer_words<'w, F: Files>(
     alloc: Global,
     question: Question<'w>,
     options: &EachOptions<'w>,
     words: &[&'w str],
     asked: Asked,
-) -> Result<Vec<u8>, Fault<'w>>
+    files: &F,
+) -> Result<Answered<'w>, Fault<'w>>
     requires set { HasSet question asked.set }
     requires words { words.now ≡ options.now.versions.items }
     requires some { 0 < length words.now }
-    ensures answers { IfOk result (λ output. Adds (AreAnswered question.entry options.now.naming options.now.end
+    ensures answers { IfOk result (λ answered. Adds (AreAnswered question.entry options.now.naming options.now.end
         (versions_among question.entry options.now.naming (map (λ word. word.now) words.now)))
-        asked.head.items output.items) }
+        asked.head.items answered.output.items) }
+    ensures others { IfOk result (λ answered. map (λ word. word.now) answered.others.items
+        ≡ others_among question.entry options.now.naming (map (λ word. word.now) words.now)) }
     ensures asked { OnOk result (IsAsked question.entry options.now) }
-    ensures faults { (old : Option (List ℕ)) → IfErr result (ComesOfAsking question.entry options.now old) }
+    ensures faults { (fails : Bool) (old : Option (List ℕ))
+        → IfErr result (ComesOfAsking question.entry options.now fails old) }
 {
-    refuse_none(question, options)?;
     let mut answers = Answers {
         alloc,
         question,
@@ -114,37 +140,29 @@ fn answer_words<'w>(
         unanswered: None,
     };
     let spelling = question.spelling(options.naming);
+    let mut others = Vec::new(alloc);
     for word in words {
-        if let Some(version) = spelling.version(word.as_bytes()) {
-            answers.add(word.as_bytes(), &version)?;
+        match spelling.version(word.as_bytes()) {
+            Some(version) => answers.add(word.as_bytes(), &version)?,
+            None => add_other(&mut others, word)?,
         }
     }
-    answers.finish()
-}
-
-// Fails with the last word if none is a version.
-fn refuse_none<'w>(question: Question<'_>, options: &EachOptions<'w>) -> Result<(), Fault<'w>>
-    ensures asked { OnOk result (IsAsked question.entry options.now) }
-    ensures faults { (old : Option (List ℕ)) → IfErr result (ComesOfAsking question.entry options.now old) }
-{
-    match options.versions.as_slice() {
-        [_before @ .., last] if !has_version(question, options) => {
-            let remark = question.spelling(options.naming).remark(last.as_bytes());
-            Err(Fault::NotVersion(last, remark))
+    match words {
+        [before @ .., last] if others.len() == words.len() => {
+            tell_others(&spelling, before, files);
+            Err(Fault::NotVersion(last, spelling.remark(last.as_bytes())))
         }
-        _ => Ok(()),
+        _ => answers.finish(others),
     }
 }
 
-// Whether any of the words is a version.
-fn has_version(question: Question<'_>, options: &EachOptions<'_>) -> bool
-    ensures { result ≡ has_version question.entry options.now }
+// Adds a word to those that are no versions.
+fn add_other<'w>(others: &mut Vec<&'w str>, word: &'w str) -> Result<(), AllocError>
+    ensures { OnOk result (map (λ other. other.now) others.new.items
+        ≡ map (λ other. other.now) others.old.items ++ word.now ∷ []) }
 {
-    let spelling = question.spelling(options.naming);
-    options
-        .versions
-        .iter()
-        .any(|word| spelling.version(word.as_bytes()).is_some())
+    others.push(word)?;
+    Ok(())
 }
 
 // Answers the question for each line. It fails with the first that is no version.
@@ -154,14 +172,16 @@ fn answer_lines<'w>(
     options: &EachOptions<'w>,
     asked: Asked,
     input: &[u8],
-) -> Result<Vec<u8>, Fault<'w>>
+) -> Result<Answered<'w>, Fault<'w>>
     requires set { HasSet question asked.set }
     requires words { options.now.versions.items ≡ [] }
-    ensures answers { IfOk result (λ output. Adds (AreAnswered question.entry options.now.naming options.now.end
+    ensures answers { IfOk result (λ answered. Adds (AreAnswered question.entry options.now.naming options.now.end
         (map (line_text options.now.crlf) (lines_of (plain_end options.now.end) input.now)))
-        asked.head.items output.items) }
-    ensures faults { (old new : Option (List ℕ)) → Consumes old new input.now → IsAtEnd new
-        → IfErr result (ComesOfAsking question.entry options.now old) }
+        asked.head.items answered.output.items) }
+    ensures others { IfOk result (λ answered. answered.others.items ≡ []) }
+    ensures early { IfErr result (λ fault. is_of_word fault ≡ false) }
+    ensures faults { (fails : Bool) (old new : Option (List ℕ)) → Consumes old new input.now → IsAtEnd new
+        → IfErr result (ComesOfAsking question.entry options.now fails old) }
 {
     let mut answers = Answers {
         alloc,
@@ -181,7 +201,7 @@ fn answer_lines<'w>(
     let bad = pick(alloc, &mut answers, &EveryVersion, end, input)?;
     let place = question.place(options.naming, options.crlf);
     refuse_first(alloc, &place, None, None, 0, &bad)?;
-    answers.finish()
+    answers.finish(Vec::new(alloc))
 }
 
 // The answers to versions, one after another.
@@ -230,17 +250,21 @@ impl<'a> Answers<'_, 'a> {
         Ok(())
     }
 
-    // Returns all of them. It fails with the first text that has none.
-    fn finish<'w>(self) -> Result<Vec<u8>, Fault<'w>>
-        ensures answers { IfOk result (λ output. (first : Answers) → (texts : List (List ℕ))
+    // Returns all of them, and the words that were left out. It fails with the first text that has none.
+    fn finish<'w>(self, others: Vec<&'w str>) -> Result<Answered<'w>, Fault<'w>>
+        ensures answers { IfOk result (λ answered. (first : Answers) → (texts : List (List ℕ))
             → HaveAnswered first self.entry texts
-            → Adds (AreAnswered first.question first.naming first.end texts) first.output.items output.items) }
+            → Adds (AreAnswered first.question first.naming first.end texts) first.output.items answered.output.items) }
+        ensures others { IfOk result (λ answered. answered.others.items ≡ others.entry.items) }
         ensures faults { IfErr result (λ fault. (first : Answers) → (texts : List (List ℕ))
             → HaveAnswered first self.entry texts
             → ComesOfAnswering first.question first.naming first.end texts fault) }
     {
         match self.unanswered {
-            None => Ok(self.output),
+            None => Ok(Answered {
+                output: self.output,
+                others,
+            }),
             Some(text) => Err(Fault::NoNext(quoted(self.alloc, text)?)),
         }
     }

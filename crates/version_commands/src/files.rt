@@ -23,8 +23,12 @@ pub enum Hint<'w> {
     NotVersion(&'w str, Option<Remark>),
     /// This word of `filter` looks like a version, and there is no file of that name.
     NoFile(&'w str),
-    /// Each version begins with a `v` and a digit, and was compared as a whole.
+    /// A version begins with a `v` and a digit and was taken as a whole, and with `--tags` the answer would be another.
     Tags,
+    /// Bytes between columns are named and no column is asked for, so that each line is its version.
+    WholeLines,
+    /// In the list of this name so many lines have the name of an earlier line, which counts in their place.
+    Repeated(&'w str, usize),
     /// The input has lines, and none was kept.
     NothingKept {
         /// Whether the first of them ends in a carriage return that was taken for a part of it.
@@ -40,6 +44,9 @@ pub trait Files {
     // Between the two states the bytes were written to the file of this name, in place of what it held.
     ghost puts: { Self → Self → List ℕ → List ℕ → Type 0 };
 
+    // Writing the file of this name may fail.
+    ghost refuses: { Self → List ℕ → Type 0 };
+
     // Between the two states at most the file of this name changed.
     ghost alters: { Self → Self → List ℕ → Type 0 };
 
@@ -54,7 +61,12 @@ pub trait Files {
     /// Writes the bytes to the file, in place of what it holds. After an error, it may hold anything.
     fn put(&mut self, name: &str, bytes: &[u8]) -> Result<(), Trouble>
         ensures put { OnOk result (puts self.old self.new name.now bytes.now) }
+        ensures failed { IfErr result
+            (λ trouble. trouble ≡ Trouble.System → refuses self.old name.now) }
         ensures others { alters self.old self.new name.now };
+
+    /// Returns whether the file of this name is there.
+    fn has(&self, name: &str) -> bool;
 
     /// Tells how far the run is. Only `--progress` asks for it.
     fn tell(&self, stage: Stage);
@@ -68,11 +80,13 @@ pub trait Files {
 pub struct NoFiles;
 
 impl Files for NoFiles {
-    ghost use Rattle.std.specs.Prelude.{◌≡◌, None};
+    ghost use Rattle.std.specs.Prelude.{◌≡◌, ⊤, None};
 
     ghost reads = { λ _ _ text. text ≡ None };
 
     ghost puts = { λ _ _ _ _. ⊥ };
+
+    ghost refuses = { λ _ _. ⊤ };
 
     ghost alters = { λ old new _. new ≡ old };
 
@@ -82,6 +96,10 @@ impl Files for NoFiles {
 
     fn put(&mut self, _name: &str, _bytes: &[u8]) -> Result<(), Trouble> {
         Err(Trouble::System)
+    }
+
+    fn has(&self, _name: &str) -> bool {
+        false
     }
 
     fn tell(&self, _stage: Stage) {}

@@ -1,60 +1,226 @@
 //! What a run tells beside: it may not have done what was meant.
 
 ghost use Rattle.std.specs.Prelude.{◌≡◌};
-ghost use Rattle.version_commands.specs.Each.{are_versions};
+ghost use Rattle.std.specs.Option.{option_map};
+ghost use Rattle.version_commands.specs.Hint.{asks_by_name, begins_with_v, compare_otherwise, is_bare, is_kept_by, is_kept_otherwise, is_newer, is_tested_otherwise, order_of_tags, stands_otherwise, tagged, takes_whole_lines};
+ghost use Rattle.version_schemes.specs.any.AnyVersion.{plain_any};
+ghost use Rattle.version_schemes.specs.any.Order.{any_of};
 
 use crate::arrange::Input;
 use crate::bad::ends_in_return;
 use crate::choice::Chooser;
 use crate::faults::Fault;
 use crate::files::{Files, Hint};
+use crate::inputs::count_lines;
+use crate::next::has_next;
 use crate::options::{
-    Arrangement, EachOptions, LineOptions, Naming, Question, Spelling, VersionPlace,
+    Arrangement, ColumnNames, EachOptions, LineOptions, Lists, Naming, Operator, Question,
+    Spelling, Step, VersionPlace,
 };
-use version_lines::{LineEnd, split_line};
+use crate::pick::Chooses;
+use crate::place::ByColumn;
+use crate::set::Set;
+use crate::test::holds;
+use std::alloc::{AllocError, Global};
+use std::cmp::Ordering;
+use version_lines::{Column, GroupBy, KeyedLines, Separators, SortBy, split_line};
 use version_schemes::{AnyVersion, Scheme};
+use version_tasks::version_in_tag;
+use version_texts::VersioningRef;
 
-/// Tells where all versions look like tags and were compared as a whole, and where no line was kept by `filter`.
-pub fn tell_hints<F: Files>(
-    arrangement: &Arrangement<'_>,
+/// Tells where `filter` would keep other lines by the versions in tags, and where it kept none.
+pub fn tell_of_filter<F: Files>(
     options: &LineOptions<'_>,
     chooser: &Chooser,
     input: &Input<'_>,
     files: &F,
 ) {
-    if options.scheme_column.is_none() && look_like_tags(&options.place, options.end, input.body) {
+    if keeps_otherwise(options, chooser, input.body) {
         files.hint(Hint::Tags);
     }
-    if matches!(arrangement, Arrangement::Filter { .. })
-        && keeps_none(options, chooser, input.body)
-    {
+    if keeps_none(options, chooser, input.body) {
         files.hint(Hint::NothingKept {
             has_returns: has_returns(options, input.body),
         });
     }
 }
 
-// Whether there are versions in the lines, and each begins with a `v` that nothing was asked to cut off.
-fn look_like_tags(place: &VersionPlace<'_>, end: LineEnd, input: &[u8]) -> bool {
-    if !is_whole(place.naming, place.scheme) {
+// Whether a line is kept as a whole and isn't by the version in its tag, or the other way round.
+fn keeps_otherwise<C: Chooses>(options: &LineOptions<'_>, chooser: &C, input: &[u8]) -> bool {
+    if !is_bare(options.place.naming) {
         return false;
     }
-    let mut found = false;
     let mut rest = input;
     while !rest.is_empty() {
-        let (line, after) = split_line(end, rest);
-        if place.version(line).is_some() {
-            if !begins_with_v(place.text(line)) {
-                return false;
-            }
-            found = true;
+        let (line, after) = split_line(options.end, rest);
+        if is_kept_otherwise(chooser, options.place.scheme, options.place.text(line)) {
+            return true;
         }
         rest = after;
     }
-    found
+    false
 }
 
-/// Tells where both of two versions look like tags and were compared as a whole.
+// Whether a text begins with a `v`, and the version in its tag is kept where the text isn't, or the other way round.
+fn is_kept_otherwise<C: Chooses>(chooser: &C, scheme: Scheme, text: &[u8]) -> bool
+    ensures { result ≡ is_kept_otherwise (C.keeps chooser.now) scheme text.now }
+{
+    if !begins_with_v(text) {
+        return false;
+    }
+    match tagged(scheme, text) {
+        Some(tag) => chooser.keeps(&tag) != is_kept(chooser, scheme, text),
+        None => false,
+    }
+}
+
+// Whether a text is a version that is kept.
+fn is_kept<C: Chooses>(chooser: &C, scheme: Scheme, text: &[u8]) -> bool
+    ensures { result ≡ is_kept_by (C.keeps chooser.now) (any_of scheme text.now) }
+{
+    match AnyVersion::read(scheme, text) {
+        Some(version) => chooser.keeps(&version),
+        None => false,
+    }
+}
+
+/// Tells where lines that were arranged would be others, or stand otherwise, by the versions in tags.
+pub fn tell_of_arranged<B: SortBy, C: Chooses, F: Files>(
+    arrangement: Arrangement<'_>,
+    options: &LineOptions<'_>,
+    chooser: &C,
+    lines: &KeyedLines<'_, B>,
+    input: &[u8],
+    files: &F,
+) {
+    match arrangement {
+        Arrangement::Newest { group, .. } => {
+            tell_of_newest(group, options, chooser, first_line(lines), input, files);
+        }
+        Arrangement::Sort { reverse, unique } => {
+            if is_bare(options.place.naming)
+                && (stand_otherwise(reverse, unique, &options.place, lines)
+                    || keeps_otherwise(options, chooser, input))
+            {
+                files.hint(Hint::Tags);
+            }
+        }
+        Arrangement::Filter { .. } => {}
+    }
+}
+
+// Returns the first of some lines, if there are any.
+fn first_line<'a, B: SortBy>(lines: &KeyedLines<'a, B>) -> Option<&'a [u8]> {
+    if lines.count() > 0 {
+        Some(lines.line(0))
+    } else {
+        None
+    }
+}
+
+// Whether one of two lines that follow each other begins with a `v`, and the second would stand first by their tags.
+fn stand_otherwise<B: SortBy>(
+    reverse: bool,
+    unique: bool,
+    place: &VersionPlace<'_>,
+    lines: &KeyedLines<'_, B>,
+) -> bool {
+    for next in 1..lines.count() {
+        let (before, after) = (lines.line(next - 1), lines.line(next));
+        if stands_otherwise(reverse, unique, place, before, after) {
+            return true;
+        }
+    }
+    false
+}
+
+// Whether one of two lines begins with a `v`, and by the versions in their tags the second stands before the first, or
+// ties with it where of those that tie the first is left alone.
+fn stands_otherwise(
+    reverse: bool,
+    unique: bool,
+    place: &VersionPlace<'_>,
+    before: &[u8],
+    after: &[u8],
+) -> bool
+    ensures { result ≡ stands_otherwise reverse unique place.now before.now after.now }
+{
+    match order_of_tags(place.scheme, place.text(before), place.text(after)) {
+        Some(Ordering::Equal) => unique,
+        Some(Ordering::Less) => reverse,
+        Some(Ordering::Greater) => !reverse,
+        None => false,
+    }
+}
+
+// Returns how two texts compare by the versions in their tags, if one of them begins with a `v` and both have one.
+fn order_of_tags(scheme: Scheme, first: &[u8], second: &[u8]) -> Option<Ordering>
+    ensures { result ≡ order_of_tags scheme first.now second.now }
+{
+    if !begins_with_v(first) && !begins_with_v(second) {
+        return None;
+    }
+    let (first, second) = (tagged(scheme, first)?, tagged(scheme, second)?);
+    Some(first.precedence(&second))
+}
+
+/// Tells where another line would be the newest by the versions in tags: of the first group, if there are groups.
+pub fn tell_of_newest<C: Chooses, F: Files>(
+    group: Option<Column<'_>>,
+    options: &LineOptions<'_>,
+    chooser: &C,
+    newest: Option<&[u8]>,
+    input: &[u8],
+    files: &F,
+) {
+    if is_bare(options.place.naming) && another_is_newest(group, options, chooser, newest, input) {
+        files.hint(Hint::Tags);
+    }
+}
+
+// Whether a line of the newest one's group is kept and newer by the versions in tags; or where none is kept, whether
+// one is by these.
+fn another_is_newest<C: Chooses>(
+    group: Option<Column<'_>>,
+    options: &LineOptions<'_>,
+    chooser: &C,
+    newest: Option<&[u8]>,
+    input: &[u8],
+) -> bool {
+    let place = &options.place;
+    let groups = ByColumn {
+        crlf: place.crlf,
+        column: group,
+    };
+    let mut rest = input;
+    while !rest.is_empty() {
+        let (line, after) = split_line(options.end, rest);
+        let found = match newest {
+            Some(newest) if groups.group(newest) == groups.group(line) => {
+                is_newer(chooser, place.scheme, place.text(newest), place.text(line))
+            }
+            Some(_) => false,
+            None => is_kept_otherwise(chooser, place.scheme, place.text(line)),
+        };
+        if found {
+            return true;
+        }
+        rest = after;
+    }
+    false
+}
+
+// Whether one of two texts begins with a `v`, and by the versions in their tags the second is kept, and newer.
+fn is_newer<C: Chooses>(chooser: &C, scheme: Scheme, newest: &[u8], text: &[u8]) -> bool
+    ensures { result ≡ is_newer (C.keeps chooser.now) scheme newest.now text.now }
+{
+    match (order_of_tags(scheme, newest, text), tagged(scheme, text)) {
+        (Some(Ordering::Less), Some(tag)) => chooser.keeps(&tag),
+        _ => false,
+    }
+}
+
+/// Tells where two versions compare otherwise by the versions in their tags.
 pub fn tell_of_two<F: Files>(
     naming: Naming<'_>,
     scheme: Scheme,
@@ -62,11 +228,167 @@ pub fn tell_of_two<F: Files>(
     second: &str,
     files: &F,
 ) {
-    if is_whole(naming, scheme)
-        && begins_with_v(first.as_bytes())
-        && begins_with_v(second.as_bytes())
+    if is_bare(naming) && compare_otherwise(scheme, first.as_bytes(), second.as_bytes()) {
+        files.hint(Hint::Tags);
+    }
+}
+
+// Whether two texts, one of which begins with a `v`, are versions and compare otherwise by those in their tags.
+fn compare_otherwise(scheme: Scheme, first: &[u8], second: &[u8]) -> bool
+    ensures { result ≡ compare_otherwise scheme first.now second.now }
+{
+    match (
+        order_of_tags(scheme, first, second),
+        AnyVersion::read(scheme, first),
+        AnyVersion::read(scheme, second),
+    ) {
+        (Some(tags), Some(first), Some(second)) => tags != first.precedence(&second),
+        _ => false,
+    }
+}
+
+/// Tells where `test` would answer otherwise of two versions by those in their tags.
+pub fn tell_of_test<F: Files>(
+    spelling: &Spelling<'_>,
+    first: &str,
+    operator: Operator,
+    second: &str,
+    answer: bool,
+    files: &F,
+) {
+    if is_bare(spelling.naming)
+        && is_tested_otherwise(
+            spelling.scheme,
+            first.as_bytes(),
+            operator,
+            second.as_bytes(),
+            answer,
+        )
     {
         files.hint(Hint::Tags);
+    }
+}
+
+// Whether one of two texts begins with a `v`, and the answer about the versions in their tags is another.
+fn is_tested_otherwise(
+    scheme: Scheme,
+    first: &[u8],
+    operator: Operator,
+    second: &[u8],
+    answer: bool,
+) -> bool
+    ensures { result ≡ is_tested_otherwise scheme first.now operator second.now answer }
+{
+    match order_of_tags(scheme, first, second) {
+        Some(order) => holds(operator, order) != answer,
+        None => false,
+    }
+}
+
+/// Tells where a set has the version in the tag of one of some words and hasn't the word, or the other way round.
+pub fn tell_of_set<F: Files>(spelling: &Spelling<'_>, words: &[&str], set: &Set, files: &F) {
+    if is_bare(spelling.naming)
+        && words.iter().any(|word| is_kept_otherwise(set, spelling.scheme, word.as_bytes()))
+    {
+        files.hint(Hint::Tags);
+    }
+}
+
+/// Tells where `why` would answer otherwise of one of the words by the version in its tag. Of lines it tells nothing.
+pub fn tell_of_why<F: Files>(
+    alloc: Global,
+    question: Question<'_>,
+    options: &EachOptions<'_>,
+    files: &F,
+) -> Result<(), AllocError> {
+    let Question::Why(scheme, word) = question else {
+        return Ok(());
+    };
+    let words = options.versions.as_slice();
+    if !words.iter().any(|word| begins_with_v(word.as_bytes())) {
+        return Ok(());
+    }
+    if let Ok(set) = Set::read(alloc, scheme, word)? {
+        tell_of_set(&question.spelling(options.naming), words, &set, files);
+    }
+    Ok(())
+}
+
+/// Tells where no version comes next to one of the words, and one does to the version in its tag.
+pub fn tell_of_next<T, F: Files>(
+    question: Question<'_>,
+    options: &EachOptions<'_>,
+    answered: &Result<T, Fault<'_>>,
+    files: &F,
+) {
+    if let (Question::Next(step), Err(Fault::NoNext(_))) = (question, answered) {
+        if is_bare(options.naming)
+            && options
+                .versions
+                .iter()
+                .any(|word| has_next_in_tag(step, word.as_bytes()))
+        {
+            files.hint(Hint::Tags);
+        }
+    }
+}
+
+// Whether a text begins with a `v`, and no version comes next to it and one does to the version in its tag.
+fn has_next_in_tag(step: Step<'_>, text: &[u8]) -> bool {
+    if !begins_with_v(text) {
+        return false;
+    }
+    match (VersioningRef::from_bytes(text), version_in_tag(text)) {
+        (Some(whole), Some(tag)) => !has_next(&whole, step) && has_next(&tag, step),
+        _ => false,
+    }
+}
+
+/// Tells where `-t` is given, and no column is asked for.
+pub fn tell_of_separators<F: Files>(
+    arrangement: &Arrangement<'_>,
+    options: &LineOptions<'_>,
+    served: &Result<(), Fault<'_>>,
+    files: &F,
+) {
+    if matches!(served, Ok(()) | Err(Fault::BadLine(_)))
+        && takes_whole_lines(arrangement, options)
+    {
+        files.hint(Hint::WholeLines);
+    }
+}
+
+// Whether bytes between columns are named, and no column is asked for.
+fn takes_whole_lines(arrangement: &Arrangement<'_>, options: &LineOptions<'_>) -> bool
+    ensures { result ≡ takes_whole_lines arrangement.now options.now }
+{
+    matches!(options.names.first.separators, Separators::Bytes(_))
+        && options.place.column.is_none()
+        && options.scheme_column.is_none()
+        && !asks_by_name(&options.names)
+        && !matches!(arrangement, Arrangement::Newest { group: Some(_), .. })
+}
+
+// Whether a column is asked for by its name.
+fn asks_by_name(names: &ColumnNames<'_>) -> bool
+    ensures { result ≡ asks_by_name names.now }
+{
+    names.version.is_some() || names.group.is_some() || names.scheme.is_some()
+}
+
+/// Tells how many lines of a list have a version, and the name of an earlier line.
+pub fn tell_of_repeated<F: Files>(
+    lists: &Lists<'_>,
+    name: &str,
+    input: &[u8],
+    names: usize,
+    bad: usize,
+    files: &F,
+) {
+    let lines = count_lines(lists.end, input);
+    let repeated = lines.saturating_sub(bad).saturating_sub(names);
+    if repeated > 0 {
+        files.hint(Hint::Repeated(name, repeated));
     }
 }
 
@@ -87,38 +409,8 @@ pub fn tell_of_fault<F: Files>(
     }
 }
 
-/// Tells which words are no versions, and returns whether all are.
-pub fn tell_of_words<F: Files>(question: Question<'_>, options: &EachOptions<'_>, files: &F) -> bool
-    ensures { result ≡ are_versions question.entry options.now }
-{
-    let spelling = question.spelling(options.naming);
-    let all = options
-        .versions
-        .iter()
-        .all(|word| spelling.version(word.as_bytes()).is_some());
-    if !all {
-        tell_others(&spelling, options.versions.as_slice(), files);
-    }
-    all
-}
-
-/// Tells which words but the last are no versions, if that one is the fault.
-pub fn tell_before_last<F: Files>(
-    question: Question<'_>,
-    options: &EachOptions<'_>,
-    answered: &Result<Vec<u8>, Fault<'_>>,
-    files: &F,
-) {
-    if let (Err(Fault::NotVersion(..)), [before @ .., _]) = (
-        answered,
-        options.versions.as_slice(),
-    ) {
-        tell_others(&question.spelling(options.naming), before, files);
-    }
-}
-
-// Tells which words are no versions.
-fn tell_others<F: Files>(spelling: &Spelling<'_>, words: &[&str], files: &F) {
+/// Tells which words are no versions.
+pub fn tell_others<F: Files>(spelling: &Spelling<'_>, words: &[&str], files: &F) {
     for word in words {
         if spelling.version(word.as_bytes()).is_none() {
             files.hint(Hint::NotVersion(word, spelling.remark(word.as_bytes())));
@@ -126,13 +418,28 @@ fn tell_others<F: Files>(spelling: &Spelling<'_>, words: &[&str], files: &F) {
     }
 }
 
-// Whether a text is compared as a whole, by mixed.
-fn is_whole(naming: Naming<'_>, scheme: Scheme) -> bool {
-    matches!((naming, scheme), (Naming::Bare, Scheme::Mixed))
+// Whether a text is to be a version as a whole.
+fn is_bare(naming: Naming<'_>) -> bool
+    ensures { result ≡ is_bare naming.entry }
+{
+    matches!(naming, Naming::Bare)
+}
+
+// Returns the version in a tag.
+fn tagged(scheme: Scheme, text: &[u8]) -> Option<AnyVersion<'_>>
+    ensures { option_map plain_any result ≡ tagged scheme text.now }
+{
+    let spelling = Spelling {
+        naming: Naming::Tag,
+        scheme,
+    };
+    spelling.version(text)
 }
 
 // Whether a text begins with a `v` and a digit.
-fn begins_with_v(text: &[u8]) -> bool {
+fn begins_with_v(text: &[u8]) -> bool
+    ensures { result ≡ begins_with_v text.now }
+{
     matches!(text, [b'v' | b'V', b'0'..=b'9', ..])
 }
 

@@ -8,8 +8,7 @@ ghost use Rattle.version_lines.specs.Lines.{ends_quoted, lines_of};
 use crate::faults::Fault;
 use crate::files::Files;
 use std::alloc::{AllocError, Global};
-use std::io::Read;
-use version_lines::{LineEnd, Trouble, ends_quoted, read_all, read_onto, split_line};
+use version_lines::{LineEnd, Source, Trouble, ends_quoted, read_all, read_onto, split_line};
 
 /// The inputs of a run, one behind another.
 #[derive(Drop)]
@@ -22,7 +21,7 @@ pub struct Inputs {
 /// Reads the files in turn, each to its end; `-` is the reader, and so is no name at all. An input that does not end
 /// where a line ends gets the byte that ends one; one that ends within quotes is a fault, since its last line would go on
 /// in the next.
-pub fn read_inputs<'w, F: Files, R: Read>(
+pub fn read_inputs<'w, F: Files, R: Source>(
     alloc: Global,
     names: &[&'w str],
     end: LineEnd,
@@ -34,7 +33,7 @@ pub fn read_inputs<'w, F: Files, R: Read>(
         (names_read (map (λ name. name.now) names.now)) texts × AreJoined end texts inputs) }
     ensures unread { reads_standard (names_read (map (λ name. name.now) names.now)) ≡ false
         → reader.new ≡ reader.old }
-    ensures faults { IfErr result (ComesOfReading end (F.reads files.now) (R.remaining reader.old)
+    ensures faults { IfErr result (ComesOfReading end (F.reads files.now) (R.may_fail reader.old) (R.remaining reader.old)
         (names_read (map (λ name. name.now) names.now))) }
 {
     match names {
@@ -44,7 +43,7 @@ pub fn read_inputs<'w, F: Files, R: Read>(
 }
 
 // Reads the files in turn, and then one more.
-fn read_after<'w, F: Files, R: Read>(
+fn read_after<'w, F: Files, R: Source>(
     alloc: Global,
     names: &[&'w str],
     last: &'w str,
@@ -57,7 +56,7 @@ fn read_after<'w, F: Files, R: Read>(
         (map (λ name. name.now) names.now ++ last.now ∷ []) texts × AreJoined end texts inputs) }
     ensures unread { reads_standard (map (λ name. name.now) names.now ++ last.now ∷ []) ≡ false
         → reader.new ≡ reader.old }
-    ensures faults { IfErr result (ComesOfReading end (F.reads files.now) (R.remaining reader.old)
+    ensures faults { IfErr result (ComesOfReading end (F.reads files.now) (R.may_fail reader.old) (R.remaining reader.old)
         (map (λ name. name.now) names.now ++ last.now ∷ [])) }
 {
     let (mut text, mut counts) = (Vec::new(alloc), Vec::new(alloc));
@@ -72,7 +71,7 @@ fn read_after<'w, F: Files, R: Read>(
 
 /// Reads one input to its end, with the byte that ends a line behind it if it does not end where one ends; one that ends
 /// within quotes is a fault.
-pub fn read_input<'w, F: Files, R: Read>(
+pub fn read_input<'w, F: Files, R: Source>(
     alloc: Global,
     name: &'w str,
     end: LineEnd,
@@ -82,8 +81,10 @@ pub fn read_input<'w, F: Files, R: Read>(
     ensures input { IfOk result (λ input. (text : List ℕ)
         × IsInput (F.reads files.now) (R.remaining reader.old) (R.remaining reader.new) name.now text
         × (input.items ≡ ended end.byte text) × (is_open end text ≡ false)) }
+    ensures stays { R.may_fail reader.new ≡ R.may_fail reader.old }
     ensures unread { is_standard name.now ≡ false → reader.new ≡ reader.old }
-    ensures faults { IfErr result (ComesOfReadingOne end (F.reads files.now) (R.remaining reader.old) name.now) }
+    ensures faults { IfErr result (ComesOfReadingOne end (F.reads files.now) (R.may_fail reader.old)
+        (R.remaining reader.old) name.now) }
 {
     let mut input = Vec::new(alloc);
     add_input(alloc, name, end, files, reader, &mut input)?;
@@ -98,8 +99,8 @@ fn add_count(counts: &mut Vec<usize>, count: usize) -> Result<(), AllocError>
     Ok(())
 }
 
-// Returns how many lines a text has.
-fn count_lines(end: LineEnd, text: &[u8]) -> usize
+/// Returns how many lines a text has.
+pub fn count_lines(end: LineEnd, text: &[u8]) -> usize
     ensures { result ≡ length (lines_of end text.now) }
 {
     let (mut count, mut rest) = (0, text);
@@ -126,7 +127,7 @@ pub fn line_in<'w>(names: &[&'w str], counts: &[usize], number: usize) -> (Optio
 }
 
 // Adds an input, and the byte that ends a line if it does not end where one ends.
-fn add_input<'w, F: Files, R: Read>(
+fn add_input<'w, F: Files, R: Source>(
     alloc: Global,
     name: &'w str,
     end: LineEnd,
@@ -137,8 +138,10 @@ fn add_input<'w, F: Files, R: Read>(
     ensures text { OnOk result ((text : List ℕ)
         × IsInput (F.reads files.now) (R.remaining reader.old) (R.remaining reader.new) name.now text
         × (input.new.items ≡ input.old.items ++ ended end.byte text) × (is_open end text ≡ false)) }
+    ensures stays { R.may_fail reader.new ≡ R.may_fail reader.old }
     ensures unread { is_standard name.now ≡ false → reader.new ≡ reader.old }
-    ensures faults { IfErr result (ComesOfReadingOne end (F.reads files.now) (R.remaining reader.old) name.now) }
+    ensures faults { IfErr result (ComesOfReadingOne end (F.reads files.now) (R.may_fail reader.old)
+        (R.remaining reader.old) name.now) }
 {
     let start = input.len();
     add_text(alloc, name, files, reader, input)?;
@@ -169,7 +172,7 @@ fn add_end(input: &mut Vec<u8>, end: u8) -> Result<(), AllocError>
 }
 
 // Adds what an input holds.
-fn add_text<'w, F: Files, R: Read>(
+fn add_text<'w, F: Files, R: Source>(
     alloc: Global,
     name: &'w str,
     files: &F,
@@ -179,8 +182,9 @@ fn add_text<'w, F: Files, R: Read>(
     ensures text { OnOk result ((text : List ℕ)
         × IsInput (F.reads files.now) (R.remaining reader.old) (R.remaining reader.new) name.now text
         × (input.new.items ≡ input.old.items ++ text)) }
+    ensures stays { R.may_fail reader.new ≡ R.may_fail reader.old }
     ensures unread { is_standard name.now ≡ false → reader.new ≡ reader.old }
-    ensures faults { IfErr result (ComesOfText (F.reads files.now) name.now) }
+    ensures faults { IfErr result (ComesOfText (F.reads files.now) (R.may_fail reader.old) name.now) }
 {
     if name == "-" {
         return match read_onto(alloc, reader, input) {
@@ -195,11 +199,11 @@ fn add_text<'w, F: Files, R: Read>(
 }
 
 /// Reads standard input to its end.
-pub fn read_standard<'w, R: Read>(alloc: Global, reader: &mut R) -> Result<Vec<u8>, Fault<'w>>
+pub fn read_standard<'w, R: Source>(alloc: Global, reader: &mut R) -> Result<Vec<u8>, Fault<'w>>
     ensures input { IfOk result (λ input.
         Consumes (R.remaining reader.old) (R.remaining reader.new) input.items) }
     ensures end { OnOk result (IsAtEnd (R.remaining reader.new)) }
-    ensures faults { IfErr result ComesOfStandard }
+    ensures faults { IfErr result (ComesOfStandard (R.may_fail reader.old)) }
 {
     match read_all(alloc, reader) {
         Ok(input) => Ok(input),

@@ -11,20 +11,20 @@ use crate::inputs::read_standard;
 use crate::options::Labels;
 use crate::write::write_answers;
 use std::alloc::Global;
-use std::io::{Read, Write};
-use version_lines::{Answer, LineCommand, LineEnd};
+use std::io::Write;
+use version_lines::{Answer, LineCommand, LineEnd, Source};
 use version_rules::Kind;
 use version_texts::VersioningRef;
 
 /// Writes the lines of the reader with their labels.
-pub fn write_labels<'w, R: Read, W: Write>(
+pub fn write_labels<'w, R: Source, W: Write>(
     alloc: Global,
     labels: Labels,
     reader: &mut R,
     writer: &mut W,
 ) -> Result<(), Fault<'w>>
     ensures { Ends (AreLabelled labels (R.remaining reader.old) (R.remaining reader.new))
-        ComesOfStandard (W.contents writer.old) (W.contents writer.new) result }
+        (ComesOfStandard (R.may_fail reader.old)) (W.contents writer.old) (W.contents writer.new) result }
 {
     let input = read_standard(alloc, reader)?;
     write_answers(

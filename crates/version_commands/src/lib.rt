@@ -12,6 +12,7 @@ mod each;
 mod explain;
 mod faults;
 mod files;
+mod first_word;
 mod header;
 mod hint;
 mod inputs;

@@ -1,5 +1,5 @@
 //! What differs between two lists of names with versions.
-ghost use Rattle.std.specs.Prelude.{◌≡◌, ℕ, ◌∷◌, ◌++◌, [], List, IfOk, OnOk};
+ghost use Rattle.std.specs.Prelude.{◌≡◌, ℕ, ◌∷◌, ◌++◌, [], length, List, IfOk, OnOk};
 ghost use Rattle.std.specs.Option.{option_map};
 ghost use Rattle.version_commands.specs.Lists.{difference_text, first_rows, lines_against, name_line, plain_row, row_text, rows_of, version_of, AreNames, Row};
 ghost use Rattle.version_commands.specs.Picked.{AreBadOf};
@@ -60,6 +60,13 @@ impl<'a> Names<'a> {
         self.versions.insert(name, version)?;
         self.rows.push(Named { name, version })?;
         Ok(())
+    }
+
+    /// Returns how many they are.
+    pub fn count(&self) -> usize
+        ensures { (rows : List Row) → AreNames rows self.now → result ≡ length (first_rows rows) }
+    {
+        self.rows.len()
     }
 
     // Returns the version of a name.

@@ -9,19 +9,19 @@ use crate::faults::Fault;
 use crate::inputs::read_standard;
 use crate::write::{whole_if, write_answers};
 use std::alloc::Global;
-use std::io::{Read, Write};
-use version_lines::{Answer, LineCommand, LineEnd};
+use std::io::Write;
+use version_lines::{Answer, LineCommand, LineEnd, Source};
 use version_texts::RequirementsRef;
 
 /// Writes those lines of the reader that are versions which the list matches that a word is.
-pub fn write_matched<'w, R: Read, W: Write>(
+pub fn write_matched<'w, R: Source, W: Write>(
     alloc: Global,
     word: &'w str,
     reader: &mut R,
     writer: &mut W,
 ) -> Result<(), Fault<'w>>
     ensures ends { Ends (AreMatched word.now (R.remaining reader.old) (R.remaining reader.new))
-        (ComesOfMatching word.now) (W.contents writer.old) (W.contents writer.new) result }
+        (ComesOfMatching word.now (R.may_fail reader.old)) (W.contents writer.old) (W.contents writer.new) result }
     ensures early { IfOfWord (reader.new ≡ reader.old) result }
 {
     let Some(list) = RequirementsRef::new(word) else {

@@ -63,6 +63,15 @@ fn next_text(
     }
 }
 
+/// Returns whether a version comes next to another.
+pub(crate) fn has_next(version: &VersioningRef<'_>, step: Step<'_>) -> bool {
+    match step {
+        Step::Place(place) => next_of(version, place).is_some(),
+        Step::Release => next_release(version).is_some(),
+        Step::Pre(word) => next_pre(version, bytes_of(word)).is_some(),
+    }
+}
+
 // Returns the bytes of a word, if there is one.
 fn bytes_of(word: Option<&str>) -> Option<&[u8]>
     ensures { option_map (λ bytes. bytes.now) result ≡ option_map (λ word. word.now) word.entry }

@@ -15,7 +15,6 @@ ghost use Rattle.version_commands.specs.Place.{mixed_spelling, spelled, spelled_
 ghost use Rattle.version_commands.specs.Test.{answer_line};
 ghost use Rattle.version_lines.specs.Lines.{line_feed};
 
-use crate::arrange::serve_lines;
 use crate::bad::refuse_first;
 use crate::compare::sign_line;
 use crate::difference::add_difference;
@@ -23,7 +22,11 @@ use crate::each::answer_each;
 use crate::explain::add_explained;
 use crate::faults::Fault;
 use crate::files::Files;
-use crate::hint::{tell_before_last, tell_of_fault, tell_of_two, tell_of_words};
+use crate::first_word::serve_by_words;
+use crate::hint::{
+    tell_of_fault, tell_of_next, tell_of_repeated, tell_of_separators, tell_of_two, tell_of_why,
+    tell_others,
+};
 use crate::inputs::read_input;
 use crate::label::write_labels;
 use crate::lists::{add_lists, read_names};
@@ -34,14 +37,15 @@ use crate::test::{answer_line, implies, meets, test_set, test_two};
 use crate::word::{mixed_of_word, version_of_word};
 use crate::write::write_answer;
 use std::alloc::Global;
-use std::io::{Read, Write};
+use std::io::Write;
+use version_lines::Source;
 use version_schemes::Scheme;
 
 /// Does a task, and returns whether it answers yes: one that answers by its output alone does. What it writes is
 /// `IsOutput` of the task and of what its files and the reader hold, and a fault `ComesOf` the same. At a fault the writer got nothing, or a proper beginning if it takes no more. A task that doesn't
 /// read standard input leaves the reader as it is. Each leaves all files as they are but the one for lines without a
 /// version, at a fault too.
-pub fn serve<'w, F: Files, R: Read, W: Write>(
+pub fn serve<'w, F: Files, R: Source, W: Write>(
     alloc: Global,
     task: &Task<'w>,
     files: &mut F,
@@ -51,7 +55,8 @@ pub fn serve<'w, F: Files, R: Read, W: Write>(
     ensures answers { IfOk result (Answers task.now) }
     ensures ends { Ends (IsOutput task.now (F.reads files.old) (R.remaining reader.old)
         (R.remaining reader.new) (Leaves F.puts files.old files.new))
-        (ComesOf task.now (F.reads files.old) (R.remaining reader.old))
+        (ComesOf task.now (F.reads files.old) (F.refuses files.old) (R.may_fail reader.old)
+        (R.remaining reader.old))
         (W.contents writer.old) (W.contents writer.new) result }
     ensures unread { asks_reader task.now ≡ false → reader.new ≡ reader.old }
     ensures files { AltersAtMost F.alters (file_of task.now) files.old files.new }
@@ -60,21 +65,26 @@ pub fn serve<'w, F: Files, R: Read, W: Write>(
 {
     match task {
         Task::Lines(arrangement, options) => {
-            let served = serve_lines(alloc, *arrangement, options, files, reader, writer);
+            let served = serve_by_words(alloc, *arrangement, options, files, reader, writer);
+            tell_of_separators(arrangement, options, &served, files);
             tell_of_fault(arrangement, &options.place, &served, files);
             served?;
             Ok(true)
         }
         Task::Each(question, options) => {
-            let answered = answer_each(alloc, *question, options, reader);
-            tell_before_last(*question, options, &answered, files);
-            write_answer(writer, answered?.as_slice())?;
-            Ok(tell_of_words(*question, options, files))
+            let answered = answer_each(alloc, *question, options, files, reader);
+            tell_of_next(*question, options, &answered, files);
+            let answered = answered?;
+            tell_of_why(alloc, *question, options, files)?;
+            write_answer(writer, answered.output.as_slice())?;
+            let spelling = question.spelling(options.naming);
+            tell_others(&spelling, answered.others.as_slice(), files);
+            Ok(answered.others.is_empty())
         }
         Task::TestTwo(spelling, first, operator, second) => {
-            test_two(spelling, first, *operator, second)
+            test_two(spelling, first, *operator, second, files)
         }
-        Task::TestSet(spelling, version, set) => test_set(alloc, spelling, version, set),
+        Task::TestSet(spelling, version, set) => test_set(alloc, spelling, version, set, files),
         Task::Implies(scheme, one, other) => {
             write_yes_or_no(writer, implies(alloc, *scheme, one, other)?)
         }
@@ -184,7 +194,7 @@ fn difference<'w>(
 }
 
 // Returns the lines of `diff --lists`.
-fn changes<'w, F: Files, R: Read>(
+fn changes<'w, F: Files, R: Source>(
     alloc: Global,
     lists: &Lists<'w>,
     files: &F,
@@ -193,7 +203,8 @@ fn changes<'w, F: Files, R: Read>(
     ensures output { IfOk result (λ output. AreChanges lists.now (F.reads files.now)
         (R.remaining reader.old) (R.remaining reader.new) output.items) }
     ensures unread { reads_standard (names_of lists.now) ≡ false → reader.new ≡ reader.old }
-    ensures faults { IfErr result (ComesOfChanges lists.now (F.reads files.now) (R.remaining reader.old)) }
+    ensures faults { IfErr result (ComesOfChanges lists.now (F.reads files.now) (R.may_fail reader.old)
+        (R.remaining reader.old)) }
 {
     let old = read_input(alloc, lists.old, lists.end, files, reader)?;
     let new = read_input(alloc, lists.new, lists.end, files, reader)?;
@@ -201,6 +212,22 @@ fn changes<'w, F: Files, R: Read>(
     let (new_names, new_bad) = read_names(alloc, lists, new.as_slice())?;
     refuse_of_list(alloc, lists, lists.old, &old_bad)?;
     refuse_of_list(alloc, lists, lists.new, &new_bad)?;
+    tell_of_repeated(
+        lists,
+        lists.old,
+        old.as_slice(),
+        old_names.count(),
+        old_bad.lines.len(),
+        files,
+    );
+    tell_of_repeated(
+        lists,
+        lists.new,
+        new.as_slice(),
+        new_names.count(),
+        new_bad.lines.len(),
+        files,
+    );
     let mut output = Vec::new(alloc);
     add_lists(&old_names, &new_names, lists.end.byte, &mut output)?;
     Ok(output)

@@ -141,7 +141,10 @@ impl fmt::Display for NoVersion<'_> {
                 write!(f, "{shown}: --prefix {prefix}{others}")
             }
             Some(Remark::NoColumn) => write!(f, "{shown}: no such column{others}"),
-            Some(Remark::NoScheme) => write!(f, "{shown}: no scheme is named{others}"),
+            Some(Remark::NoScheme) => write!(
+                f,
+                "{shown}: no scheme is named, of mixed, deb (debian, ubuntu), rpm (redhat, fedora, suse), pypi (python, pip, pep440), semver (npm, cargo, crates.io), gem (rubygems, ruby){others}"
+            ),
             Some(Remark::Flaw { reason, pointed }) => {
                 let (why, pointer) = (reason.text(), Pointer { place: pointed });
                 write!(f, "{why}{others}\n  {shown}{pointer}")

@@ -7,6 +7,8 @@ ghost use Rattle.version_commands.specs.Test.{answer_line, answer_of_set, answer
 ghost use Rattle.version_sets.specs.Ends.{IsPart, Meet};
 
 use crate::faults::Fault;
+use crate::files::Files;
+use crate::hint::{tell_of_set, tell_of_test};
 use crate::options::{Operator, Spelling};
 use crate::word::{tested_set, tested_version};
 use std::alloc::Global;
@@ -28,32 +30,37 @@ pub(crate) fn holds(operator: Operator, order: Ordering) -> bool
 
 /// Returns whether an operator holds between two versions by their precedence. Otherwise the fault has the first word
 /// that is none. Does not allocate.
-pub(crate) fn test_two<'w>(
+pub(crate) fn test_two<'w, F: Files>(
     spelling: &Spelling<'_>,
     first: &'w str,
     operator: Operator,
     second: &'w str,
+    files: &F,
 ) -> Result<bool, Fault<'w>>
     ensures answer { IfOk result (λ yes. answer_of_two spelling.now operator first.now second.now ≡ Some yes) }
     ensures faults { IfErr result (ComesOfTestOfTwo spelling.now (first_wrong (spelled spelling.now) (first.now ∷ second.now ∷ []))) }
 {
-    let first = tested_version(spelling, first)?;
-    let second = tested_version(spelling, second)?;
-    Ok(holds(operator, first.precedence(&second)))
+    let version = tested_version(spelling, first)?;
+    let other = tested_version(spelling, second)?;
+    let answer = holds(operator, version.precedence(&other));
+    tell_of_test(spelling, first, operator, second, answer, files);
+    Ok(answer)
 }
 
 /// Returns whether a set has a version. Otherwise the fault has the first word that is wrong.
-pub(crate) fn test_set<'w>(
+pub(crate) fn test_set<'w, F: Files>(
     alloc: Global,
     spelling: &Spelling<'_>,
-    version: &'w str,
+    word: &'w str,
     set: &'w str,
+    files: &F,
 ) -> Result<bool, Fault<'w>>
-    ensures answer { IfOk result (λ yes. answer_of_set spelling.now version.now set.now ≡ Some yes) }
-    ensures faults { IfErr result (ComesOfTestOfSet spelling.now version.now set.now) }
+    ensures answer { IfOk result (λ yes. answer_of_set spelling.now word.now set.now ≡ Some yes) }
+    ensures faults { IfErr result (ComesOfTestOfSet spelling.now word.now set.now) }
 {
-    let version = tested_version(spelling, version)?;
+    let version = tested_version(spelling, word)?;
     let set = tested_set(alloc, spelling.scheme, set)?;
+    tell_of_set(spelling, &[word], &set, files);
     Ok(set.has(&version))
 }
 

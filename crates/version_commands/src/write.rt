@@ -34,7 +34,7 @@ pub fn write_lines<'w, L: Rows, F: Files, W: Write>(
     writer: &mut W,
 ) -> Result<(), Fault<'w>>
     ensures ends { Ends (IsPlaced options.now head.now (map (λ line. line.now) bad.now.lines.items)
-        (L.lines rows.now) (Leaves F.puts files.old files.new)) (ComesOfPut options.now)
+        (L.lines rows.now) (Leaves F.puts files.old files.new)) (ComesOfPut options.now (F.refuses files.old))
         (W.contents writer.old) (W.contents writer.new) result }
     ensures files { AltersAtMost F.alters (bad_file options.now) files.old files.new }
     ensures kept { UnlessLate (files.new ≡ files.old) result }
@@ -125,7 +125,7 @@ fn put_bad<'w, F: Files>(
     ensures put { OnOk result (Leaves F.puts files.old files.new
         (put_of options.now (map (λ line. line.now) bad.now.lines.items))) }
     ensures files { AltersAtMost F.alters (bad_file options.now) files.old files.new }
-    ensures faults { IfErr result (ComesOfPut options.now) }
+    ensures faults { IfErr result (ComesOfPut options.now (F.refuses files.old)) }
 {
     let Some(name) = options.invalid_to else {
         return Ok(());

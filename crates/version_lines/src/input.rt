@@ -1,6 +1,7 @@
 //! Reading the whole input.
-ghost use Rattle.std.specs.Prelude.{◌≡◌, ◌++◌, ℕ, List, vec_len, OnOk, IfOk};
-ghost use Rattle.std.specs.Io.KnownBytes.{Consumes, IsAtEnd};
+ghost use Rattle.std.specs.Prelude.{◌≡◌, ◌++◌, ℕ, Bool, true, List, Option, vec_len, IfErr, IfOk, OnErr, OnOk};
+ghost use Rattle.std.specs.Io.{ReadsAtMost};
+ghost use Rattle.std.specs.Io.KnownBytes.{Consumes, IsAtEnd, ReadConsumes};
 ghost use Rattle.version_lines.specs.Input.{AddsRest};
 
 use std::alloc::{AllocError, Global};
@@ -25,7 +26,39 @@ impl From<AllocError> for Trouble {
     }
 }
 
-// How many bytes one call of `read` may return.
+/// What an input is read from.
+pub trait Source {
+    // The bytes that it will give from here on, where they are known.
+    ghost remaining: { Self → Option (List ℕ) };
+
+    // Whether the system may refuse to read it.
+    ghost may_fail: { Self → Bool };
+
+    /// Reads bytes into a piece, and returns how many: none at the end, or if the piece has no room.
+    fn read_piece(&mut self, piece: &mut [u8]) -> Result<usize, Trouble>
+        ensures bound { ReadsAtMost result piece.new }
+        ensures bytes { ReadConsumes (remaining self.old) (remaining self.new) result piece.new }
+        ensures failed { OnErr result (may_fail self.old ≡ true) }
+        ensures stays { may_fail self.new ≡ may_fail self.old };
+}
+
+impl<R: Read> Source for R {
+    ghost use Rattle.std.specs.Prelude.{true};
+
+    ghost remaining = { λ reader. R.remaining reader };
+
+    ghost may_fail = { λ _. true };
+
+    #[inline(always)]
+    fn read_piece(&mut self, piece: &mut [u8]) -> Result<usize, Trouble> {
+        match self.read(piece) {
+            Ok(given) => Ok(given),
+            Err(_) => Err(Trouble::System),
+        }
+    }
+}
+
+// How many bytes one call of `read_piece` may return.
 const PIECE: usize = 64 * 1024;
 
 // Returns `count` zero bytes.
@@ -36,10 +69,11 @@ fn zeros(alloc: Global, count: usize) -> Result<Vec<u8>, AllocError>
 }
 
 /// Reads to the end of the reader. It stops at the first call of `read` that fails, interrupted calls included.
-pub fn read_all<R: Read>(alloc: Global, reader: &mut R) -> Result<Vec<u8>, Trouble>
+pub fn read_all<R: Source>(alloc: Global, reader: &mut R) -> Result<Vec<u8>, Trouble>
     ensures bytes { IfOk result (λ input.
         Consumes (R.remaining reader.old) (R.remaining reader.new) input.items) }
     ensures end { OnOk result (IsAtEnd (R.remaining reader.new)) }
+    ensures failed { IfErr result (λ trouble. trouble ≡ Trouble.System → R.may_fail reader.old ≡ true) }
 {
     let mut input = Vec::new(alloc);
     read_onto(alloc, reader, &mut input)?;
@@ -48,21 +82,26 @@ pub fn read_all<R: Read>(alloc: Global, reader: &mut R) -> Result<Vec<u8>, Troub
 
 /// Reads to the end of the reader, and adds what it reads after the input so far. It stops as `read_all` does. After an
 /// error, part of it may have been added.
-pub fn read_onto<R: Read>(alloc: Global, reader: &mut R, input: &mut Vec<u8>) -> Result<(), Trouble>
+pub fn read_onto<R: Source>(
+    alloc: Global,
+    reader: &mut R,
+    input: &mut Vec<u8>,
+) -> Result<(), Trouble>
     ensures bytes { OnOk result
         (AddsRest (R.remaining reader.old) (R.remaining reader.new) input.old.items input.new.items) }
     ensures end { OnOk result (IsAtEnd (R.remaining reader.new)) }
     ensures begun { (more : List ℕ) × (input.new.items ≡ input.old.items ++ more) }
+    ensures failed { IfErr result (λ trouble. trouble ≡ Trouble.System → R.may_fail reader.old ≡ true) }
+    ensures stays { R.may_fail reader.new ≡ R.may_fail reader.old }
 {
     let mut piece = zeros(alloc, PIECE)?;
     for _ in 0..u64::MAX {
-        let Ok(given) = reader.read(piece.as_mut_slice()) else {
-            return Err(Trouble::System);
-        };
+        let given = reader.read_piece(piece.as_mut_slice())?;
         if given == 0 {
             return Ok(());
         }
         input.extend_from_slice(&piece[..given])?;
     }
-    Err(Trouble::System)
+    // Each piece had a byte, and no memory holds so many.
+    Err(Trouble::Memory)
 }

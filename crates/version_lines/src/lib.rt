@@ -11,7 +11,7 @@ mod output;
 mod sort;
 
 pub use column::{Column, Separators};
-pub use input::{Trouble, read_all, read_onto};
+pub use input::{Source, Trouble, read_all, read_onto};
 pub use lines::{Answer, LineCommand, LineEnd, after_lines, answer_lines, ends_quoted, split_line};
 pub use output::{NotWritten, make_buffer, put, put_line, write_whole};
 pub use sort::by::{SortBy, WholeLines};

@@ -1,5 +1,8 @@
 //! What was meant where one letter of a word is wrong, beside what `clap` finds itself.
 
+ghost use Rattle.std.specs.Prelude.{string_bytes, IfOk};
+ghost use Rattle.version_words.specs.Wrong.{HasText};
+
 use std::alloc::{AllocError, Global};
 use strsim::osa_distance;
 
@@ -11,7 +14,9 @@ pub fn with_tip(
     end: &str,
     what: &str,
     name: Option<&'static str>,
-) -> Result<String, AllocError> {
+) -> Result<String, AllocError>
+    ensures { IfOk result (λ made. HasText (string_bytes text.entry) → HasText (string_bytes made)) }
+{
     match (text.as_str().split_once(end), name) {
         (Some((before, after)), Some(name)) if !before.contains("  tip: ") => format!(in alloc;
             "{before}\n\n  tip: a similar {what} exists: '{name}'{end}{after}"
@@ -21,7 +26,9 @@ pub fn with_tip(
 }
 
 /// Takes from the text of a fault the tip to put an unknown option behind `--`, where it would be a file or a version.
-pub fn without_tip(alloc: Global, text: String) -> Result<String, AllocError> {
+pub fn without_tip(alloc: Global, text: String) -> Result<String, AllocError>
+    ensures { IfOk result (λ made. HasText (string_bytes text.entry) → HasText (string_bytes made)) }
+{
     match beside_tip(text.as_str()) {
         Some((before, after)) => format!(in alloc; "{before}\n\n{after}"),
         None => Ok(text),

@@ -8,22 +8,23 @@ ghost use Rattle.version_words.specs.declared.faults.Fault.TheVariants.{Task};
 use crate::faults::Fault;
 use crate::words::read_words;
 use std::alloc::Global;
-use std::io::{Read, Write};
+use std::io::Write;
 use version_commands::{Files, serve};
+use version_lines::Source;
 
 /// Does what the words ask for, and returns whether the answer is yes: a command that answers by its output alone does.
 /// docs/VERSIONS.md has the commands.
 ///
 /// The words are read first, and each that should be a version or a set is checked before anything is read. The inputs are read to their ends and checked before anything is written, and all memory is taken before. So at
 /// a fault the writer got nothing, unless it takes no more; the file for lines without a version may have been written.
-pub fn run<'w, F: Files, R: Read, W: Write>(
+pub fn run<'w, F: Files, R: Source, W: Write>(
     alloc: Global,
     words: &'w [String],
     files: &mut F,
     reader: &mut R,
     writer: &mut W,
 ) -> Result<bool, Fault<'w>>
-    ensures { RunsBy F.reads F.puts F.alters R.remaining files.old files.new reader.old reader.new
+    ensures { RunsBy F.reads F.puts F.refuses F.alters R.remaining R.may_fail files.old files.new reader.old reader.new
         (W.contents writer.old) (W.contents writer.new) (Means (map string_bytes words.now))
         (IsOfWords (map string_bytes words.now)) Task result }
 {

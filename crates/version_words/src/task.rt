@@ -312,14 +312,22 @@ fn diff_task<'w>(alloc: Global, options: &ArgMatches<'w>) -> Result<Task<'w>, Wo
         return lists_task(alloc, options);
     }
     if has_option_of_lists(options) {
-        let what = "the following required arguments were not provided:\n  --lists";
-        return Err(wrong(alloc, what));
+        return Err(wrong(alloc, what_lists_lack(options)));
     }
     Ok(Task::Difference(
         naming_of(alloc, options)?,
         word_of(options, "A"),
         word_of(options, "B"),
     ))
+}
+
+// Returns what is wrong with options for lists where none are compared.
+fn what_lists_lack(options: &ArgMatches<'_>) -> &'static str {
+    if is_given(options, "scheme") {
+        "the argument '--scheme <NAME>' takes '--lists' alone: two versions are compared by mixed"
+    } else {
+        "the following required arguments were not provided:\n  --lists"
+    }
 }
 
 // Returns the task of `diff --lists`.

@@ -72,6 +72,8 @@ impl Files for SystemFiles<'_> {
 
     ghost puts = { λ _ _ _ _. ⊤ };
 
+    ghost refuses = { λ _ _. ⊤ };
+
     ghost alters = { λ _ _ _. ⊤ };
 
     fn read_onto(&self, name: &str, input: &mut Vec<u8>) -> Result<(), Trouble> {
@@ -85,6 +87,10 @@ impl Files for SystemFiles<'_> {
             Ok(()) => Ok(()),
             Err(_) => Err(Trouble::System),
         }
+    }
+
+    fn has(&self, name: &str) -> bool {
+        fs::File::open(self.rt, name).is_ok()
     }
 
     fn tell(&self, stage: Stage) {
@@ -108,8 +114,19 @@ impl Files for SystemFiles<'_> {
                 eprintln!(self.rt; "versions: {shown} is a version: versions test {shown} SET")
             }
             Hint::Tags => eprintln!(self.rt;
-                "versions: all versions begin with v: --tags compares what follows it"
+                "versions: a version begins with v: with --tags the answer is another"
             ),
+            Hint::WholeLines => eprintln!(self.rt;
+                "versions: each line is taken for its version: -k names a column between -t"
+            ),
+            Hint::Repeated(name, count) => {
+                let shown = Shown {
+                    text: name.as_bytes(),
+                };
+                eprintln!(self.rt;
+                    "versions: lines left out of {shown}, since an earlier one has their name: {count}"
+                )
+            }
             Hint::NothingKept { has_returns: false } => eprintln!(self.rt;
                 "versions: no line was kept"
             ),

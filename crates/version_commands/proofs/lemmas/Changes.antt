@@ -1,5 +1,5 @@
 -- Two lists that were read in turn, and what changed between them.
-use Rattle.std.proofs.Common.{◌+◌, ◌≡◌, ℕ, false, arith, List, [], ◌∷◌, Option, None, Some, map, refl, sym, ap, ◌∙◌, Bor}
+use Rattle.std.proofs.Common.{◌+◌, ◌≡◌, ℕ, Bool, false, arith, List, [], ◌∷◌, Option, None, Some, map, refl, sym, ap, ◌∙◌, Bor}
 use Rattle.std.specs.List.{list_any}
 use Rattle.version_commands.specs.Cause.{ComesOfChanges, ComesOfEither, ComesOfOne}
 use Rattle.version_commands.specs.Fault.{ComesOfBad, ComesOfReading}
@@ -56,15 +56,15 @@ input-good lists text input bad whole (same, before) none =
 
 -- so the faults of the lines without a version of a list are those of the two, if they are so for what
 -- is reported of them
-pub changes-bad : (lists : Lists) (reads : Reading) (old between new : Option (List ℕ)) (file : Bor (List ℕ))
+pub changes-bad : (lists : Lists) (reads : Reading) (fails : Bool) (old between new : Option (List ℕ)) (file : Bor (List ℕ))
     (first second : List ℕ) (bad : BadLines) → IsInput reads old between lists.old.now first
     → IsInput reads between new lists.new.now second
     → ((fault : Fault) → lists.invalid ≡ Fail → ComesOfBad lists.invalid lists.place None (Some file) 0 bad fault
     → ComesOfEither lists first second fault)
     → (fault : Fault) → ComesOfBad lists.invalid lists.place None (Some file) 0 bad fault
-    → ComesOfChanges lists reads old fault
-changes-bad lists reads old between new file first second bad one other of_either =
-    bad-cases (ComesOfChanges lists reads old) lists.invalid lists.place None (Some file) (0 + bad.before)
+    → ComesOfChanges lists reads fails old fault
+changes-bad lists reads fails old between new file first second bad one other of_either =
+    bad-cases (ComesOfChanges lists reads fails old) lists.invalid lists.place None (Some file) (0 + bad.before)
     (map (λ (line : Bor (List ℕ)). line.now) bad.lines.items) tt
     (λ line is. (
       new,
@@ -75,8 +75,8 @@ changes-bad lists reads old between new file first second bad one other of_eithe
     ))
 
 -- the faults of reading the two lists are among those of the whole
-pub changes-reading : (lists : Lists) (reads : Reading) (old : Option (List ℕ)) (fault : Fault)
-    → ComesOfReading lists.end reads old (names_of lists) fault → ComesOfChanges lists reads old fault
-changes-reading lists reads old =
-    reading-cases (ComesOfChanges lists reads old) lists.end reads old (names_of lists) tt (λ name is. is)
+pub changes-reading : (lists : Lists) (reads : Reading) (fails : Bool) (old : Option (List ℕ)) (fault : Fault)
+    → ComesOfReading lists.end reads fails old (names_of lists) fault → ComesOfChanges lists reads fails old fault
+changes-reading lists reads fails old =
+    reading-cases (ComesOfChanges lists reads fails old) lists.end reads fails old (names_of lists) tt (λ name is. is)
     (λ name number is. is)

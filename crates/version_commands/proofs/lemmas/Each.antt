@@ -1,11 +1,15 @@
 -- Answers that follow one another, and the texts that are asked.
-use Rattle.std.proofs.Common.{◌≡◌, ◌<◌, ℕ, true, false, Bor, List, [], ◌∷◌, ◌++◌, ◌+◌, ◌-◌, ◌≤◌, get_or, length, map, take, Option, None, Some, is_some, inl, inr, refl, sym, subst, ap, ◌∙◌, arith, append-nil, append_assoc}
-use Rattle.std.proofs.lemmas.List.{take_all}
+use Rattle.std.proofs.Common.{◌≡◌, ◌≢◌, ◌==◌, ◌<◌, ℕ, suc, Bool, true, false, not, Bor, List, [], ◌∷◌, ◌++◌, ◌+◌, ◌-◌, ◌≤◌, get_or, length, map, take, Option, None, Some, is_some, Result, Ok, Err, OnOk, inl, inr, refl, sym, subst, ap, ◌∙◌, arith, append-nil, append_assoc}
+use Rattle.std.proofs.lemmas.List.{length-map, take_all}
 use Rattle.std.proofs.lemmas.List.Elements.{filter-append}
+use Rattle.std.proofs.lemmas.List.Filters.{length-filter_both}
+use Rattle.std.proofs.lemmas.Bool.{cases_Bool, ne_eqb}
+use Rattle.std.specs.List.{filter, list_all, list_any}
 use Rattle.version_commands.proofs.lemmas.Pieces.{texts-next}
 use Rattle.std.specs.Io.KnownBytes.{Consumes, IsAtEnd}
 use Rattle.version_commands.specs.Cause.{ComesOfAnswering, ComesOfAsking}
-use Rattle.version_commands.specs.Each.{AnsweredOr, AreAnswered, AreTexts, AreTextsOf, HasNoNext, HasSet, HaveAnswered, IsAnswer, is_version, version_asked, versions_among}
+use Rattle.version_commands.specs.Early.{is_of_word}
+use Rattle.version_commands.specs.Each.{AnsweredOr, AreAnswered, AreTexts, AreTextsOf, HasNoNext, HasSet, HaveAnswered, IsAnswer, are_versions, has_version, is_version, others_among, version_asked, versions_among}
 use Rattle.version_commands.specs.Pieces.{Adds}
 use Rattle.version_commands.specs.Place.{line_text}
 use Rattle.version_commands.specs.declared.each.Answers.{Answers}
@@ -105,24 +109,83 @@ word-texts question options old (word ∷ words) same some =
     (versions_among question options.naming (map (λ t. t.now) (word ∷ words))) (map (λ t. t.now) w))
     same (refl, refl)
 
--- one word more is among them if it is a version
-pub among-next : (question : Question) (naming : Naming) (words : List (Bor (List ℕ))) (i : ℕ) (d : Bor (List ℕ))
-    → i < length words → is_version question naming (get_or words i d).now ≡ true
-    → versions_among question naming (map (λ word. word.now) (take (i + 1) words))
-    ≡ versions_among question naming (map (λ word. word.now) (take i words)) ++ (get_or words i d).now ∷ []
-among-next question naming words i d inside is =
-    ap (versions_among question naming) (texts-next (λ (word : Bor (List ℕ)). word.now) words i d inside)
-    ∙ filter-append (is_version question naming) (map (λ word. word.now) (take i words)) ((get_or words i d).now ∷ [])
-    ∙ rw is refl
+-- one word more is among those that pass a test if it does
+module _ (passes : List ℕ → Bool) (words : List (Bor (List ℕ))) (i : ℕ) (d : Bor (List ℕ)) (inside : i < length words) where
+  next-apart : filter passes (map (λ word. word.now) (take (i + 1) words))
+      ≡ filter passes (map (λ word. word.now) (take i words)) ++ filter passes ((get_or words i d).now ∷ [])
+  next-apart = ap (filter passes) (texts-next (λ (word : Bor (List ℕ)). word.now) words i d inside)
+      ∙ filter-append passes (map (λ word. word.now) (take i words)) ((get_or words i d).now ∷ [])
 
-pub among-still : (question : Question) (naming : Naming) (words : List (Bor (List ℕ))) (i : ℕ) (d : Bor (List ℕ))
-    → i < length words → is_version question naming (get_or words i d).now ≡ false
-    → versions_among question naming (map (λ word. word.now) (take (i + 1) words))
-    ≡ versions_among question naming (map (λ word. word.now) (take i words))
-among-still question naming words i d inside isnt =
-    ap (versions_among question naming) (texts-next (λ (word : Bor (List ℕ)). word.now) words i d inside)
-    ∙ filter-append (is_version question naming) (map (λ word. word.now) (take i words)) ((get_or words i d).now ∷ [])
-    ∙ rw isnt (append-nil (versions_among question naming (map (λ word. word.now) (take i words))))
+  pub among-next : passes (get_or words i d).now ≡ true
+      → filter passes (map (λ word. word.now) (take (i + 1) words))
+      ≡ filter passes (map (λ word. word.now) (take i words)) ++ (get_or words i d).now ∷ []
+  among-next is = next-apart ∙ rw is refl
+
+  pub among-still : passes (get_or words i d).now ≡ false
+      → filter passes (map (λ word. word.now) (take (i + 1) words))
+      ≡ filter passes (map (λ word. word.now) (take i words))
+  among-still isnt = next-apart ∙ rw isnt (append-nil (filter passes (map (λ word. word.now) (take i words))))
+
+-- whether any text passes a test, and whether all do, by those that don't
+module _ (passes : List ℕ → Bool) where
+  few : (texts : List (List ℕ)) → length (filter (λ text. not (passes text)) texts) ≤ length texts
+  few texts = omega (arith, length-filter_both passes (λ text. not (passes text)) (λ text. refl) texts)
+
+  pub none-passes : (texts : List (List ℕ)) → length (filter (λ text. not (passes text)) texts) ≡ length texts
+      → list_any passes texts ≡ false
+  none-passes [] all = refl
+  none-passes (text ∷ texts) all = elim (cases_Bool (passes text)) [
+    | inl is ↦
+        let others : length (filter (λ t. not (passes t)) texts) ≡ suc (length texts) = rw is at all in
+        absurd (omega (arith, few texts, others))
+    | inr isnt ↦
+        let others : suc (length (filter (λ t. not (passes t)) texts)) ≡ suc (length texts) = rw isnt at all in
+        rw isnt (none-passes texts (omega (arith, others)))
+  ]
+
+  pub some-passes : (texts : List (List ℕ)) → length (filter (λ text. not (passes text)) texts) < length texts
+      → list_any passes texts ≡ true
+  some-passes [] some = absurd (omega (arith, some))
+  some-passes (text ∷ texts) some = elim (cases_Bool (passes text)) [
+    | inl is ↦ rw is refl
+    | inr isnt ↦
+        let others : suc (length (filter (λ t. not (passes t)) texts)) < suc (length texts) = rw isnt at some in
+        rw isnt (some-passes texts (omega (arith, others)))
+  ]
+
+  pub all-pass : (texts : List (List ℕ)) → (length (filter (λ text. not (passes text)) texts) == 0) ≡ list_all passes texts
+  all-pass [] = refl
+  all-pass (text ∷ texts) = elim (cases_Bool (passes text)) [
+    | inl is ↦ rw is (all-pass texts)
+    | inr isnt ↦ rw isnt (ne_eqb _ _ (omega arith))
+  ]
+
+-- whether all words are versions, and whether any is, by those that are none
+module _ (question : Question) (options : EachOptions) (words others : List (Bor (List ℕ)))
+    (same : words ≡ options.versions.items)
+    (are : map (λ word. word.now) others ≡ others_among question options.naming (map (λ word. word.now) words)) where
+  apart : length others ≡ length (others_among question options.naming (map (λ word. word.now) words))
+  apart = sym (length-map others (λ (word : Bor (List ℕ)). word.now)) ∙ ap length are
+
+  many : length (map (λ (word : Bor (List ℕ)). word.now) words) ≡ length words
+  many = length-map words (λ (word : Bor (List ℕ)). word.now)
+
+  pub all-are : (length others == 0) ≡ are_versions question options
+  all-are = ap (λ (n : ℕ). n == 0) apart
+      ∙ all-pass (is_version question options.naming) (map (λ word. word.now) words)
+      ∙ ap (λ (w : List (Bor (List ℕ))). list_all (is_version question options.naming) (map (λ word. word.now) w)) same
+
+  pub none-is : length others ≡ length words → has_version question options ≡ false
+  none-is all =
+      ap (λ (w : List (Bor (List ℕ))). list_any (is_version question options.naming) (map (λ word. word.now) w)) (sym same)
+      ∙ none-passes (is_version question options.naming) (map (λ word. word.now) words)
+      (omega (arith, apart, many, all))
+
+  pub some-is : length others ≢ length words → has_version question options ≡ true
+  some-is fewer =
+      ap (λ (w : List (Bor (List ℕ))). list_any (is_version question options.naming) (map (λ word. word.now) w)) (sym same)
+      ∙ some-passes (is_version question options.naming) (map (λ word. word.now) words)
+      (omega (arith, apart, many, fewer, few (is_version question options.naming) (map (λ word. word.now) words)))
 
 -- and else those of the lines
 pub line-texts : (question : Question) (options : EachOptions) (old new : Option (List ℕ)) (input : List ℕ)
@@ -131,13 +194,19 @@ pub line-texts : (question : Question) (options : EachOptions) (old new : Option
 line-texts question options old new input none read end = grind arith
 
 -- the faults of answering to the texts that are asked
-pub asking-answering : (question : Question) (options : EachOptions) (old new : Option (List ℕ))
+pub asking-answering : (question : Question) (options : EachOptions) (fails : Bool) (old new : Option (List ℕ))
     (texts : List (List ℕ)) → AreTexts question options old new texts → (fault : Fault)
-    → ComesOfAnswering question options.naming options.end texts fault → ComesOfAsking question options old fault
-asking-answering question options old new texts are fault (inl memory) =
-    subst (ComesOfAsking question options old) (sym memory) tt
-asking-answering question options old new texts are fault (inr (text, is, quotes)) =
-    subst (ComesOfAsking question options old) (sym is) (new, texts, are, quotes)
+    → ComesOfAnswering question options.naming options.end texts fault → ComesOfAsking question options fails old fault
+asking-answering question options fails old new texts are fault (inl memory) =
+    subst (ComesOfAsking question options fails old) (sym memory) tt
+asking-answering question options fails old new texts are fault (inr (text, is, quotes)) =
+    subst (ComesOfAsking question options fails old) (sym is) (new, texts, are, quotes)
+
+-- no such fault is of a word
+pub answering-early : (question : Question) (naming : Naming) (end : ℕ) (texts : List (List ℕ)) (fault : Fault)
+    → ComesOfAnswering question naming end texts fault → is_of_word fault ≡ false
+answering-early question naming end texts fault (inl memory) = ap is_of_word memory
+answering-early question naming end texts fault (inr (text, is, quotes)) = ap is_of_word is
 
 -- the answers so far, by another name
 pub still-held : (first now after : Answers) (texts : List (List ℕ)) → after ≡ now → HasSet now.question now.set
@@ -153,3 +222,8 @@ last-apart words d some =
     let all : take (length words - 1 + 1) words ≡ words = take_all (length words - 1 + 1) words (omega (arith, some)) in
     ap (map (λ (word : Bor (List ℕ)). word.now)) (sym all)
     ∙ texts-next (λ (word : Bor (List ℕ)). word.now) words (length words - 1) d (omega (arith, some))
+
+-- what is so holds of a value, if there is one
+pub ok-asked : {T E : Type 0} (result : Result T E) (Asked : Type 0) → Asked → OnOk result Asked
+ok-asked (Ok value) Asked asked = asked
+ok-asked (Err fault) Asked asked = tt

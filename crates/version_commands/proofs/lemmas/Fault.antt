@@ -7,8 +7,7 @@ use Rattle.version_commands.specs.Cause.{IsInItsFile}
 use Rattle.version_commands.specs.Fault.{ComesOfBad, ComesOfBadAfter, ComesOfLines, ComesOfReading, ComesOfReadingOne}
 use Rattle.version_commands.specs.Picked.{bad_lines, AreBadOf, Versions}
 use Rattle.std.specs.List.{list_any}
-use Rattle.version_commands.specs.Inputs.{is_open, AreInputs, Reading}
-use Rattle.version_commands.proofs.lemmas.Inputs.{is-among}
+use Rattle.version_commands.specs.Inputs.{is_open, AreInputs, ComesFirstAt, EndsOpen, MayFail, Reading}
 use Rattle.version_lines.specs.declared.lines.LineEnd.{LineEnd}
 use Rattle.version_commands.specs.declared.options.Invalid.{Invalid}
 use Rattle.version_commands.specs.declared.pick.BadLines.{BadLines}
@@ -46,31 +45,44 @@ bad-cases Follows policy place schemes file before bad memory line (Write name) 
 
 -- What follows from refused memory, from an input that can't be read, and from one that ends within quotes, follows from
 -- each fault of reading.
-pub reading-cases : (Follows : Fault → Type 0) (end : LineEnd) (reads : Reading) (old : Option (List ℕ))
+pub reading-cases : (Follows : Fault → Type 0) (end : LineEnd) (reads : Reading) (fails : Bool) (old : Option (List ℕ))
     (names : List (List ℕ)) → Follows Memory
-    → ((name : Bor (List ℕ)) → ComesOfReading end reads old names (Read name) → Follows (Read name))
-    → ((name : Bor (List ℕ)) (number : ℕ) → ComesOfReading end reads old names (Unclosed name number)
+    → ((name : Bor (List ℕ)) → ComesOfReading end reads fails old names (Read name) → Follows (Read name))
+    → ((name : Bor (List ℕ)) (number : ℕ) → ComesOfReading end reads fails old names (Unclosed name number)
     → Follows (Unclosed name number))
-    → (fault : Fault) → ComesOfReading end reads old names fault → Follows fault
-reading-cases Follows end reads old names memory read unclosed (NotVersion text remark) is = absurd is
-reading-cases Follows end reads old names memory read unclosed (NotRequirement text) is = absurd is
-reading-cases Follows end reads old names memory read unclosed (NotSet wrong) is = absurd is
-reading-cases Follows end reads old names memory read unclosed (NotTested text remark) is = absurd is
-reading-cases Follows end reads old names memory read unclosed (NotTestedSet wrong) is = absurd is
-reading-cases Follows end reads old names memory read unclosed (BadLine line) is = absurd is
-reading-cases Follows end reads old names memory read unclosed (NoNext text) is = absurd is
-reading-cases Follows end reads old names memory read unclosed (NoColumn name) is = absurd is
-reading-cases Follows end reads old names memory read unclosed (Unclosed name number) is = unclosed name number is
-reading-cases Follows end reads old names memory read unclosed Memory is = memory
-reading-cases Follows end reads old names memory read unclosed (Read name) is = read name is
-reading-cases Follows end reads old names memory read unclosed (Write name) is = absurd is
+    → (fault : Fault) → ComesOfReading end reads fails old names fault → Follows fault
+reading-cases Follows end reads fails old names memory read unclosed (NotVersion text remark) is = absurd is
+reading-cases Follows end reads fails old names memory read unclosed (NotRequirement text) is = absurd is
+reading-cases Follows end reads fails old names memory read unclosed (NotSet wrong) is = absurd is
+reading-cases Follows end reads fails old names memory read unclosed (NotTested text remark) is = absurd is
+reading-cases Follows end reads fails old names memory read unclosed (NotTestedSet wrong) is = absurd is
+reading-cases Follows end reads fails old names memory read unclosed (BadLine line) is = absurd is
+reading-cases Follows end reads fails old names memory read unclosed (NoNext text) is = absurd is
+reading-cases Follows end reads fails old names memory read unclosed (NoColumn name) is = absurd is
+reading-cases Follows end reads fails old names memory read unclosed (Unclosed name number) is = unclosed name number is
+reading-cases Follows end reads fails old names memory read unclosed Memory is = memory
+reading-cases Follows end reads fails old names memory read unclosed (Read name) is = read name is
+reading-cases Follows end reads fails old names memory read unclosed (Write name) is = absurd is
 
 -- the faults of reading one input, behind others that end as they should, are those of all that are read in turn
-module _ (end : LineEnd) (reads : Reading) (old between : Option (List ℕ)) (names before after texts : List (List ℕ))
-    (name : List ℕ) (are : names ≡ before ++ name ∷ after) (read : AreInputs reads old between before texts)
+module _ (end : LineEnd) (reads : Reading) (fails : Bool) (old between : Option (List ℕ))
+    (names before after texts : List (List ℕ)) (name : List ℕ) (are : names ≡ before ++ name ∷ after) (read : AreInputs reads old between before texts)
     (closed : list_any (is_open end) texts ≡ false) where
-  pub reading-at : (fault : Fault) → ComesOfReadingOne end reads between name fault
-      → ComesOfReading end reads old names fault
+  comes-at : (Comes : Option (List ℕ) → Type 0) (shown : List ℕ) → shown ≡ name → Comes between
+      → ComesFirstAt end reads old names shown Comes
+  comes-at Comes shown same comes = record {
+    before = before;
+    after = after;
+    texts = texts;
+    between = between;
+    names_are = rw same are;
+    texts_are = read;
+    closed = closed;
+    comes = comes;
+  }
+
+  pub reading-at : (fault : Fault) → ComesOfReadingOne end reads fails between name fault
+      → ComesOfReading end reads fails old names fault
   reading-at (NotVersion text remark) is = absurd is
   reading-at (NotRequirement text) is = absurd is
   reading-at (NotSet wrong) is = absurd is
@@ -79,21 +91,10 @@ module _ (end : LineEnd) (reads : Reading) (old between : Option (List ℕ)) (na
   reading-at (BadLine line) is = absurd is
   reading-at (NoNext text) is = absurd is
   reading-at (NoColumn name) is = absurd is
-  reading-at (Unclosed shown number) (same, opens) = record {
-    before = before;
-    after = after;
-    texts = texts;
-    between = between;
-    names_are = rw same are;
-    texts_are = read;
-    closed = closed;
-    opens = rw same opens;
-  }
+  reading-at (Unclosed shown number) (same, opens) =
+      comes-at (λ b. EndsOpen end reads b shown.now number) shown.now same (rw same opens)
   reading-at Memory is = tt
-  reading-at (Read shown) (same, failed) = record {
-    among = rw (same, are) (is-among before after name);
-    failed = rw same failed;
-  }
+  reading-at (Read shown) (same, failed) = comes-at (λ b. MayFail reads fails shown.now) shown.now same (rw same failed)
   reading-at (Write shown) is = absurd is
 
 -- a fault told by its file is as the one of all files, where lines to blame are alike

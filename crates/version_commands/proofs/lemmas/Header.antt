@@ -106,7 +106,7 @@ ordered-alike (Some column) keeps arrangement options other body = refl
 
 -- how a run over the parts of an input ends, by how it ends with options and an arrangement of numbers
 module _ (arrangement asked : Arrangement) (options made : LineOptions) (keeps : PlainAny → Bool)
-    (leaves : Option (List ℕ × List ℕ) → Type 0) (whole head body : List ℕ)
+    (leaves : Option (List ℕ × List ℕ) → Type 0) (Refuses : List ℕ → Type 0) (whole head body : List ℕ)
     (head_is : head ≡ head_of options whole) (body_is : body ≡ body_of options whole)
     (has : name_missing options whole ≡ None)
     (asked_is : asked ≡ arrangement_in arrangement options whole)
@@ -139,17 +139,17 @@ module _ (arrangement asked : Arrangement) (options made : LineOptions) (keeps :
       }
 
   by-numbers : (fault : Fault)
-      → ComesOfArranged made (versions_by made.place made.scheme_column) body fault
-      → ComesOfArranged (record (options_in options whole) { files = made.files })
+      → ComesOfArranged made Refuses (versions_by made.place made.scheme_column) body fault
+      → ComesOfArranged (record (options_in options whole) { files = made.files }) Refuses
       (versions_by (options_in options whole).place (options_in options whole).scheme_column) (body_of options whole) fault
   by-numbers fault comes = subst
-      (λ (o : LineOptions). ComesOfArranged o (versions_by o.place o.scheme_column) (body_of options whole) fault)
+      (λ (o : LineOptions). ComesOfArranged o Refuses (versions_by o.place o.scheme_column) (body_of options whole) fault)
       made_is
-      (subst (λ (b : List ℕ). ComesOfArranged made (versions_by made.place made.scheme_column) b fault) body_is comes)
+      (subst (λ (b : List ℕ). ComesOfArranged made Refuses (versions_by made.place made.scheme_column) b fault) body_is comes)
 
   pub faults-in : (fault : Fault)
-      → ComesOfArranged made (versions_by made.place made.scheme_column) body fault
-      → ComesOfInput options whole fault
+      → ComesOfArranged made Refuses (versions_by made.place made.scheme_column) body fault
+      → ComesOfInput options Refuses whole fault
   faults-in (NotVersion text remark) comes = (has, by-numbers (NotVersion text remark) comes)
   faults-in (NotRequirement text) comes = (has, by-numbers (NotRequirement text) comes)
   faults-in (NotSet wrong) comes = (has, by-numbers (NotSet wrong) comes)
@@ -164,9 +164,9 @@ module _ (arrangement asked : Arrangement) (options made : LineOptions) (keeps :
   faults-in (Write name) comes = (has, by-numbers (Write name) comes)
 
 -- a missing name is to blame, and nothing was written
-pub unnamed-faults : (options : LineOptions) (whole : List ℕ) (found : Option (Bor (List ℕ))) (fault : Fault)
+pub unnamed-faults : (options : LineOptions) (Refuses : List ℕ → Type 0) (whole : List ℕ) (found : Option (Bor (List ℕ))) (fault : Fault)
     → name_missing options whole ≡ found → IsSomeAnd found (λ name. fault ≡ NoColumn name)
-    → (takes_no_more fault ≡ false) × ComesOfInput options whole fault
-unnamed-faults options whole None fault missing is = absurd is
-unnamed-faults options whole (Some name) fault missing is =
-    subst (λ (f : Fault). (takes_no_more f ≡ false) × ComesOfInput options whole f) (sym is) (refl, missing)
+    → (takes_no_more fault ≡ false) × ComesOfInput options Refuses whole fault
+unnamed-faults options Refuses whole None fault missing is = absurd is
+unnamed-faults options Refuses whole (Some name) fault missing is =
+    subst (λ (f : Fault). (takes_no_more f ≡ false) × ComesOfInput options Refuses whole f) (sym is) (refl, missing)

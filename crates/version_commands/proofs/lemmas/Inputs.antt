@@ -1,6 +1,6 @@
 -- Inputs that were read in turn.
 use Rattle.std.proofs.Common.{◌≡◌, ◌==◌, ◌<◌, ◌-◌, ◌≤◌, ◌||◌, drop, ℕ, zero, suc, Bool, false, true, List, [], ◌∷◌, ◌++◌, length, get_or, map, take, Option, Some, refl, sym, subst, ap, ◌∙◌, arith, append-nil, inl, inr}
-use Rattle.std.specs.List.{flat_map, list_any, slice_get, Contains}
+use Rattle.std.specs.List.{flat_map, list_any, slice_get}
 use Rattle.std.specs.Option.{option_map_or}
 use Rattle.std.proofs.Math.ListN.{drop_of_length-le}
 use Rattle.std.proofs.Math.Seq.{take-append_seam}
@@ -151,13 +151,6 @@ ends_line-last end (byte ∷ next ∷ bytes) =
     ends_line-last end (next ∷ bytes)
     ∙ ap (λ (i : ℕ). option_map_or (λ b. b == end) (slice_get (byte ∷ next ∷ bytes) i) true)
     (sym place)
-
--- a name among others is one of them
-pub is-among : (before after : List (List ℕ)) (name : List ℕ) → Contains (before ++ name ∷ after) name
-is-among [] after name = (zero, omega arith, refl)
-is-among (first ∷ before) after name =
-    let (i, within, same) = is-among before after name in
-    (suc i, omega (arith, within), same)
 
 -- the names of some inputs and of more, about the one at a place
 pub parts-around : {X : Type 0} (f : X → List ℕ) (names : List X) (i : ℕ) (d : X) (more : List (List ℕ)) → i < length names

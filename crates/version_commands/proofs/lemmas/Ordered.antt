@@ -51,20 +51,20 @@ at-once versions keeps options input leaves skips no_file left output is =
     grind (arith, written-at-once)
 
 -- the file for lines without a version is to blame
-pub put-faults : (options : LineOptions) (versions : Versions) (input : List ℕ)
-    (fault : Fault) → ComesOfPut options fault → ComesOfArranged options versions input fault
-put-faults options versions input (NotVersion text remark) is = absurd is
-put-faults options versions input (NotRequirement text) is = absurd is
-put-faults options versions input (NotSet wrong) is = absurd is
-put-faults options versions input (NotTested text remark) is = absurd is
-put-faults options versions input (NotTestedSet wrong) is = absurd is
-put-faults options versions input (BadLine bad) is = absurd is
-put-faults options versions input (NoNext text) is = absurd is
-put-faults options versions input (NoColumn name) is = absurd is
-put-faults options versions input (Unclosed name number) is = absurd is
-put-faults options versions input Memory is = is
-put-faults options versions input (Read name) is = absurd is
-put-faults options versions input (Write name) is = is
+pub put-faults : (options : LineOptions) (Refuses : List ℕ → Type 0) (versions : Versions) (input : List ℕ)
+    (fault : Fault) → ComesOfPut options Refuses fault → ComesOfArranged options Refuses versions input fault
+put-faults options Refuses versions input (NotVersion text remark) is = absurd is
+put-faults options Refuses versions input (NotRequirement text) is = absurd is
+put-faults options Refuses versions input (NotSet wrong) is = absurd is
+put-faults options Refuses versions input (NotTested text remark) is = absurd is
+put-faults options Refuses versions input (NotTestedSet wrong) is = absurd is
+put-faults options Refuses versions input (BadLine bad) is = absurd is
+put-faults options Refuses versions input (NoNext text) is = absurd is
+put-faults options Refuses versions input (NoColumn name) is = absurd is
+put-faults options Refuses versions input (Unclosed name number) is = absurd is
+put-faults options Refuses versions input Memory is = is
+put-faults options Refuses versions input (Read name) is = absurd is
+put-faults options Refuses versions input (Write name) is = is
 
 -- where each line is its version and each version is kept, nothing has to be asked
 module _ (options : LineOptions) (chooser : Chooser) (arrangement : Arrangement) (input : List ℕ)
@@ -75,7 +75,7 @@ module _ (options : LineOptions) (chooser : Chooser) (arrangement : Arrangement)
   lines-alike = sym (λ i. arranged_in (whole i) (λ v. all v i) arrangement options input)
 
 -- the end of a run whose inputs were read in turn, by how it ends with these
-module _ (arrangement : Arrangement) (options : LineOptions) (files : Reading)
+module _ (arrangement : Arrangement) (options : LineOptions) (files : Reading) (Refuses : List ℕ → Type 0) (fails : Bool)
     (old new : Option (List ℕ)) (leaves : Option (List ℕ × List ℕ) → Type 0) (keeps : PlainAny → Bool)
     (texts : List (List ℕ)) (names : List (Bor (List ℕ))) (input : List ℕ)
     (same : names ≡ options.files.items)
@@ -101,18 +101,18 @@ module _ (arrangement : Arrangement) (options : LineOptions) (files : Reading)
 
   since-read : (found told : Fault)
       → IsInItsFile (map (λ name. name.now) options.files.items) (counts_before_last options.end texts) found told
-      → ComesOfInput options input found
+      → ComesOfInput options Refuses input found
       → (end : Option (List ℕ)) × (given : List (List ℕ)) × (fault : Fault)
       × AreInputs files old end (names_read (map (λ name. name.now) options.files.items)) given
-      × ComesOfInput options (joined options.end.byte given) fault
+      × ComesOfInput options Refuses (joined options.end.byte given) fault
       × IsInItsFile (map (λ name. name.now) options.files.items) (counts_before_last options.end given) fault told
   since-read found told in_file comes =
-      (new, texts, found, read, subst (λ (i : List ℕ). ComesOfInput options i found) whole comes, in_file)
+      (new, texts, found, read, subst (λ (i : List ℕ). ComesOfInput options Refuses i found) whole comes, in_file)
 
   blamed : (bad : Blamed) (told : Fault)
       → IsInItsFile (map (λ name. name.now) options.files.items) (counts_before_last options.end texts)
       (BadLine bad) told
-      → ComesOfInput options input (BadLine bad) → ComesOfArranging arrangement options files old told
+      → ComesOfInput options Refuses input (BadLine bad) → ComesOfArranging arrangement options files Refuses fails old told
   blamed bad (NotVersion text remark) same comes = cc same
   blamed bad (NotRequirement text) same comes = cc same
   blamed bad (NotSet wrong) same comes = cc same
@@ -128,7 +128,7 @@ module _ (arrangement : Arrangement) (options : LineOptions) (files : Reading)
 
   in-its-file : (found told : Fault)
       → IsInItsFile (map (λ name. name.now) options.files.items) (counts_before_last options.end texts) found told
-      → ComesOfInput options input found → ComesOfArranging arrangement options files old told
+      → ComesOfInput options Refuses input found → ComesOfArranging arrangement options files Refuses fails old told
   in-its-file (NotVersion text remark) told same comes = absurd comes.1
   in-its-file (NotRequirement text) told same comes = absurd comes.1
   in-its-file (NotSet wrong) told same comes = absurd comes.1
@@ -137,19 +137,19 @@ module _ (arrangement : Arrangement) (options : LineOptions) (files : Reading)
   in-its-file (BadLine bad) told in_file comes = blamed bad told in_file comes
   in-its-file (NoNext text) told same comes = absurd comes.1
   in-its-file (NoColumn name) told same comes =
-      subst (ComesOfArranging arrangement options files old) (sym same)
+      subst (ComesOfArranging arrangement options files Refuses fails old) (sym same)
       (since-read (NoColumn name) (NoColumn name) refl comes)
   in-its-file (Unclosed name number) told same comes = absurd comes.1
-  in-its-file Memory told same comes = subst (ComesOfArranging arrangement options files old) (sym same) tt
+  in-its-file Memory told same comes = subst (ComesOfArranging arrangement options files Refuses fails old) (sym same) tt
   in-its-file (Read name) told same comes = absurd comes.1
   in-its-file (Write name) told same comes =
-      subst (ComesOfArranging arrangement options files old) (sym same)
+      subst (ComesOfArranging arrangement options files Refuses fails old) (sym same)
       (since-read (Write name) (Write name) refl comes)
 
   pub ordered-faults : (counts : List ℕ) → counts ≡ counts_before_last options.end texts
       → (names : List (Bor (List ℕ))) → names ≡ options.files.items → (found told : Fault)
-      → IsInItsFile (map (λ name. name.now) names) counts found told → ComesOfInput options input found
-      → ComesOfArranging arrangement options files old told
+      → IsInItsFile (map (λ name. name.now) names) counts found told → ComesOfInput options Refuses input found
+      → ComesOfArranging arrangement options files Refuses fails old told
   ordered-faults counts counted names named found told in_file comes =
       in-its-file found told
       (subst (λ (n : List (Bor (List ℕ))). IsInItsFile (map (λ name. name.now) n) (counts_before_last options.end texts)

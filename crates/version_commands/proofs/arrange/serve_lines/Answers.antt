@@ -11,8 +11,10 @@ pub returns-in-Ok-clause-ends : goal.returns-in-Ok-clause-ends
 returns-in-Ok-clause-ends g c =
     let (texts, are, joined) = c.in_ok-inputs.ensures.input in
     let reads = g.F.Files.reads c.args.files.now in
-    let old = g.R.Read.remaining c.args.reader.now in
-    let new = g.R.Read.remaining c.read_inputs.new.reader in
+    let Refuses = g.F.Files.refuses c.args.files.now in
+    let fails = g.R.Source.may_fail c.args.reader.now in
+    let old = g.R.Source.remaining c.args.reader.now in
+    let new = g.R.Source.remaining c.read_inputs.new.reader in
     let options = c.args.options.now in
     let input = c.as_slice-2.result.now in
     let keeps = is_kept c.in_ok-chooser.chooser in
@@ -21,7 +23,7 @@ returns-in-Ok-clause-ends g c =
     let (output, is, written) =
     c.in-Ok.ensures.ends input c.split_head-input.ensures.head c.split_head-input.ensures.body in (
       output,
-      is-ordered c.args.arrangement options reads old new leaves keeps texts c.as_slice.result.now input
+      is-ordered c.args.arrangement options reads Refuses fails old new leaves keeps texts c.as_slice.result.now input
           c.as_slice.ensures.value are joined.closed c.in_ok-chooser.ensures.ok whole output is,
       written,
     )
@@ -30,8 +32,10 @@ pub returns-clause-ends : goal.returns-clause-ends
 returns-clause-ends g c =
     let (texts, are, joined) = c.in_ok-inputs.ensures.input in
     let reads = g.F.Files.reads c.args.files.now in
-    let old = g.R.Read.remaining c.args.reader.now in
-    let new = g.R.Read.remaining c.read_inputs.new.reader in
+    let Refuses = g.F.Files.refuses c.args.files.now in
+    let fails = g.R.Source.may_fail c.args.reader.now in
+    let old = g.R.Source.remaining c.args.reader.now in
+    let new = g.R.Source.remaining c.read_inputs.new.reader in
     let options = c.args.options.now in
     let input = c.as_slice-2.result.now in
     let keeps = is_kept c.in_ok-chooser.chooser in
@@ -42,9 +46,9 @@ returns-clause-ends g c =
     let ends = c.in-Err.ensures.ends input c.split_head-input.ensures.head c.split_head-input.ensures.body in
     rw (told-alike takes_no_more (λ a b. refl) _ _ fault told c.in_its_file.ensures)
     (stops-weaker (takes_no_more fault) _ _ _ _ _ _
-    (is-ordered c.args.arrangement options reads old new leaves keeps texts c.as_slice.result.now input
+    (is-ordered c.args.arrangement options reads Refuses fails old new leaves keeps texts c.as_slice.result.now input
     c.as_slice.ensures.value are joined.closed c.in_ok-chooser.ensures.ok whole)
-    (ordered-faults c.args.arrangement options reads old new leaves keeps texts c.as_slice.result.now input
+    (ordered-faults c.args.arrangement options reads Refuses fails old new leaves keeps texts c.as_slice.result.now input
     c.as_slice.ensures.value are joined.closed c.in_ok-chooser.ensures.ok whole c.as_slice-counts.result.now
     (c.as_slice-counts.ensures.value ∙ joined.counts_are) c.as_slice-names.result.now c.as_slice-names.ensures.value
     fault told c.in_its_file.ensures)

@@ -28,7 +28,7 @@ returns-then-not-reverse g c =
           text (subst (λ (l : List (List ℕ)).
           IsArranged (version_in (record { scheme = Mixed; text_of = λ line. line })) options c.args.input.now.head.now
           input l leaves output) same is))
-          (λ fault. subst (λ (at : Reads). ComesOfArranged options (version_in at) input fault) text)
+          (λ fault. subst (λ (at : Reads). ComesOfArranged options (g.F.Files.refuses c.args.files.now) (version_in at) input fault) text)
           c.write_keyed.ensures.ends;
       files = c.write_keyed.ensures.files;
       kept = c.write_keyed.ensures.kept;
@@ -43,7 +43,7 @@ returns-then-leaves_others_out-clause-ends g c =
     (λ output is. rw (c.in-Filter.is, none)
     (at-once (version_in (reads_of options.place)) (is_kept c.args.chooser.now) options c.args.input.now.body.now
     (Leaves g.F.Files.puts c.args.files.now c.args.files.now) skips no_file refl output is))
-    (λ fault memory. subst (ComesOfArranged options (version_in (reads_of options.place)) c.args.input.now.body.now)
+    (λ fault memory. subst (ComesOfArranged options (g.F.Files.refuses c.args.files.now) (version_in (reads_of options.place)) c.args.input.now.body.now)
     (sym memory) tt)
     c.write_at_once.ensures
 

@@ -12,6 +12,7 @@ pub returns-then-are_none-clause-ends : goal.returns-then-are_none-clause-ends
 returns-then-are_none-clause-ends g c = λ whole head_is body_is.
     let options = c.args.options.now in
     let keeps = is_kept c.args.chooser.now in
+    let Refuses = g.F.Files.refuses c.args.files.now in
     let leaves = Leaves g.F.Files.puts c.args.files.now c.write_told.new.files in
     let version = c.are_none.ensures.version (search rules) in
     let group = c.are_none.ensures.group (search rules) in
@@ -21,9 +22,9 @@ returns-then-are_none-clause-ends g c = λ whole head_is body_is.
     let asked_is = sym (arrangement-stays line options.names c.args.arrangement group) in
     let made_is = sym (options-stay line options version scheme) in
     ends-weaker _ _ _ _ _ _ c.write_told.result
-    (arranged-in c.args.arrangement c.args.arrangement options options keeps leaves whole c.args.input.now.head.now
+    (arranged-in c.args.arrangement c.args.arrangement options options keeps leaves Refuses whole c.args.input.now.head.now
     c.args.input.now.body.now head_is body_is has asked_is made_is)
-    (faults-in c.args.arrangement c.args.arrangement options options keeps leaves whole c.args.input.now.head.now
+    (faults-in c.args.arrangement c.args.arrangement options options keeps leaves Refuses whole c.args.input.now.head.now
     c.args.input.now.body.now head_is body_is has asked_is made_is)
     c.write_told.ensures.ends
 
@@ -36,7 +37,7 @@ returns-in_err-refuse_unnamed-clause-ends g c = λ whole head_is body_is.
     let is = header-is options whole head body head_is body_is header c.names_line-header.ensures in
     let missing = missing-is options whole head body head_is body_is header is (c.is_empty.ensures.some (search rules)) in
     let fault = c.in_err-refuse_unnamed.field-0.0 in
-    let blamed = unnamed-faults options whole (first_unnamed options.names header) fault missing (search rules) in
+    let blamed = unnamed-faults options (g.F.Files.refuses c.args.files.now) whole (first_unnamed options.names header) fault missing (search rules) in
     ends-at _ _ _ fault c.from_residual.result (search rules) blamed.0 blamed.1
 
 pub returns-in_err-options-clause-ends : goal.returns-in_err-options-clause-ends
@@ -49,6 +50,7 @@ returns-clause-ends g c = λ whole head_is body_is.
     let body = c.args.input.now.body.now in
     let made = c.in_ok-options.options in
     let keeps = is_kept c.args.chooser.now in
+    let Refuses = g.F.Files.refuses c.args.files.now in
     let leaves = Leaves g.F.Files.puts c.args.files.now c.write_told-2.new.files in
     let header = c.names_line-header.result.now in
     let is = header-is options whole head body head_is body_is header c.names_line-header.ensures in
@@ -66,6 +68,6 @@ returns-clause-ends g c = λ whole head_is body_is.
     let made_is = c.in_ok-options.ensures.columns
     ∙ ap (λ (l : List ℕ). record (options_by l options) { files = made.files }) is in
     ends-weaker _ _ _ _ _ _ c.write_told-2.result
-    (arranged-in c.args.arrangement c.arrangement_by-arrangement.result options made keeps leaves whole head body head_is body_is has asked_is made_is)
-    (faults-in c.args.arrangement c.arrangement_by-arrangement.result options made keeps leaves whole head body head_is body_is has asked_is made_is)
+    (arranged-in c.args.arrangement c.arrangement_by-arrangement.result options made keeps leaves Refuses whole head body head_is body_is has asked_is made_is)
+    (faults-in c.args.arrangement c.arrangement_by-arrangement.result options made keeps leaves Refuses whole head body head_is body_is has asked_is made_is)
     c.write_told-2.ensures.ends

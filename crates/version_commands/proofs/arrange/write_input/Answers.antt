@@ -18,7 +18,7 @@ returns-in-Some-clause-ends g c =
     ends-weaker _ _ _ _ _ _ c.write_by_schemes.result
     (λ output arranged. subst (λ (at : Option Column). IsArranged (versions_by options.place at) options head body
     (ordered_by at keeps c.args.arrangement options body) leaves output) is arranged)
-    (λ fault comes. subst (λ (at : Option Column). ComesOfArranged options (versions_by options.place at) body fault) is comes)
+    (λ fault comes. subst (λ (at : Option Column). ComesOfArranged options (g.F.Files.refuses c.args.files.now) (versions_by options.place at) body fault) is comes)
     c.write_by_schemes.ensures.ends
 
 pub returns-in-None-clause-ends : goal.returns-in-None-clause-ends
@@ -32,5 +32,5 @@ returns-in-None-clause-ends g c =
     ends-weaker _ _ _ _ _ _ c.write_arranged.result
     (λ output arranged. subst (λ (at : Option Column). IsArranged (versions_by options.place at) options head body
     (ordered_by at keeps c.args.arrangement options body) leaves output) is arranged)
-    (λ fault comes. subst (λ (at : Option Column). ComesOfArranged options (versions_by options.place at) body fault) is comes)
+    (λ fault comes. subst (λ (at : Option Column). ComesOfArranged options (g.F.Files.refuses c.args.files.now) (versions_by options.place at) body fault) is comes)
     c.write_arranged.ensures.ends

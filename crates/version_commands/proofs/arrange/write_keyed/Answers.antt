@@ -20,8 +20,8 @@ returns-clause-ends g c =
     c.args.arrangement (kept i))
     ∙ (λ i. arranged (g.B.SortBy.reads (by i)) (group_text options.place.crlf) c.args.arrangement
     (kept_lines (version_in (g.B.SortBy.reads (by i))) (g.C.Chooses.keeps c.args.chooser.now) lines)) in
-    ends-weaker _ _ _ _ _ _ c.write_lines.result
+    ends-weaker _ _ _ _ _ _ c.write_lines-written.result
     (λ output. is-arranged (version_in reads) options c.args.input.now.head.now c.args.input.now.body.now _ _ _ _ output
     (c.in_ok-bad.ensures.bad.0 ∙ (λ i. bad_lines (version_in (g.B.SortBy.reads (by i))) lines)) rows
     (λ fail. ap (map (λ (line : Bor (List ℕ)). line.now)) (c.in_ok-refuse_bad.ensures.none fail)))
-    (put-faults options (version_in reads) c.args.input.now.body.now) c.write_lines.ensures.ends
+    (put-faults options (g.F.Files.refuses c.args.files.now) (version_in reads) c.args.input.now.body.now) c.write_lines-written.ensures.ends

@@ -13,13 +13,13 @@ returns-clause-ends g c =
     let lines = lines_of options.end c.args.input.now.body.now in
     let (newest, stays) = c.in_ok-bad.ensures.taken in
     let by = c.new-newest.ensures.by in
-    let rows = c.line.ensures _ newest
+    let rows = c.line-line.ensures _ newest
     ∙ (λ i. newest_alone (g.B.SortBy.reads (stays i))
     (kept_lines (version_in (g.B.SortBy.reads c.new-newest.result.by)) (g.C.Chooses.keeps c.args.chooser.now) lines))
     ∙ (λ i. newest_alone (g.B.SortBy.reads (by i))
     (kept_lines (version_in (g.B.SortBy.reads (by i))) (g.C.Chooses.keeps c.args.chooser.now) lines)) in
-    ends-weaker _ _ _ _ _ _ c.write_lines.result
+    ends-weaker _ _ _ _ _ _ c.write_lines-written.result
     (λ output. is-arranged (version_in (g.B.SortBy.reads c.args.by)) options c.args.input.now.head.now c.args.input.now.body.now _ _ _ _ output
     (c.in_ok-bad.ensures.bad.0 ∙ (λ i. bad_lines (version_in (g.B.SortBy.reads (by i))) lines)) rows
     (λ fail. ap (map (λ (line : Bor (List ℕ)). line.now)) (c.in_ok-refuse_bad.ensures.none fail)))
-    (put-faults options (version_in (g.B.SortBy.reads c.args.by)) c.args.input.now.body.now) c.write_lines.ensures.ends
+    (put-faults options (g.F.Files.refuses c.args.files.now) (version_in (g.B.SortBy.reads c.args.by)) c.args.input.now.body.now) c.write_lines-written.ensures.ends

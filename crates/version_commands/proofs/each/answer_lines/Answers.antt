@@ -5,7 +5,7 @@ use Rattle.version_commands.specs.Picked.{bad_lines}
 use Rattle.version_commands.specs.Place.{line_text, reads_of}
 use Rattle.version_lines.specs.Lines.{lines_of, plain_end}
 use Rattle.version_lines.specs.Sort.{version_in}
-use Rattle.version_commands.proofs.lemmas.Each.{asking-answering, line-texts}
+use Rattle.version_commands.proofs.lemmas.Each.{answering-early, asking-answering, line-texts}
 use Rattle.version_commands.proofs.lemmas.Picked.{all-kept}
 use Rattle.version_commands.proofs.each.answer_lines.Goals as goal
 
@@ -19,8 +19,8 @@ returns-clause-answers c =
     let have = rw (all-kept (version_in (reads_of (place_of c.args.question options.naming options.crlf))) lines none) at c.in_ok-bad.ensures.taken in
     IfOk-weaker c.finish.result _ _ (λ output adds. adds _ _ have) c.finish.ensures.answers
 
-pub returns-clause-faults : goal.returns-clause-faults
-returns-clause-faults c = λ old new read end.
+pub returns-clause-early : goal.returns-clause-early
+returns-clause-early c =
     let options = c.args.options.now in
     let lines = lines_of (plain_end options.end) c.args.input.now in
     let none : bad_lines (version_in (reads_of (place_of c.args.question options.naming options.crlf))) lines ≡ [] =
@@ -28,7 +28,20 @@ returns-clause-faults c = λ old new read end.
     ∙ ap (map (λ (line : Bor (List ℕ)). line.now)) c.in_ok-refuse_first.ensures.none in
     let have = rw (all-kept (version_in (reads_of (place_of c.args.question options.naming options.crlf))) lines none) at c.in_ok-bad.ensures.taken in
     IfErr-weaker c.finish.result _ _
-    (λ fault comes. asking-answering c.args.question options old new
+    (λ fault comes. answering-early c.args.question options.naming options.end (map (line_text options.crlf) lines) fault
+    (comes _ _ have))
+    c.finish.ensures.faults
+
+pub returns-clause-faults : goal.returns-clause-faults
+returns-clause-faults c = λ fails old new read end.
+    let options = c.args.options.now in
+    let lines = lines_of (plain_end options.end) c.args.input.now in
+    let none : bad_lines (version_in (reads_of (place_of c.args.question options.naming options.crlf))) lines ≡ [] =
+    sym c.in_ok-bad.ensures.bad.0
+    ∙ ap (map (λ (line : Bor (List ℕ)). line.now)) c.in_ok-refuse_first.ensures.none in
+    let have = rw (all-kept (version_in (reads_of (place_of c.args.question options.naming options.crlf))) lines none) at c.in_ok-bad.ensures.taken in
+    IfErr-weaker c.finish.result _ _
+    (λ fault comes. asking-answering c.args.question options fails old new
     (map (line_text options.crlf) lines)
     (line-texts c.args.question options old new c.args.input.now c.requires.words read end) fault (comes _ _ have))
     c.finish.ensures.faults

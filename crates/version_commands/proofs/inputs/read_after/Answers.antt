@@ -1,4 +1,4 @@
-use Rattle.std.proofs.Common.{◌≡◌, ◌<◌, ◌-◌, ◌++◌, ◌∷◌, drop, ℕ, suc, List, [], length, map, take, get_or, refl, rules, sym, subst, ap, ◌∙◌, Bor, arith}
+use Rattle.std.proofs.Common.{◌≡◌, ◌<◌, ◌-◌, ◌++◌, ◌∷◌, drop, ℕ, suc, Bool, List, [], length, map, take, get_or, refl, rules, sym, subst, ap, ◌∙◌, Bor, arith}
 use Rattle.std.proofs.Math.Seq.{drop-append_seam}
 use Rattle.std.proofs.lemmas.List.{length-drop, map-append, take_all}
 use Rattle.std.proofs.lemmas.Result.{IfErr-weaker}
@@ -12,7 +12,7 @@ use Rattle.version_commands.proofs.inputs.read_after.Goals as goal
 
 pub loop-name-preserved : goal.loop-name-preserved
 loop-name-preserved g c =
-    let ((texts, read, closed, same, counted), kept) = c.loop-name.invariant in
+    let ((texts, read, closed, same, counted), kept, stays) = c.loop-name.invariant in
     let (text, is, added, here) = c.in_ok-add_input.ensures.text in
     let names = c.args.names.now in
     let end = c.args.end in
@@ -20,8 +20,8 @@ loop-name-preserved g c =
     let d : Bor (List ℕ) = record { ref_ptr = (0, 0); now = [] } in
     let inside : i < length names = search rules in
     let reads = g.F.Files.reads c.args.files.now in
-    let old = g.R.Read.remaining c.args.reader.now in
-    let new = g.R.Read.remaining c.add_input.new.reader in
+    let old = g.R.Source.remaining c.args.reader.now in
+    let new = g.R.Source.remaining c.add_input.new.reader in
     let next = texts-next (λ (n : Bor (List ℕ)). n.now) names i d inside in
     let start : c.len-start.result ≡ length c.loop-name.text.items = search rules in
     let behind : drop c.len-start.result c.as_slice.result.now ≡ ended end.byte text =
@@ -45,16 +45,17 @@ loop-name-preserved g c =
       ),
       λ none. c.add_input.ensures.unread
           (none-standard (λ (n : Bor (List ℕ)). n.now) names i d inside none) ∙ kept none,
+      c.add_input.ensures.stays ∙ stays,
     )
 
 pub returns-clause-input : goal.returns-clause-input
 returns-clause-input g c =
-    let ((texts, read, closed, same, counted), kept) = c.loop-name.invariant in
+    let ((texts, read, closed, same, counted), kept, stays) = c.loop-name.invariant in
     let (text, is, added, here) = c.in_ok-add_input-2.ensures.text in
     let names = c.args.names.now in
     let reads = g.F.Files.reads c.args.files.now in
-    let old = g.R.Read.remaining c.args.reader.now in
-    let new = g.R.Read.remaining c.add_input-2.new.reader in
+    let old = g.R.Source.remaining c.args.reader.now in
+    let new = g.R.Source.remaining c.add_input-2.new.reader in
     let all : take c.loop-name.name-index names ≡ names = take_all c.loop-name.name-index names (search rules) in (
       texts ++ text ∷ [],
       inputs-push reads old _ new (map (λ (n : Bor (List ℕ)). n.now) names) texts c.args.last.now text
@@ -67,7 +68,7 @@ returns-clause-input g c =
     )
 
 pub loop-name-init : goal.loop-name-init
-loop-name-init g c = (([], refl, refl, c.new-text.ensures.items, c.new-counts.ensures.items), λ none. refl)
+loop-name-init g c = (([], refl, refl, c.new-text.ensures.items, c.new-counts.ensures.items), (λ none. refl), refl)
 
 pub returns-in_err-add_input-clause-unread : goal.returns-in_err-add_input-clause-unread
 returns-in_err-add_input-clause-unread g c none =
@@ -91,31 +92,37 @@ returns-in_err-add_count-clause-unread g c none =
 
 pub returns-in_err-add_input-clause-faults : goal.returns-in_err-add_input-clause-faults
 returns-in_err-add_input-clause-faults g c =
-    let ((texts, read, closed, same, counted), kept) = c.loop-name.invariant in
+    let ((texts, read, closed, same, counted), kept, stays) = c.loop-name.invariant in
     let now : Bor (List ℕ) → List ℕ = λ n. n.now in
     let names = c.args.names.now in
     let i = c.loop-name.name-index in
     let d : Bor (List ℕ) = record { ref_ptr = (0, 0); now = [] } in
     let inside : i < length names = search rules in
     let reads = g.F.Files.reads c.args.files.now in
-    let old = g.R.Read.remaining c.args.reader.now in
-    let between = g.R.Read.remaining c.loop-name.reader in
+    let old = g.R.Source.remaining c.args.reader.now in
+    let between = g.R.Source.remaining c.loop-name.reader in
+    let fails = g.R.Source.may_fail c.args.reader.now in
+    let now_fails = g.R.Source.may_fail c.loop-name.reader in
     let last = c.args.last.now ∷ [] in
-    IfErr-weaker c.from_residual.result (ComesOfReadingOne c.args.end reads between (now (get_or names i d))) _
-    (reading-at c.args.end reads old between (map now names ++ last) (map now (take i names)) (map now (drop (suc i) names) ++ last)
-    texts (now (get_or names i d)) (parts-around now names i d last inside) read closed)
+    IfErr-weaker c.from_residual.result (ComesOfReadingOne c.args.end reads now_fails between (now (get_or names i d))) _
+    (λ fault comes. reading-at c.args.end reads fails old between (map now names ++ last) (map now (take i names)) (map now (drop (suc i) names) ++ last)
+    texts (now (get_or names i d)) (parts-around now names i d last inside) read closed fault
+    (subst (λ (f : Bool). ComesOfReadingOne c.args.end reads f between (now (get_or names i d)) fault) stays comes))
     (search rules)
 
 pub returns-in_err-add_input-2-clause-faults : goal.returns-in_err-add_input-2-clause-faults
 returns-in_err-add_input-2-clause-faults g c =
-    let ((texts, read, closed, same, counted), kept) = c.loop-name.invariant in
+    let ((texts, read, closed, same, counted), kept, stays) = c.loop-name.invariant in
     let now : Bor (List ℕ) → List ℕ = λ n. n.now in
     let names = c.args.names.now in
     let all : take c.loop-name.name-index names ≡ names = take_all c.loop-name.name-index names (search rules) in
     let reads = g.F.Files.reads c.args.files.now in
-    let old = g.R.Read.remaining c.args.reader.now in
-    let between = g.R.Read.remaining c.loop-name.reader in
-    IfErr-weaker c.from_residual-in_err-add_input-2.result (ComesOfReadingOne c.args.end reads between c.args.last.now) _
-    (reading-at c.args.end reads old between (map now names ++ c.args.last.now ∷ []) (map now names) [] texts c.args.last.now refl
-    (rw all at read) closed)
+    let old = g.R.Source.remaining c.args.reader.now in
+    let between = g.R.Source.remaining c.loop-name.reader in
+    let fails = g.R.Source.may_fail c.args.reader.now in
+    let now_fails = g.R.Source.may_fail c.loop-name.reader in
+    IfErr-weaker c.from_residual-in_err-add_input-2.result (ComesOfReadingOne c.args.end reads now_fails between c.args.last.now) _
+    (λ fault comes. reading-at c.args.end reads fails old between (map now names ++ c.args.last.now ∷ []) (map now names) [] texts c.args.last.now refl
+    (rw all at read) closed fault
+    (subst (λ (f : Bool). ComesOfReadingOne c.args.end reads f between c.args.last.now fault) stays comes))
     (search rules)

@@ -1,6 +1,6 @@
-use Rattle.std.proofs.Common.{◌++◌, ◌∷◌, [], ℕ, List, refl, rules, ap, ◌∙◌, arith}
+use Rattle.std.proofs.Common.{◌++◌, None, Some, inr, ◌∷◌, [], ℕ, Bool, List, refl, rules, subst, ap, ◌∙◌, arith}
 use Rattle.std.proofs.lemmas.Result.{IfErr-weaker}
-use Rattle.version_commands.specs.Fault.{ComesOfReadingOne}
+use Rattle.version_commands.specs.Fault.{ComesOfBad, ComesOfReadingOne}
 use Rattle.version_commands.specs.Lists.{difference_text, names_of, rows_of}
 use Rattle.version_commands.proofs.lemmas.Fault.{reading-at}
 use Rattle.version_commands.proofs.lemmas.Changes.{are-changes, changes-bad, changes-reading, input-bad, input-good}
@@ -10,9 +10,9 @@ pub returns-clause-output : goal.returns-clause-output
 returns-clause-output g c =
     let lists = c.args.lists.now in
     let reads = g.F.Files.reads c.args.files.now in
-    let start = g.R.Read.remaining c.args.reader.now in
-    let between = g.R.Read.remaining c.read_input.new.reader in
-    let end = g.R.Read.remaining c.read_input-2.new.reader in
+    let start = g.R.Source.remaining c.args.reader.now in
+    let between = g.R.Source.remaining c.read_input.new.reader in
+    let end = g.R.Source.remaining c.read_input-2.new.reader in
     let before = c.as_slice.result.now in
     let after = c.as_slice-2.result.now in
     let (first, one, old_is, old_closed) = c.in_ok-old.ensures.input in
@@ -37,23 +37,27 @@ pub returns-in_err-old-clause-faults : goal.returns-in_err-old-clause-faults
 returns-in_err-old-clause-faults g c =
     let lists = c.args.lists.now in
     let reads = g.F.Files.reads c.args.files.now in
-    let start = g.R.Read.remaining c.args.reader.now in
-    IfErr-weaker c.from_residual.result (ComesOfReadingOne lists.end reads start lists.old.now) _
-    (λ fault is. changes-reading lists reads start fault
-    (reading-at lists.end reads start start (names_of lists) [] (lists.new.now ∷ []) [] lists.old.now refl refl refl fault is))
+    let start = g.R.Source.remaining c.args.reader.now in
+    let fails = g.R.Source.may_fail c.args.reader.now in
+    IfErr-weaker c.from_residual.result (ComesOfReadingOne lists.end reads fails start lists.old.now) _
+    (λ fault is. changes-reading lists reads fails start fault
+    (reading-at lists.end reads fails start start (names_of lists) [] (lists.new.now ∷ []) [] lists.old.now refl refl refl fault is))
     (search rules)
 
 pub returns-in_err-new-clause-faults : goal.returns-in_err-new-clause-faults
 returns-in_err-new-clause-faults g c =
     let lists = c.args.lists.now in
     let reads = g.F.Files.reads c.args.files.now in
-    let start = g.R.Read.remaining c.args.reader.now in
-    let between = g.R.Read.remaining c.read_input.new.reader in
+    let start = g.R.Source.remaining c.args.reader.now in
+    let between = g.R.Source.remaining c.read_input.new.reader in
     let (first, one, old_is, closed) = c.in_ok-old.ensures.input in
-    IfErr-weaker c.from_residual-in_err-new.result (ComesOfReadingOne lists.end reads between lists.new.now) _
-    (λ fault is. changes-reading lists reads start fault
-    (reading-at lists.end reads start between (names_of lists) (lists.old.now ∷ []) [] (first ∷ []) lists.new.now refl
-    (between, one, refl) (rw closed refl) fault is))
+    let fails = g.R.Source.may_fail c.args.reader.now in
+    let now_fails = g.R.Source.may_fail c.read_input.new.reader in
+    IfErr-weaker c.from_residual-in_err-new.result (ComesOfReadingOne lists.end reads now_fails between lists.new.now) _
+    (λ fault is. changes-reading lists reads fails start fault
+    (reading-at lists.end reads fails start between (names_of lists) (lists.old.now ∷ []) [] (first ∷ []) lists.new.now refl
+    (between, one, refl) (rw closed refl) fault
+    (subst (λ (f : Bool). ComesOfReadingOne lists.end reads f between lists.new.now fault) c.in_ok-old.ensures.stays is)))
     (search rules)
 
 pub returns-in_err-refuse_of_list-clause-faults : goal.returns-in_err-refuse_of_list-clause-faults
@@ -62,4 +66,24 @@ returns-in_err-refuse_of_list-clause-faults g c =
 
 pub returns-in_err-refuse_of_list-2-clause-faults : goal.returns-in_err-refuse_of_list-2-clause-faults
 returns-in_err-refuse_of_list-2-clause-faults g c =
-    grind (arith, IfErr-weaker, changes-bad, input-good, input-bad)
+    let lists = c.args.lists.now in
+    let reads = g.F.Files.reads c.args.files.now in
+    let start = g.R.Source.remaining c.args.reader.now in
+    let fails = g.R.Source.may_fail c.args.reader.now in
+    let between = g.R.Source.remaining c.read_input.new.reader in
+    let end = g.R.Source.remaining c.read_input-2.new.reader in
+    let before = c.as_slice.result.now in
+    let after = c.as_slice-2.result.now in
+    let (first, one, old_is, old_closed) = c.in_ok-old.ensures.input in
+    let (second, other, new_is, new_closed) = c.in_ok-new.ensures.input in
+    let first_is = c.as_slice.ensures.value ∙ old_is in
+    let second_is = c.as_slice-2.ensures.value ∙ new_is in
+    let bad = c.in_ok-new_names.new_bad in
+    IfErr-weaker c.from_residual-in_err-refuse_of_list-2.result (ComesOfBad lists.invalid lists.place None (Some lists.new) 0 bad) _
+    (changes-bad lists reads fails start between end lists.new first second bad one other
+    (λ fault fail is. inr (
+      input-good lists first before c.in_ok-old_names.old_bad first_is c.in_ok-old_names.ensures.bad
+          (c.in_ok-refuse_of_list.ensures.none fail),
+      input-bad lists lists.new second after bad second_is c.in_ok-new_names.ensures.bad fault is,
+    )))
+    (search rules)

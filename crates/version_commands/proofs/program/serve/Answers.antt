@@ -1,5 +1,36 @@
-use Rattle.std.proofs.Common.{rules}
+use Rattle.std.proofs.Common.{◌≡◌, ◌||◌, ℕ, Bool, true, false, List, Option, Result, Err, refl, rules, subst, sym}
+use Rattle.version_commands.specs.Ends.{Ends}
+use Rattle.version_commands.specs.declared.faults.Fault.{Fault}
 use Rattle.version_commands.proofs.program.serve.Goals as goal
+
+-- neither holds where one of them does not
+neither : {A : Type 0} (one other : Bool) → (one ≡ false → other ≡ false → A) → (one || other) ≡ false → A
+neither true other holds e = cc e
+neither false other holds e = holds refl e
+
+-- a fault that is handed on ends as it did
+carried : {T U : Type 0} (IsOutput : List ℕ → Type 0) (Comes : Fault → Type 0) (old new : Option (List ℕ))
+    (result : Result T Fault) (other : Result U Fault) (fault : Fault) → result ≡ Err fault → other ≡ Err fault
+    → Ends IsOutput Comes old new result → Ends IsOutput Comes old new other
+carried IsOutput Comes old new result other fault is same ends =
+    subst (Ends IsOutput Comes old new) (sym same) (subst (Ends IsOutput Comes old new) is ends)
+
+pub returns-in_err-served-in-Lines-clause-ends : goal.returns-in_err-served-in-Lines-clause-ends
+returns-in_err-served-in-Lines-clause-ends g c =
+    let fault = c.in_err-served-in-Lines.field-0.0 in
+    let served : c.serve_by_words-served.result ≡ Err fault = search rules in
+    let returned : c.from_residual.result ≡ Err fault = search rules in
+    rw c.in-Lines.is (carried _ _ _ _ _ _ fault served returned c.serve_by_words-served.ensures.ends)
+
+pub returns-in_ok-served-in-Lines-clause-ends : goal.returns-in_ok-served-in-Lines-clause-ends
+returns-in_ok-served-in-Lines-clause-ends g c = rw c.in-Lines.is (search rules)
+
+pub returns-in_ok-served-in-Lines-clause-unread : goal.returns-in_ok-served-in-Lines-clause-unread
+returns-in_ok-served-in-Lines-clause-unread g c =
+    rw c.in-Lines.is (neither _ _ c.serve_by_words-served.ensures.unread)
+
+pub returns-in-TestTwo-clause-ends : goal.returns-in-TestTwo-clause-ends
+returns-in-TestTwo-clause-ends g c = rw c.in-TestTwo.is (search rules)
 
 pub returns-in-TestSet-clause-ends : goal.returns-in-TestSet-clause-ends
 returns-in-TestSet-clause-ends g c = rw c.in-TestSet.is (search rules)

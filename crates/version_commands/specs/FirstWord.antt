@@ -1,0 +1,48 @@
+-- A first word of `filter` that is no set, and names a file.
+use Rattle.std.proofs.Common.{Bor}
+use Rattle.std.specs.Prelude.{◌≡◌, ◌⊎◌, ◌∷◌, ◌||◌, ℕ, Bool, false, true, List, Option, Some, None, is_some, map, if◌then◌else◌}
+use Rattle.std.specs.Option.{option_map_or}
+use Rattle.version_commands.specs.Inputs.{is_standard}
+use Rattle.version_commands.specs.Sets.{IsWrongSet}
+use Rattle.version_commands.specs.declared.options.Arrangement.{Arrangement}
+use Rattle.version_commands.specs.declared.options.Arrangement.TheVariants.{Filter}
+use Rattle.version_commands.specs.declared.options.Choice.{Choice}
+use Rattle.version_commands.specs.declared.options.LineOptions.{LineOptions}
+use Rattle.version_commands.specs.declared.set.WrongSet.{WrongSet}
+use Rattle.version_tasks.specs.declared.stability.Stability.{Stability}
+use Rattle.version_tasks.specs.declared.stability.Stability.TheVariants.{Dev}
+
+-- whether this level leaves no version out
+abbrev pub is_least : Stability → Bool
+is_least Dev = true
+is_least other = false
+
+-- whether a choice asks for some versions alone
+abbrev pub asks : Choice → Bool
+asks choice = is_some choice.wanted || (if is_least choice.least then false else true)
+
+-- the first word of `filter`, if it may name a file in place of a set: something else says which versions are kept
+abbrev pub word_for_file : Arrangement → Choice → Option (Bor (List ℕ))
+word_for_file (Filter word false) choice = if asks choice then word else None
+word_for_file other choice = None
+
+-- whether it may name standard input
+abbrev pub may_be_standard : Arrangement → Choice → Bool
+may_be_standard arrangement choice =
+    option_map_or (λ word. is_standard word.now) (word_for_file arrangement choice) false
+
+-- this holds of the arrangement without a set, and of the options with a word that is none as the first file
+pub record HoldsByFile (Holds : Arrangement → LineOptions → Type 0) (arrangement : Arrangement)
+    (options : LineOptions) : Type 0 where
+  pub word : Bor (List ℕ)
+  pub word_is : word_for_file arrangement options.choice ≡ Some word
+  pub wrong : WrongSet
+  pub no_set : IsWrongSet options.place.scheme word.now wrong
+  pub made : LineOptions
+  pub made_is : made ≡ record options { files = made.files }
+  pub files_are : map (λ name. name.now) made.files.items ≡ word.now ∷ map (λ name. name.now) options.files.items
+  pub holds : Holds (Filter None false) made
+
+-- this holds of the words as they are, or with the first as a file
+abbrev pub HoldsByWords : (Arrangement → LineOptions → Type 0) → Arrangement → LineOptions → Type 0
+HoldsByWords Holds arrangement options = Holds arrangement options ⊎ HoldsByFile Holds arrangement options

@@ -1,0 +1,112 @@
+-- What each hint says of the words or of the lines.
+use Rattle.std.specs.Prelude.{ℕ, Bool, true, false, List, ◌∷◌, Option, Some, None, is_some, not, ◌==◌, ◌&&◌, ◌||◌, if◌then◌else◌}
+use Rattle.std.specs.Char.{is_ascii_digit}
+use Rattle.std.specs.Option.{option_map_or}
+use Rattle.std.specs.declared.cmp.Ordering.{Ordering}
+use Rattle.std.specs.declared.cmp.Ordering.TheVariants.{Less, Equal, Greater}
+use Rattle.std.specs.Ordering.{is_lt, is_eq, is_gt}
+use Rattle.version_commands.specs.Place.{spelled, text_of}
+use Rattle.version_commands.specs.Test.{holds}
+use Rattle.version_commands.specs.declared.options.Arrangement.{Arrangement}
+use Rattle.version_commands.specs.declared.options.Arrangement.TheVariants as arrangement
+use Rattle.version_commands.specs.declared.options.ColumnNames.{ColumnNames}
+use Rattle.version_commands.specs.declared.options.LineOptions.{LineOptions}
+use Rattle.version_commands.specs.declared.options.Naming.{Naming}
+use Rattle.version_commands.specs.declared.options.Naming.TheVariants.{Bare, Tag, Prefix}
+use Rattle.version_commands.specs.declared.options.Operator.{Operator}
+use Rattle.version_commands.specs.declared.options.VersionPlace.{VersionPlace}
+use Rattle.version_lines.specs.declared.column.Separators.{Separators}
+use Rattle.version_lines.specs.declared.column.Separators.TheVariants.{Blanks, Bytes, Csv}
+use Rattle.version_rules.specs.grammar.Front.{◌>>=◌}
+use Rattle.version_schemes.specs.any.Order.{PlainAny, any_of, any_precedence}
+use Rattle.version_schemes.specs.declared.scheme.Scheme.{Scheme}
+
+-- whether a text is to be a version as a whole
+abbrev pub is_bare : Naming → Bool
+is_bare Bare = true
+is_bare other = false
+
+-- whether a text begins with a `v` and a digit
+abbrev pub begins_with_v : List ℕ → Bool
+begins_with_v (letter ∷ next ∷ rest) = (letter == 118 || letter == 86) && is_ascii_digit next
+begins_with_v other = false
+
+-- the version in a tag
+abbrev pub tagged : Scheme → List ℕ → Option PlainAny
+tagged scheme text = spelled (record { naming = Tag; scheme = scheme }) text
+
+-- whether a text is a version that is kept
+abbrev pub is_kept_by : (PlainAny → Bool) → Option PlainAny → Bool
+is_kept_by keeps found = option_map_or keeps found false
+
+-- whether two answers are different
+abbrev pub differ : Bool → Bool → Bool
+differ one other = if one then not other else other
+
+-- whether a text begins with a `v`, and the version in its tag is kept where the text isn't, or the other way round
+abbrev pub is_kept_otherwise : (PlainAny → Bool) → Scheme → List ℕ → Bool
+is_kept_otherwise keeps scheme text = begins_with_v text
+    && option_map_or (λ tag. differ (keeps tag) (is_kept_by keeps (any_of scheme text))) (tagged scheme text) false
+
+-- how two texts compare by the versions in their tags, if one of them begins with a `v` and both have one
+abbrev pub order_of_tags : Scheme → List ℕ → List ℕ → Option Ordering
+order_of_tags scheme first second = if begins_with_v first || begins_with_v second
+    then (do
+      v ← tagged scheme first
+      w ← tagged scheme second
+      Some (any_precedence v w))
+    else None
+
+-- whether lines of which the first has to stand before the second stand otherwise in this order
+abbrev pub is_out_of_turn : (reverse : Bool) → (unique : Bool) → Ordering → Bool
+is_out_of_turn reverse unique Less = reverse
+is_out_of_turn reverse unique Equal = unique
+is_out_of_turn reverse unique Greater = not reverse
+
+-- whether one of two lines begins with a `v`, and by the versions in their tags the second stands before the first, or
+-- ties with it where of those that tie the first is left alone
+abbrev pub stands_otherwise : (reverse : Bool) → (unique : Bool) → VersionPlace → List ℕ → List ℕ → Bool
+stands_otherwise reverse unique place before after = option_map_or (is_out_of_turn reverse unique)
+    (order_of_tags place.scheme (text_of place before) (text_of place after)) false
+
+-- whether one of two texts begins with a `v`, and by the versions in their tags the second is kept, and newer
+abbrev pub is_newer : (PlainAny → Bool) → Scheme → List ℕ → List ℕ → Bool
+is_newer keeps scheme newest text =
+    option_map_or is_lt (order_of_tags scheme newest text) false && is_kept_by keeps (tagged scheme text)
+
+-- whether two texts, one of which begins with a `v`, are versions and compare otherwise by those in their tags
+abbrev pub compare_otherwise : Scheme → List ℕ → List ℕ → Bool
+compare_otherwise scheme first second = is_another (order_of_tags scheme first second) (do
+  v ← any_of scheme first
+  w ← any_of scheme second
+  Some (any_precedence v w))
+  where
+    is_another : Option Ordering → Option Ordering → Bool
+    is_another (Some Less) (Some order) = not (is_lt order)
+    is_another (Some Equal) (Some order) = not (is_eq order)
+    is_another (Some Greater) (Some order) = not (is_gt order)
+    is_another tags whole = false
+
+-- whether one of two texts begins with a `v`, and the answer about the versions in their tags is another
+abbrev pub is_tested_otherwise : Scheme → List ℕ → Operator → List ℕ → Bool → Bool
+is_tested_otherwise scheme first operator second answer =
+    option_map_or (λ order. differ (holds operator order) answer) (order_of_tags scheme first second) false
+
+-- whether bytes between columns are named
+abbrev pub are_bytes : Separators → Bool
+are_bytes (Bytes bytes) = true
+are_bytes other = false
+
+-- whether lines are of groups by a column
+abbrev pub has_group : Arrangement → Bool
+has_group (arrangement.Newest count group) = is_some group
+has_group other = false
+
+-- whether a column is asked for by its name
+abbrev pub asks_by_name : ColumnNames → Bool
+asks_by_name names = is_some names.version || (is_some names.group || is_some names.scheme)
+
+-- whether bytes between columns are named, and no column is asked for
+abbrev pub takes_whole_lines : Arrangement → LineOptions → Bool
+takes_whole_lines arrangement options = are_bytes options.names.first.separators && not (is_some options.place.column
+    || (is_some options.scheme_column || (asks_by_name options.names || has_group arrangement)))
