@@ -1,5 +1,5 @@
 -- What the words of a run mean.
-use Rattle.std.specs.Prelude.{◌≡◌, ◌≢◌, ◌⊎◌, ⊤, ℕ, Bool, true, false, List, [], Option, None, Some, option_and_then, option_map, string_bytes}
+use Rattle.std.specs.Prelude.{◌≡◌, ◌≢◌, ◌⊎◌, ⊤, ℕ, Bool, true, false, List, [], Option, None, Some, option_and_then, option_map}
 use Rattle.clap.specs.Words.{fault_of, subcommand_of, IsAmong, Kinds, Row}
 use Rattle.clap.specs.declared.error.kind.ErrorKind.{ErrorKind}
 use Rattle.clap.specs.declared.error.kind.ErrorKind.TheVariants.{DisplayHelp, DisplayVersion, OutOfMemory}
@@ -12,12 +12,11 @@ use Rattle.version_words.specs.Named.{verb_named}
 use Rattle.version_words.specs.Task.{IsTaskOf, IsWrong}
 use Rattle.version_words.specs.declared.faults.Fault.{Fault}
 use Rattle.version_words.specs.declared.faults.Fault.TheVariants as fault
-use Rattle.version_words.specs.Wrong.{HasText}
 use Rattle.version_words.specs.declared.named.Verb.{Verb}
 
--- the words are no task, and something is said of them
+-- the words are no task
 abbrev pub IsUsage : WordsFault → Type 0
-IsUsage (Usage text) = HasText (string_bytes text)
+IsUsage (Usage text) = ⊤
 IsUsage other = ⊥
 
 -- there was no memory, or the words are no task since this is wrong with them
@@ -44,9 +43,9 @@ shows DisplayHelp = true
 shows DisplayVersion = true
 shows other = false
 
--- an error of this kind shows the text of the task, in which something stands
+-- an error of this kind shows the text of the task
 abbrev pub Shows : ErrorKind → Task → Type 0
-Shows kind (Say text) = (shows kind ≡ true) × HasText (string_bytes text)
+Shows kind (Say text) = shows kind ≡ true
 Shows kind other = ⊥
 
 -- an error of this kind is a mistake in the words
@@ -68,7 +67,7 @@ module _ (words : List (List ℕ)) where
 
   -- The words mean this task: that of their command and its rows, or to show help or the version.
   abbrev pub Means : Task → Type 0
-  Means (Say text) = HasAnswer true faults × HasText (string_bytes text)
+  Means (Say text) = HasAnswer true faults
   Means task = (faults ≡ []) × IsTaskIn command_of task
 
   -- they are none that the grammar has, or its command and rows mean no task

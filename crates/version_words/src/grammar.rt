@@ -12,8 +12,8 @@ use arguments::argument;
 use clap::Command;
 use std::alloc::{AllocError, Global};
 
-/// The version of the library, and of the program.
-pub const VERSION: &str = "0.1.0";
+// The version of the library, and of the program.
+const VERSION: &str = "0.1.0";
 
 // What help says of the program.
 const ABOUT: &str = "Sorts, filters and explains version numbers of mixed shapes";

@@ -1,8 +1,5 @@
 //! What was meant where one letter of a word is wrong, beside what `clap` finds itself.
 
-ghost use Rattle.std.specs.Prelude.{string_bytes, IfOk};
-ghost use Rattle.version_words.specs.Wrong.{HasText};
-
 use std::alloc::{AllocError, Global};
 use strsim::osa_distance;
 
@@ -14,9 +11,7 @@ pub fn with_tip(
     end: &str,
     what: &str,
     name: Option<&'static str>,
-) -> Result<String, AllocError>
-    ensures { IfOk result (λ made. HasText (string_bytes text.entry) → HasText (string_bytes made)) }
-{
+) -> Result<String, AllocError> {
     match (text.as_str().split_once(end), name) {
         (Some((before, after)), Some(name)) if !before.contains("  tip: ") => format!(in alloc;
             "{before}\n\n  tip: a similar {what} exists: '{name}'{end}{after}"
@@ -26,9 +21,7 @@ pub fn with_tip(
 }
 
 /// Takes from the text of a fault the tip to put an unknown option behind `--`, where it would be a file or a version.
-pub fn without_tip(alloc: Global, text: String) -> Result<String, AllocError>
-    ensures { IfOk result (λ made. HasText (string_bytes text.entry) → HasText (string_bytes made)) }
-{
+pub fn without_tip(alloc: Global, text: String) -> Result<String, AllocError> {
     match beside_tip(text.as_str()) {
         Some((before, after)) => format!(in alloc; "{before}\n\n{after}"),
         None => Ok(text),

@@ -4,7 +4,6 @@ ghost use Rattle.std.specs.Prelude.{◌≡◌, ◌⊎◌, None, Some, codes, fal
 ghost use Rattle.clap.specs.Words.{all_of, first_of, subcommand_rows_of};
 ghost use Rattle.version_words.specs.Rows.{column_at, column_of, csv_separator, end_of, has_no_column, has_option_of_lists, has_two_schemes, has_wrong_column, header_of, invalid_of, invalid_unasked, invalid_word, is_crlf, is_csv, is_given, is_named, is_set, key_of, lacks_header, lacks_set, level_of, line_end, name_of_column, number_of, rows_in, scheme_of, separators_asked, word_of, words_of, AreSeparators, HasNoSeparators};
 ghost use Rattle.version_words.specs.Words.{command_in, ComesOfWrong};
-ghost use Rattle.version_words.specs.Wrong.{Quotes};
 
 use crate::faults::WordsFault;
 use crate::named::{
@@ -299,7 +298,6 @@ pub fn level_of(alloc: Global, options: &ArgMatches<'_>) -> Result<Stability, Wo
 pub fn scheme_of(alloc: Global, options: &ArgMatches<'_>) -> Result<Scheme, WordsFault>
     ensures ok { IfOk result (λ scheme. scheme_of (rows_in options.now) ≡ Some scheme) }
     ensures faults { IfErr result (ComesOfWrong (scheme_of (rows_in options.now) ≡ None)) }
-    ensures quotes { IfErr result (Quotes (word_of (codes "scheme") (rows_in options.now))) }
 {
     let Some(word) = text_of(options, "scheme") else {
         return Ok(Scheme::Mixed);

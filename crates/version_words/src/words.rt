@@ -3,10 +3,9 @@
 ghost use Rattle.std.specs.Prelude.{map, string_bytes, IfErr, IfOk};
 ghost use Rattle.clap.specs.Words.{kind_of};
 ghost use Rattle.version_words.specs.Words.{ComesOfWords, ComesOfWrong, IsMistake, Means, Shows};
-ghost use Rattle.version_words.specs.Wrong.{HasText};
 
 use crate::faults::WordsFault;
-use crate::grammar::{VERSION, program};
+use crate::grammar::program;
 use crate::near::{similar, with_tip, without_tip};
 use crate::table::NAMES;
 use crate::task::task_of;
@@ -35,29 +34,15 @@ fn answer_to<'w>(alloc: Global, error: &Error, words: &[String]) -> Result<Task<
 {
     match error.kind() {
         ErrorKind::DisplayHelp | ErrorKind::DisplayVersion => {
-            Ok(Task::Say(text_shown(alloc, error)?))
+            Ok(Task::Say(format!(in alloc; "{error}")?))
         }
         ErrorKind::OutOfMemory => Err(WordsFault::Memory),
         kind => Err(WordsFault::Usage(what_is_wrong(alloc, kind, words)?)),
     }
 }
 
-// Returns the text of help or of the version: that of the error, and never an empty one.
-fn text_shown(alloc: Global, error: &Error) -> Result<String, AllocError>
-    ensures { IfOk result (λ text. HasText (string_bytes text)) }
-{
-    let text = format!(in alloc; "{error}")?;
-    if text.is_empty() {
-        format!(in alloc; "versions {VERSION}\n")
-    } else {
-        Ok(text)
-    }
-}
-
 // Returns what is wrong with words, and which were meant.
-fn what_is_wrong(alloc: Global, kind: ErrorKind, words: &[String]) -> Result<String, AllocError>
-    ensures { IfOk result (λ text. HasText (string_bytes text)) }
-{
+fn what_is_wrong(alloc: Global, kind: ErrorKind, words: &[String]) -> Result<String, AllocError> {
     let text = text_of(alloc, kind, words)?;
     match kind {
         ErrorKind::InvalidSubcommand => meant_command(alloc, text, words),
@@ -67,9 +52,7 @@ fn what_is_wrong(alloc: Global, kind: ErrorKind, words: &[String]) -> Result<Str
 }
 
 // Returns the text of an error of this kind. Since errors hold words whole, it is that of the words as they are quoted.
-fn text_of(alloc: Global, kind: ErrorKind, words: &[String]) -> Result<String, AllocError>
-    ensures { IfOk result (λ text. HasText (string_bytes text)) }
-{
+fn text_of(alloc: Global, kind: ErrorKind, words: &[String]) -> Result<String, AllocError> {
     let mut shown = Vec::with_capacity(alloc, words.len())?;
     for word in words {
         shown.push(quoted(alloc, word.as_bytes())?)?;
@@ -78,43 +61,33 @@ fn text_of(alloc: Global, kind: ErrorKind, words: &[String]) -> Result<String, A
 }
 
 // Returns the text of the error of these words, if it is of this kind.
-fn text_of_parse(alloc: Global, kind: ErrorKind, words: &[String]) -> Result<String, AllocError>
-    ensures { IfOk result (λ text. HasText (string_bytes text)) }
-{
+fn text_of_parse(alloc: Global, kind: ErrorKind, words: &[String]) -> Result<String, AllocError> {
     match program(alloc)?.try_get_matches_from(words) {
         Err(error) => text_of_error(alloc, kind, &error),
         Ok(_matches) => text_of_kind(alloc, kind),
     }
 }
 
-// Returns the text of an error, if it is of this kind and not empty.
-fn text_of_error(alloc: Global, kind: ErrorKind, error: &Error) -> Result<String, AllocError>
-    ensures { IfOk result (λ text. HasText (string_bytes text)) }
-{
+// Returns the text of an error, if it is of this kind.
+fn text_of_error(alloc: Global, kind: ErrorKind, error: &Error) -> Result<String, AllocError> {
     let found = error.kind();
     if found == ErrorKind::OutOfMemory {
-        return Err(AllocError);
-    }
-    let text = format!(in alloc; "{error}")?;
-    if found == kind && !text.is_empty() {
-        Ok(text)
+        Err(AllocError)
+    } else if found == kind {
+        format!(in alloc; "{error}")
     } else {
         text_of_kind(alloc, kind)
     }
 }
 
 // Returns a text that quotes nothing.
-fn text_of_kind(alloc: Global, kind: ErrorKind) -> Result<String, AllocError>
-    ensures { IfOk result (λ text. HasText (string_bytes text)) }
-{
+fn text_of_kind(alloc: Global, kind: ErrorKind) -> Result<String, AllocError> {
     let what = kind.as_str().unwrap_or("the words are no command");
     format!(in alloc; "error: {what}{MORE}")
 }
 
 // Adds to the text of a fault which command was meant.
-fn meant_command(alloc: Global, text: String, words: &[String]) -> Result<String, AllocError>
-    ensures { IfOk result (λ made. HasText (string_bytes text.entry) → HasText (string_bytes made)) }
-{
+fn meant_command(alloc: Global, text: String, words: &[String]) -> Result<String, AllocError> {
     let [word, ..] = words else {
         return Ok(text);
     };

@@ -1,13 +1,11 @@
 //! The faults of words that `clap` lets through.
 
-ghost use Rattle.std.proofs.Common.{Bor};
-ghost use Rattle.std.specs.Prelude.{◌≡◌, ⊤, string_bytes, ℕ, List, Option, IfOk, MatchResult};
+ghost use Rattle.std.specs.Prelude.{⊤};
 ghost use Rattle.version_words.specs.Words.{ComesOfWrong};
-ghost use Rattle.version_words.specs.Wrong.{value_text, Quotes};
 
 use crate::faults::WordsFault;
 use crate::named::Verb;
-use crate::near::similar;
+use crate::near::{similar, with_tip};
 use std::alloc::{AllocError, Global};
 use version_commands::quoted;
 
@@ -23,8 +21,7 @@ pub fn wrong(alloc: Global, what: &str) -> WordsFault
 
 /// Returns the fault of a word of `test` that is no operator.
 pub fn wrong_operator(alloc: Global, word: &str) -> WordsFault
-    ensures comes { ComesOfWrong ⊤ result }
-    ensures quotes { Quotes word.now result }
+    ensures { ComesOfWrong ⊤ result }
 {
     let argument = "'<OP>'\n  [possible values: <, <=, =, >=, >, lt, le, eq, ge, gt]";
     fault_of(text_of_value(alloc, word, argument, operator_meant(word)))
@@ -44,8 +41,7 @@ fn operator_meant(word: &str) -> Option<&'static str> {
 
 /// Returns the fault of a word of `next` that is no place.
 pub fn wrong_place(alloc: Global, word: &str) -> WordsFault
-    ensures comes { ComesOfWrong ⊤ result }
-    ensures quotes { Quotes word.now result }
+    ensures { ComesOfWrong ⊤ result }
 {
     let argument =
         "'<PLACE>'\n  [possible values: major, minor, patch, release, pre, a number from 0]";
@@ -59,8 +55,7 @@ pub fn wrong_place(alloc: Global, word: &str) -> WordsFault
 
 /// Returns the fault of a word that is no level of stability.
 pub fn wrong_stability(alloc: Global, word: &str) -> WordsFault
-    ensures comes { ComesOfWrong ⊤ result }
-    ensures quotes { Quotes word.now result }
+    ensures { ComesOfWrong ⊤ result }
 {
     let argument = "'--min-stability <LEVEL>'\n  [possible values: dev, alpha, beta, rc, stable]";
     wrong_name(
@@ -73,8 +68,7 @@ pub fn wrong_stability(alloc: Global, word: &str) -> WordsFault
 
 /// Returns the fault of a word that is no scheme.
 pub fn wrong_scheme(alloc: Global, word: &str) -> WordsFault
-    ensures comes { ComesOfWrong ⊤ result }
-    ensures quotes { Quotes word.now result }
+    ensures { ComesOfWrong ⊤ result }
 {
     let argument =
         "'--scheme <NAME>'\n  [possible values: mixed, deb (debian, ubuntu), rpm (redhat, fedora, suse), pypi (python, pip, pep440), semver (npm, cargo, crates.io), gem (rubygems, ruby)]";
@@ -108,8 +102,7 @@ pub fn wrong_scheme(alloc: Global, word: &str) -> WordsFault
 
 /// Returns the fault of a word that doesn't name what a command can do with lines without a version.
 pub fn wrong_invalid(alloc: Global, command: Verb, word: &str) -> WordsFault
-    ensures comes { ComesOfWrong ⊤ result }
-    ensures quotes { Quotes word.now result }
+    ensures { ComesOfWrong ⊤ result }
 {
     if matches!(command, Verb::Sort | Verb::Filter) {
         let argument = "'--invalid <WHAT>'\n  [possible values: fail, skip, first, last]";
@@ -122,8 +115,7 @@ pub fn wrong_invalid(alloc: Global, command: Verb, word: &str) -> WordsFault
 
 /// Returns the fault of a word that names no bytes between columns.
 pub fn wrong_separators(alloc: Global, word: &str) -> WordsFault
-    ensures comes { ComesOfWrong ⊤ result }
-    ensures quotes { Quotes word.now result }
+    ensures { ComesOfWrong ⊤ result }
 {
     let argument = match word {
         "" =>
@@ -135,8 +127,7 @@ pub fn wrong_separators(alloc: Global, word: &str) -> WordsFault
 
 /// Returns the fault of a word that names no byte between the fields of CSV.
 pub fn wrong_csv_separator(alloc: Global, word: &str) -> WordsFault
-    ensures comes { ComesOfWrong ⊤ result }
-    ensures quotes { Quotes word.now result }
+    ensures { ComesOfWrong ⊤ result }
 {
     let argument =
         "'--field-separator <SEP>': with --csv it is one byte, but no quote and no line's end";
@@ -145,17 +136,13 @@ pub fn wrong_csv_separator(alloc: Global, word: &str) -> WordsFault
 
 /// Returns the fault of a word of an option for a column that is the number of none.
 pub fn wrong_column(alloc: Global, word: &str, option: &str) -> WordsFault
-    ensures comes { ComesOfWrong ⊤ result }
-    ensures quotes { Quotes word.now result }
+    ensures { ComesOfWrong ⊤ result }
 {
     fault_of(text_of_column(alloc, word, option))
 }
 
 // Returns the text of that fault.
-fn text_of_column(alloc: Global, word: &str, option: &str) -> Result<String, AllocError>
-    ensures { IfOk result (λ text. (argument : List ℕ) × (meant : Option (Bor (List ℕ)))
-        × (string_bytes text ≡ value_text word.now argument meant)) }
-{
+fn text_of_column(alloc: Global, word: &str, option: &str) -> Result<String, AllocError> {
     let argument = format!(in alloc;
         "{option}: it is a number from 1 to 18446744073709551615, or a name"
     )?;
@@ -164,8 +151,7 @@ fn text_of_column(alloc: Global, word: &str, option: &str) -> Result<String, All
 
 // Returns the fault of a word that is none of these names.
 fn wrong_name(alloc: Global, word: &str, argument: &str, names: &[&'static str]) -> WordsFault
-    ensures comes { ComesOfWrong ⊤ result }
-    ensures quotes { Quotes word.now result }
+    ensures { ComesOfWrong ⊤ result }
 {
     fault_of(text_of_name(alloc, word, argument, names))
 }
@@ -176,10 +162,7 @@ fn text_of_name(
     word: &str,
     argument: &str,
     names: &[&'static str],
-) -> Result<String, AllocError>
-    ensures { IfOk result (λ text. (argument : List ℕ) × (meant : Option (Bor (List ℕ)))
-        × (string_bytes text ≡ value_text word.now argument meant)) }
-{
+) -> Result<String, AllocError> {
     let meant = similar(alloc, word, names)?;
     text_of_value(alloc, word, argument, meant)
 }
@@ -191,21 +174,15 @@ fn text_of_value(
     word: &str,
     argument: &str,
     meant: Option<&'static str>,
-) -> Result<String, AllocError>
-    ensures { IfOk result (λ text. string_bytes text ≡ value_text word.now argument.now meant) }
-{
+) -> Result<String, AllocError> {
     let word = quoted(alloc, word.as_bytes())?;
-    match meant {
-        Some(name) => format!(in alloc;
-            "error: invalid value '{word}' for {argument}\n\n  tip: a similar value exists: '{name}'{MORE}"
-        ),
-        None => format!(in alloc; "error: invalid value '{word}' for {argument}{MORE}"),
-    }
+    let text = format!(in alloc; "error: invalid value '{word}' for {argument}{MORE}")?;
+    with_tip(alloc, text, MORE, "value", meant)
 }
 
 // Returns the fault of wrong words by its text, if there is memory for that.
 fn fault_of(text: Result<String, AllocError>) -> WordsFault
-    ensures { MatchResult text.entry (λ text. result ≡ WordsFault.Usage text) (λ _. result ≡ WordsFault.Memory) }
+    ensures { ComesOfWrong ⊤ result }
 {
     match text {
         Ok(text) => WordsFault::Usage(text),

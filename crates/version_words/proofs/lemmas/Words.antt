@@ -58,7 +58,7 @@ module _ (words : List (List ℕ)) where
   -- an error that shows a text
   shown : (task : Task) (kind : ErrorKind) → (shows kind ≡ true → HasAnswer true (faults words))
       → Shows kind task → Means words task
-  shown (Say text) kind answers (is, has) = (answers is, has)
+  shown (Say text) kind answers is = answers is
   shown (Lines arrangement options) kind answers never = absurd never
   shown (Each question options) kind answers never = absurd never
   shown (TestTwo scheme first operator second) kind answers never = absurd never
