@@ -77,6 +77,11 @@ Status: 0 for an answer, even an empty one; 1 for a text that is no version or s
 test, implies and meets; 2 for wrong words; 3 if there is no memory, or a file can't be read or written.
 """
 SCHEMES = f"[possible values: {', '.join(['mixed', *SYSTEMS])}]"
+# What is said of a name that is none.
+NAMES_OF_SCHEMES = (
+    "[possible values: mixed, deb (debian, ubuntu), rpm (redhat, fedora, suse), pypi (python, pip, pep440), "
+    "semver (npm, cargo, crates.io), gem (rubygems, ruby)]"
+)
 HELP_OF_KEY = f"""\
 Write sort keys in hexadecimal, whose order as bytes is that of the versions
 
@@ -290,7 +295,7 @@ MISSPELT = (
     Run(
         "sort --scheme dbe",
         status=2,
-        fault=f"error: invalid value 'dbe' for '--scheme <NAME>'\n  {SCHEMES}{tip('value', 'deb')}{MORE}",
+        fault=f"error: invalid value 'dbe' for '--scheme <NAME>'\n  {NAMES_OF_SCHEMES}{tip('value', 'deb')}{MORE}",
     ),
     Run(
         "next mino 1.2",

@@ -27,6 +27,12 @@ SCHEME_NAMES = (
     b"mixed, deb (debian, ubuntu), rpm (redhat, fedora, suse), pypi (python, pip, pep440), "
     b"semver (npm, cargo, crates.io), gem (rubygems, ruby)"
 )
+# The scheme of each name, in lower case.
+NAMED = {
+    name: scheme
+    for scheme, aliases in re.findall(r"(\w+)(?: \(([^)]*)\))?", SCHEME_NAMES.decode())
+    for name in (scheme, *filter(None, aliases.split(", ")))
+}
 TAGS = b"versions: a version begins with v: with --tags the answer is another\n"
 ORDINALS = "first second third fourth fifth sixth seventh eighth ninth tenth".split()
 
@@ -86,7 +92,7 @@ class Run:
             raise WRONG
         self.command = command = words.pop(0)
         self.options, rest = parsed(command, words)
-        self.scheme = self.options.get("scheme", "mixed")
+        self.scheme = NAMED[self.options.get("scheme", "mixed").lower()]
         return getattr(self, command)(*rest)
 
     # Lines.
@@ -177,10 +183,10 @@ class Run:
         for row in rows:
             name = self.scheme
             if "scheme-column" in self.options:
-                name = readable(self.column(row[of_line], number(self.options["scheme-column"])))
+                name = scheme_named(self.column(row[of_line], number(self.options["scheme-column"])))
             groups.setdefault(name, []).append(row)
         for name, group in groups.items():
-            if name in versions.SCHEMES:
+            if name is not None:
                 self.scheme = name
                 yield group
 
@@ -252,11 +258,11 @@ class Run:
         """The lines without a version behind a header, unless they are a fault."""
         bad = [place for place, text in enumerate(texts) if text is None]
         if bad and asked == "fail":
-            line, scheme = lines[bad[0]], self.options.get("scheme", "mixed")
+            line, scheme = lines[bad[0]], self.scheme
             if "scheme-column" in self.options:
-                scheme = readable(self.column(line, number(self.options["scheme-column"])))
+                scheme = scheme_named(self.column(line, number(self.options["scheme-column"])))
             text, below = self.column(line, self.key_column(key)), b""
-            if scheme not in versions.SCHEMES:
+            if scheme is None:
                 said = shown(line) + b": no scheme is named, of " + SCHEME_NAMES
             elif text is None:
                 said = shown(line) + b": no such column"
@@ -634,7 +640,7 @@ def are_right(command, options):
         and options.get("min-stability", "dev") in STABILITIES
         and options.get("invalid", "fail") in invalid
         and not ("invalid-to" in options and options.get("invalid", "skip") != "skip")
-        and options.get("scheme", "mixed") in versions.SCHEMES
+        and options.get("scheme", "mixed").lower() in NAMED
         and not ("tags" in options and "prefix" in options)
         and not ("explain" in options and "scheme" in options)
         and not ("scheme-column" in options and ("scheme" in options or "match" in options))
@@ -677,6 +683,12 @@ def csv_fields(record, separator, end):
         at += len(field) + 2 * is_quoted + 1
         fields.append(field.translate(back).encode("latin-1"))
     return fields
+
+
+def scheme_named(column):
+    """The scheme that a column names, or None."""
+    text = readable(column)
+    return None if text is None else NAMED.get(text.lower())
 
 
 def begins_with_v(text):
