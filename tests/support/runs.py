@@ -23,6 +23,8 @@ class Run(NamedTuple):
     written: dict = {}
 
 
+# What is told of an answer that would be another with --tags.
+OTHERWISE = "versions: a version begins with v: with --tags the answer is another\n"
 FILES = {
     "table": "left,1.10\nright,1.9\nup,1.10rc1\n",
     "old": "left 1.2\nright 2.0\nup 1.0\n",
@@ -224,6 +226,7 @@ VERSIONS = (
         fault=f"error: invalid value '18446744073709551616' for '--group <COLUMN>': {NO_COLUMN}{MORE}",
     ),
     Run("filter >=1.0,", "1.0\n", status=1, fault=f"versions: not a set: >=1.0,; at byte 7: {NO_MEMBER}\n"),
+    Run("why >=1.0 v1.5.0", "", "v1.5.0 is left out by >=1.0\n", fault=OTHERWISE),
     Run("test 1 lt 'x y'", status=2, fault=none(1, BLANK, "x y")),
     Run("meets * 1.2", status=2, fault=f"versions: not a set: 1.2; at byte 1: {NO_OPERATOR}\n"),
     Run("next minor --word rc 1.2.3", status=2, fault=f"error: the argument '--word <W>' takes the place 'pre' alone{MORE}"),
@@ -269,6 +272,7 @@ VERSIONS_WITH_FILES = (
         files={"others": "what was there\n"},
         written={"others": "x y\n"},
     ),
+    Run("filter --min-stability stable list", "", "1.0\n", files={"list": "1.0\n1.1-beta\n"}),
     Run("sort missing", status=3, fault=f"versions: cannot be read: missing: {REFUSED[2]}\n"),
     Run("diff --lists old missing", status=3, fault=f"versions: cannot be read: missing: {REFUSED[2]}\n"),
     Run("sort --invalid-to full", "1.1\nx y\n1.0\n", status=3, fault=f"versions: cannot be written: full: {REFUSED[28]}\n"),
