@@ -428,11 +428,11 @@ class Systems(LongLists):
             rows = re.findall(r"^\| (\w+) \| (`.*`) \| `(\w+)` \| (`.*`) \|$", file.read(), re.M)
         self.assertEqual({tool for tool, *_ in rows}, {*tools})
         for tool, theres, scheme, sets in rows:
-            theres, sets = (re.findall("`([^`]*)`", cell) for cell in (theres, sets))
+            theres, sets = (re.findall("`([^`]*)`", cell.replace("\\|", "|")) for cell in (theres, sets))
             self.assertEqual(len(theres), len(sets))
             for there, text in zip(theres, sets):
                 system = systems[scheme]
-                near = [*re.findall(r"[0-9][^,<]*", text) * 3, *self.NEAR.split()]
+                near = [*re.findall(r"[0-9][^,<| ]*", text) * 3, *self.NEAR.split()]
                 texts = [*near, *(system.neighbour(chosen, chosen.choice(near)) for _ in range(6000))]
                 texts += self.drawn(chosen, system, 500)
                 texts = [each for each, reads in zip(texts, system.reads(texts)) if reads]
