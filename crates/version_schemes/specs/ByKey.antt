@@ -10,7 +10,7 @@ KeysAreWithin key_of most = (text key : List ℕ) (n : ℕ) → key_of text ≡ 
 
 -- a version by its key alone: no ends of ranges are made of its parts
 abbrev pub by_key : List ℕ → PlainKeyed
-by_key key = record { key = key; begun = λ kept. []; is_bare = false; slip = None }
+by_key key = record { key = key; begun = λ kept. []; is_bare = false }
 
 -- which comparisons sets have, by whether they have `<<` and `>>`
 abbrev pub words_by : Bool → Words

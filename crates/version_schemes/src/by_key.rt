@@ -7,7 +7,7 @@ ghost use Rattle.version_texts.specs.key.Sinks.{saturated};
 use crate::version::SchemeVersion;
 use std::cmp::Ordering;
 use version_rules::End;
-use version_texts::{Beside, Keyed, Sink, Slip, Words};
+use version_texts::{Beside, Keyed, Sink, Words};
 
 /// A version of a scheme as sets take it: by its key alone, since it has no parts.
 #[derive(Clone, Copy)]
@@ -58,10 +58,6 @@ impl<'t, V: SchemeVersion<'t>> Keyed<'t> for ByKey<V> {
 
     fn is_bare(&self) -> bool {
         false
-    }
-
-    fn slip(&self) -> Option<Slip> {
-        None
     }
 
     fn put_end<S: Sink>(&self, end: End, sink: &mut S) {

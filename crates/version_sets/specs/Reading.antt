@@ -3,7 +3,7 @@ use Rattle.std.specs.Prelude.{◌+◌, ◌*◌, ◌&&◌, ℕ, suc, Bool, not, L
 use Rattle.std.specs.List.{list_all, list_any}
 use Rattle.std.specs.declared.result.Result.{Result}
 use Rattle.std.specs.declared.result.Result.TheVariants.{Err, Ok}
-use Rattle.version_texts.specs.declared.versioning_ref.slip.Slip.{Slip as Slips}
+use Rattle.version_sets.specs.declared.read.slip.Slip.{Slip as Slips}
 use Rattle.version_texts.specs.declared.keyed.Words.{Words}
 use Rattle.version_texts.specs.keyed.Keyed.{PlainKeyed}
 use Rattle.version_sets.specs.Comparison.{asks_bare, asks_doubled, asks_parts, before_star, ends_with, has_doubled, has_parts, starred}

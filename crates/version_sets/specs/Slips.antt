@@ -4,10 +4,14 @@ use Rattle.std.specs.Char.{is_ascii_alphanumeric, is_ascii_digit}
 use Rattle.std.specs.List.{list_any}
 use Rattle.std.specs.Ordering.{is_eq}
 use Rattle.version_rules.specs.order.Lists.{bytes_cmp}
-use Rattle.version_texts.specs.declared.versioning_ref.slip.Slip.{Slip}
-use Rattle.version_texts.specs.declared.versioning_ref.slip.Slip.TheVariants.{LetterV, NoDigit, PartX}
+use Rattle.version_sets.specs.declared.read.slip.Slip.{Slip}
+use Rattle.version_sets.specs.declared.read.slip.Slip.TheVariants.{LetterV, NoDigit, PartX}
 use Rattle.version_texts.specs.keyed.Keyed.{PlainKeyed}
-use Rattle.version_texts.specs.keyed.Slip.{begins_with_v}
+
+-- whether a text begins with v or V and a digit
+abbrev pub begins_with_v : List ℕ → Bool
+begins_with_v (letter ∷ digit ∷ text) = (letter == 118 || letter == 86) && is_ascii_digit digit
+begins_with_v text = false
 
 -- what stands behind the digits with which a text begins, and behind an epoch, which is digits and a colon
 abbrev pub behind_digits : List ℕ → List ℕ

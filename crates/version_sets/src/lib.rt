@@ -23,5 +23,6 @@ pub use read::excluding::{Alternatives, NoRoom, Span};
 pub use read::fault::{Fault, Reason};
 pub use read::find::find_fault;
 pub use read::member::write_tied;
+pub use read::slip::Slip;
 pub use read::{Unread, read_set, set_room};
 pub use write::write_merge;

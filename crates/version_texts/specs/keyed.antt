@@ -1,3 +1,2 @@
 pub mod Keyed
 pub mod Mixed
-pub mod Slip

@@ -15,7 +15,6 @@ ghost use Rattle.version_texts.specs.keyed.Keyed.{end_of, AreWithin, BeginsKey, 
 use crate::key::length::room_for;
 use crate::key::sink::Sink;
 use crate::versioning_ref::VersioningRef;
-use crate::versioning_ref::slip::Slip;
 use std::cmp::Ordering;
 use version_rules::End;
 
@@ -63,10 +62,6 @@ pub trait Keyed<'t>: Copy {
     /// Returns whether it has an epoch and parts alone. Does not allocate.
     fn is_bare(&self) -> bool
         ensures { result ≡ (plain self.now).is_bare };
-
-    /// Returns which slip its text may be, or None. Does not allocate.
-    fn slip(&self) -> Option<Slip>
-        ensures { result ≡ (plain self.now).slip };
 
     /// Writes the bytes of an end of a range into a sink. Does not allocate.
     fn put_end<S: Sink>(&self, end: End, sink: &mut S)
@@ -132,10 +127,6 @@ impl<'t> Keyed<'t> for VersioningRef<'t> {
 
     fn is_bare(&self) -> bool {
         VersioningRef::is_bare(self)
-    }
-
-    fn slip(&self) -> Option<Slip> {
-        VersioningRef::slip(self)
     }
 
     #[inline(always)]

@@ -35,4 +35,3 @@ pub use scan::numeral::{is_digits, numeral_value, spells_numeral};
 pub use versioning_ref::VersioningRef;
 pub use versioning_ref::field::Field;
 pub use versioning_ref::numbers::{LARGEST_EPOCH, from_piece};
-pub use versioning_ref::slip::Slip;

@@ -11,7 +11,6 @@ ghost use Rattle.version_rules.specs.grammar.Versioning.{kind_rank, PlainVersion
 
 pub(crate) mod field;
 pub(crate) mod numbers;
-pub(crate) mod slip;
 
 use crate::key::length::{LONGEST_WITH_ROOM, length_with, room_for};
 use crate::key::sink::Sink;
@@ -25,7 +24,6 @@ use crate::requirement::{matching, range};
 use crate::scan::scan;
 use crate::scan::shape::{Shape, TailKind};
 use crate::versioning_ref::field::Field;
-use crate::versioning_ref::slip::{Slip, begins_with_v, has_digit, has_part_x};
 use crate::{key, order};
 use std::alloc::AllocError;
 use std::cmp::Ordering;
@@ -55,7 +53,7 @@ impl<'a> VersioningRef<'a> {
     ghost use Rattle.version_texts.specs.order.Difference.{difference_of};
     ghost use Rattle.version_texts.specs.versioning_ref.Field.{epoch_and_parts, field_span};
     ghost use Rattle.version_texts.specs.key.Sinks.{saturated, IsWritten};
-    ghost use Rattle.version_texts.specs.keyed.Slip.{is_bare, slip_of};
+    ghost use Rattle.version_texts.specs.keyed.Mixed.{is_bare};
     ghost use Rattle.version_texts.specs.versioning_ref.VersioningRef.{major_text, plain_versioning_ref};
 
     /// Parses the whole text as a strict version, else as a general, else as a messy one; returns None if it does not
@@ -192,23 +190,6 @@ impl<'a> VersioningRef<'a> {
             && is_none (field_span other (plain_versioning_ref self.now))) }
     {
         self.span(one).is_none() && self.span(other).is_none()
-    }
-
-    /// Returns which slip its text may be: a tag, a pattern or a word in the place of a version. None if it looks like a
-    /// version. Does not allocate.
-    pub fn slip(&self) -> Option<Slip>
-        ensures { result ≡ slip_of (plain_versioning_ref self.now) }
-    {
-        if begins_with_v(self.text) {
-            return Some(Slip::LetterV);
-        }
-        if has_part_x(key::body_at(self.text, self.shape)) {
-            return Some(Slip::PartX);
-        }
-        if has_digit(self.text) {
-            return None;
-        }
-        Some(Slip::NoDigit)
     }
 
     /// Compares two versions of any kind by their keys: the order of all versions (docs/ORDER.md). `Ord` breaks its

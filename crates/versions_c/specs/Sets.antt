@@ -8,7 +8,7 @@ use Rattle.version_sets.specs.Reader.{IsWrittenSet}
 use Rattle.version_sets.specs.Reading.{Reading, Right, Wrong, fault_of, set_has}
 use Rattle.version_sets.specs.declared.read.fault.Reason.{Reason}
 use Rattle.version_sets.specs.declared.read.fault.Reason.TheVariants.{NoMember, NoOperator, NoParts, NoVersion, NotBare, NotDoubled, NotVersion, OneBar, Slip, StarBehind}
-use Rattle.version_texts.specs.declared.versioning_ref.slip.Slip.TheVariants.{LetterV, NoDigit, PartX}
+use Rattle.version_sets.specs.declared.read.slip.Slip.TheVariants.{LetterV, NoDigit, PartX}
 use Rattle.version_texts.specs.key.Sinks.{saturated}
 use Rattle.version_texts.specs.keyed.Keyed.{PlainKeyed}
 use Rattle.versions_c.specs.Ranges.{one_if}

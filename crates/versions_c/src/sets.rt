@@ -17,7 +17,7 @@ use crate::schemes::write_text;
 use crate::status::{NO_ROOM, NO_SCHEME, NO_SET, NO_VERSION, NO_WRONG_MEMBER, OK};
 use version_schemes::{ByKey, Deb, Gem, Pypi, Rpm, Scheme, SemVer, VersioningRef, by_scheme};
 use version_sets::{Fault, Reason, find_fault, read_set, set_room, write_tied};
-use version_texts::{Keyed, Slip};
+use version_texts::Keyed;
 
 /// A member has to come.
 pub const NO_MEMBER: u32 = 1;

@@ -8,7 +8,7 @@ use Rattle.version_rules.proofs.lemmas.Front.Repeated.{cases_Option}
 use Rattle.version_rules.specs.declared.ends.End.{End}
 use Rattle.version_rules.specs.grammar.Front.{after_mark}
 use Rattle.version_rules.specs.requirement.Op.{after_word}
-use Rattle.version_texts.specs.declared.versioning_ref.slip.Slip.{Slip as Slips}
+use Rattle.version_sets.specs.declared.read.slip.Slip.{Slip as Slips}
 use Rattle.version_texts.specs.declared.keyed.Words.{Words}
 use Rattle.version_texts.specs.declared.keyed.Words.TheVariants.{Doubled, Parts, Plain}
 use Rattle.version_texts.specs.keyed.Keyed.{AreWithin, PlainKeyed, end_of}

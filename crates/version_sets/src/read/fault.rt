@@ -3,7 +3,7 @@
 ghost use Rattle.std.specs.Prelude.{◌≡◌};
 ghost use Rattle.version_sets.specs.Reason.{reason_text};
 
-use version_texts::Slip;
+use crate::read::slip::Slip;
 
 /// Why a text is no set.
 #[derive(Clone, Copy, Debug, PartialEq, Eq)]

@@ -3,10 +3,20 @@
 ghost use Rattle.std.specs.Prelude.{◌≡◌, ◌&&◌, drop, not, true};
 ghost use Rattle.std.specs.Char.{is_ascii_digit};
 ghost use Rattle.std.specs.List.{list_any};
-ghost use Rattle.version_sets.specs.Slips.{behind_digits, behind_epoch, has_part_x, is_x, part_ends, slip_of, ties};
-ghost use Rattle.version_texts.specs.keyed.Slip.{begins_with_v};
+ghost use Rattle.version_sets.specs.Slips.{begins_with_v, behind_digits, behind_epoch, has_part_x, is_x, part_ends, slip_of, ties};
 
-use version_texts::{Keyed, Slip};
+use version_texts::Keyed;
+
+/// What a version may have been meant as.
+#[derive(Clone, Copy, Debug, PartialEq, Eq)]
+pub enum Slip {
+    /// A tag: the version begins with `v` or `V` and a digit.
+    LetterV,
+    /// A pattern: one of its parts is `x` or `X`.
+    PartX,
+    /// A word: it has no digit.
+    NoDigit,
+}
 
 // Returns what the text of a version may have been meant as: a tag, unless the version is the same without its `v`, a
 // pattern or a word. None if it looks like a version.

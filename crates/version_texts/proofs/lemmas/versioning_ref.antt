@@ -1,5 +1,5 @@
+pub mod Bare
 pub mod EpochAndParts
 pub mod Field
 pub mod Numbers
-pub mod Slip
 pub mod VersioningRef

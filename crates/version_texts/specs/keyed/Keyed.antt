@@ -3,16 +3,13 @@ use Rattle.std.specs.Prelude.{◌≡◌, ◌+◌, ◌<◌, ◌≤◌, ℕ, Bool,
 use Rattle.version_rules.specs.declared.ends.End.{End}
 use Rattle.version_rules.specs.declared.ends.Kept.{Kept}
 use Rattle.version_rules.specs.requirement.Range.{after}
-use Rattle.version_texts.specs.declared.versioning_ref.slip.Slip.{Slip}
 use Rattle.version_rules.specs.declared.ends.End.TheVariants as end
 
--- a version by its key, the bytes of its epoch and of the parts that are kept, whether it has these
--- alone, and what it may have been meant as
+-- a version by its key, the bytes of its epoch and of the parts that are kept, and whether it has these alone
 pub record PlainKeyed : Type 0 where
   pub key : List ℕ
   pub begun : Kept → List ℕ
   pub is_bare : Bool
-  pub slip : Option Slip
 
 -- the bytes of an end of a range
 abbrev pub end_of : End → PlainKeyed → List ℕ

@@ -1,16 +1,17 @@
 -- Versions as this project orders them, and the laws of their keys.
-use Rattle.std.proofs.Common.{◌≡◌, ◌∙◌, ◌/◌, ◌%◌, ◌<◌, ◌≤◌, ℕ, Bool, true, false, List, [], ◌∷◌, ◌++◌, Some, append-nil, append_assoc, ap, arith, if◌then◌else◌, length, length-append, map, refl, replicate, sym}
+use Rattle.std.proofs.Common.{◌≡◌, ◌∙◌, ◌&&◌, ◌/◌, ◌%◌, ◌<◌, ◌≤◌, ℕ, Bool, true, false, List, [], ◌∷◌, ◌++◌, Some, append-nil, append_assoc, ap, arith, if◌then◌else◌, length, length-append, map, refl, replicate, sym}
 use Rattle.std.proofs.lemmas.Grind.{flat_map-append}
 use Rattle.std.proofs.lemmas.List.{map-append}
 use Rattle.std.specs.Char.{digit_char}
 use Rattle.std.specs.Int.Digits.{digits_of}
 use Rattle.std.specs.List.{flat_map}
+use Rattle.std.specs.Option.{is_none}
 use Rattle.std.specs.Ordering.{on}
 use Rattle.version_rules.proofs.lemmas.Codes.{ended, writes_on}
 use Rattle.version_rules.proofs.lemmas.KeyLaws.{key_writes}
 use Rattle.version_rules.specs.declared.ends.Kept.{Kept}
 use Rattle.version_rules.specs.declared.ends.Kept.TheVariants.{All, ButLast, ButLastOrOnly, ThroughOther}
-use Rattle.version_rules.specs.grammar.Versioning.{PlainVersioning}
+use Rattle.version_rules.specs.grammar.Versioning.{PlainVersioning, Ideal, General, Complex}
 use Rattle.version_rules.specs.key.Codes.{Writes, items_bytes}
 use Rattle.version_rules.specs.key.Key.{key_of, precedence}
 use Rattle.version_rules.specs.key.KeyBytes.{key_bytes}
@@ -21,7 +22,13 @@ use Rattle.version_rules.specs.requirement.Ends.{kept_parts}
 use Rattle.version_rules.specs.requirement.Range.{begun, but_last, or_others, through_other}
 use Rattle.version_rules.specs.requirement.VersionMatch.{is_plain_zero}
 use Rattle.version_texts.specs.keyed.Keyed.{BeginsKey, PlainKeyed}
-use Rattle.version_texts.specs.keyed.Slip.{is_bare, slip_of}
+
+-- whether a version has an epoch and parts alone: no pre-release, release or metadata, and no
+-- sections
+abbrev pub is_bare : PlainVersioning → Bool
+is_bare (Ideal v) = is_none v.pre_rel && is_none v.meta
+is_bare (General v) = is_none v.release && is_none v.meta
+is_bare (Complex m) = false
 
 -- a version by its key
 abbrev pub mixed : PlainVersioning → PlainKeyed
@@ -29,7 +36,6 @@ mixed v = record {
   key = key_bytes (key_of v);
   begun = λ kept. begun (key_of v).epoch (kept_parts kept (key_of v).body);
   is_bare = is_bare v;
-  slip = slip_of v;
 }
 
 -- keys compare as the order does, whatever bytes follow them

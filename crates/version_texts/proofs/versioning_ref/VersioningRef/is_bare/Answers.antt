@@ -1,5 +1,5 @@
 use Rattle.std.proofs.Common.{◌∙◌, sym}
-use Rattle.version_texts.proofs.lemmas.versioning_ref.Slip.{bare_general, bare_strict, messy_not_bare}
+use Rattle.version_texts.proofs.lemmas.versioning_ref.Bare.{bare_general, bare_strict, messy_not_bare}
 use Rattle.version_texts.proofs.lemmas.versioning_ref.VersioningRef.{kind-is}
 use Rattle.version_texts.proofs.versioning_ref.VersioningRef.is_bare.Goals as goal
 
