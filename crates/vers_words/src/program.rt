@@ -31,8 +31,8 @@ pub fn run<'w, R: Source, W: Write>(
     reader: &mut R,
     writer: &mut W,
 ) -> Result<bool, Fault<'w>>
-    ensures { RunsBy ⟦<NoFiles as Files>⟧.reads ⟦<NoFiles as Files>⟧.puts ⟦<NoFiles as Files>⟧.refuses
-        ⟦<NoFiles as Files>⟧.alters R.remaining R.may_fail no_files no_files reader.old reader.new
+    ensures { RunsBy ⟦<NoFiles as Files>⟧.reads ⟦<NoFiles as Files>⟧.finds ⟦<NoFiles as Files>⟧.puts
+        ⟦<NoFiles as Files>⟧.refuses ⟦<NoFiles as Files>⟧.alters R.remaining R.may_fail no_files no_files reader.old reader.new
         (W.contents writer.old) (W.contents writer.new) (Means (map string_bytes words.now))
         (IsOfWords (map string_bytes words.now)) Task result }
 {

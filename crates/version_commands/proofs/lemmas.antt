@@ -6,6 +6,7 @@ pub mod Explain
 pub mod Fault
 pub mod Fields
 pub mod Header
+pub mod Hints
 pub mod Inputs
 pub mod Lists
 pub mod Ordered

@@ -7,7 +7,7 @@ use Rattle.version_commands.specs.Arranged.{policy}
 use Rattle.version_commands.specs.Choice.{wrong_set}
 use Rattle.version_commands.specs.Each.{has_version, place_of, spelling_of, AreTexts, IsFirstWithoutNext}
 use Rattle.version_commands.specs.Fault.{first_wrong, ComesOfLines, ComesOfMatching, ComesOfPut, ComesOfReading, ComesOfSets, ComesOfStandard, ComesOfTestOfSet, ComesOfTestOfSets, ComesOfTestOfTwo, ComesOfWords}
-use Rattle.version_commands.specs.FirstWord.{HoldsByWords}
+use Rattle.version_commands.specs.FirstWord.{Finding, HoldsByWords}
 use Rattle.version_commands.specs.Inputs.{counts_before_last, joined, line_in, names_read, AreInputs, IsLineIn, Reading}
 use Rattle.version_commands.specs.Lists.{bad_lines_of, lines_of_list, names_of}
 use Rattle.version_commands.specs.Ends.{Ends}
@@ -149,23 +149,24 @@ ComesOfChanges lists reads fails old (fault.BadLine bad) =
 ComesOfChanges lists reads fails old other = ComesOfReading lists.end reads fails old (names_of lists) other
 
 -- the faults of each task, but for a writer that takes no more
-abbrev pub ComesOf : Task → Reading → (List ℕ → Type 0) → Bool → Option (List ℕ) → Fault → Type 0
-ComesOf (task.Lines arrangement options) reads Refuses fails old fault =
-    HoldsByWords (λ asked with. ComesOfArranging asked with reads Refuses fails old fault) arrangement options
-ComesOf (task.Each question options) reads Refuses fails old fault = ComesOfAsking question options fails old fault
-ComesOf (task.TestTwo spelling a operator b) reads Refuses fails old fault =
+abbrev pub ComesOf : Task → Reading → Finding → (List ℕ → Type 0) → Bool → Option (List ℕ) → Fault → Type 0
+ComesOf (task.Lines arrangement options) reads finds Refuses fails old fault.Memory = ⊤
+ComesOf (task.Lines arrangement options) reads finds Refuses fails old fault =
+    HoldsByWords finds (λ asked with. ComesOfArranging asked with reads Refuses fails old fault) arrangement options
+ComesOf (task.Each question options) reads finds Refuses fails old fault = ComesOfAsking question options fails old fault
+ComesOf (task.TestTwo spelling a operator b) reads finds Refuses fails old fault =
     ComesOfTestOfTwo spelling (first_wrong (spelled spelling) (a.now ∷ b.now ∷ [])) fault
-ComesOf (task.TestSet spelling version set) reads Refuses fails old fault =
+ComesOf (task.TestSet spelling version set) reads finds Refuses fails old fault =
     ComesOfTestOfSet spelling version.now set.now fault
-ComesOf (task.Implies scheme one other) reads Refuses fails old fault = ComesOfTestOfSets scheme one.now other.now fault
-ComesOf (task.Meets scheme one other) reads Refuses fails old fault = ComesOfTestOfSets scheme one.now other.now fault
-ComesOf (task.Compare spelling a b) reads Refuses fails old fault =
+ComesOf (task.Implies scheme one other) reads finds Refuses fails old fault = ComesOfTestOfSets scheme one.now other.now fault
+ComesOf (task.Meets scheme one other) reads finds Refuses fails old fault = ComesOfTestOfSets scheme one.now other.now fault
+ComesOf (task.Compare spelling a b) reads finds Refuses fails old fault =
     ComesOfWords spelling (first_wrong (spelled spelling) (a.now ∷ b.now ∷ [])) fault
-ComesOf (task.Explain naming a b) reads Refuses fails old fault =
+ComesOf (task.Explain naming a b) reads finds Refuses fails old fault =
     ComesOfWords (mixed_spelling naming) (first_wrong (spelled_mixed naming) (a.now ∷ b.now ∷ [])) fault
-ComesOf (task.Difference naming a b) reads Refuses fails old fault =
+ComesOf (task.Difference naming a b) reads finds Refuses fails old fault =
     ComesOfWords (mixed_spelling naming) (first_wrong (spelled_mixed naming) (a.now ∷ b.now ∷ [])) fault
-ComesOf (task.Lists lists) reads Refuses fails old fault = ComesOfChanges lists reads fails old fault
-ComesOf (task.Match list) reads Refuses fails old fault = ComesOfMatching list.now fails fault
-ComesOf (task.Label labels) reads Refuses fails old fault = ComesOfStandard fails fault
-ComesOf (task.Say text) reads Refuses fails old fault = ⊥
+ComesOf (task.Lists lists) reads finds Refuses fails old fault = ComesOfChanges lists reads fails old fault
+ComesOf (task.Match list) reads finds Refuses fails old fault = ComesOfMatching list.now fails fault
+ComesOf (task.Label labels) reads finds Refuses fails old fault = ComesOfStandard fails fault
+ComesOf (task.Say text) reads finds Refuses fails old fault = ⊥

@@ -1,9 +1,9 @@
 -- A first word of `filter` that is no set, and names a file.
 use Rattle.std.proofs.Common.{Bor}
-use Rattle.std.specs.Prelude.{◌≡◌, ◌⊎◌, ◌∷◌, ◌||◌, ℕ, Bool, false, true, List, Option, Some, None, is_some, map, if◌then◌else◌}
+use Rattle.std.specs.Prelude.{◌≡◌, ◌⊎◌, ◌∷◌, ◌||◌, ℕ, Bool, false, true, List, Option, Some, None, is_some, map, if◌then◌else◌, IfSome, IsSome}
 use Rattle.std.specs.Option.{option_map_or}
 use Rattle.version_commands.specs.Inputs.{is_standard}
-use Rattle.version_commands.specs.Sets.{IsWrongSet}
+use Rattle.version_commands.specs.Sets.{keys_of, IsWrongSet}
 use Rattle.version_commands.specs.declared.options.Arrangement.{Arrangement}
 use Rattle.version_commands.specs.declared.options.Arrangement.TheVariants.{Filter}
 use Rattle.version_commands.specs.declared.options.Choice.{Choice}
@@ -31,18 +31,33 @@ abbrev pub may_be_standard : Arrangement → Choice → Bool
 may_be_standard arrangement choice =
     option_map_or (λ word. is_standard word.now) (word_for_file arrangement choice) false
 
+-- what asking whether the file of a name is there may answer
+abbrev pub Finding : Type 1
+Finding = List ℕ → Bool → Type 0
+
+-- what a name stands for is there: standard input always is
+abbrev pub IsThere : Finding → List ℕ → Type 0
+IsThere finds name = (is_standard name ≡ true) ⊎ finds name true
+
+-- the first word stays one: it may not name a file, it is a set, or no file of its name is there
+abbrev pub StaysWord : Finding → Arrangement → LineOptions → Type 0
+StaysWord finds arrangement options = IfSome (word_for_file arrangement options.choice) (λ word.
+    IsSome (keys_of options.place.scheme word.now) ⊎ finds word.now false)
+
 -- this holds of the arrangement without a set, and of the options with a word that is none as the first file
-pub record HoldsByFile (Holds : Arrangement → LineOptions → Type 0) (arrangement : Arrangement)
+pub record HoldsByFile (finds : Finding) (Holds : Arrangement → LineOptions → Type 0) (arrangement : Arrangement)
     (options : LineOptions) : Type 0 where
   pub word : Bor (List ℕ)
   pub word_is : word_for_file arrangement options.choice ≡ Some word
   pub wrong : WrongSet
   pub no_set : IsWrongSet options.place.scheme word.now wrong
+  pub there : IsThere finds word.now
   pub made : LineOptions
   pub made_is : made ≡ record options { files = made.files }
   pub files_are : map (λ name. name.now) made.files.items ≡ word.now ∷ map (λ name. name.now) options.files.items
   pub holds : Holds (Filter None false) made
 
--- this holds of the words as they are, or with the first as a file
-abbrev pub HoldsByWords : (Arrangement → LineOptions → Type 0) → Arrangement → LineOptions → Type 0
-HoldsByWords Holds arrangement options = Holds arrangement options ⊎ HoldsByFile Holds arrangement options
+-- this holds of the words as they are, where the first stays one, or with it as a file
+abbrev pub HoldsByWords : Finding → (Arrangement → LineOptions → Type 0) → Arrangement → LineOptions → Type 0
+HoldsByWords finds Holds arrangement options =
+    (StaysWord finds arrangement options × Holds arrangement options) ⊎ HoldsByFile finds Holds arrangement options

@@ -1,11 +1,17 @@
--- What each hint says of the words or of the lines.
-use Rattle.std.specs.Prelude.{ℕ, Bool, true, false, List, ◌∷◌, Option, Some, None, is_some, not, ◌==◌, ◌&&◌, ◌||◌, if◌then◌else◌}
+-- What makes a hint so, of words and of lines.
+use Rattle.std.specs.Prelude.{◌≡◌, ◌==◌, ◌&&◌, ◌||◌, ◌-◌, ◌<◌, ℕ, Bool, true, false, List, [], ◌∷◌, get_or, length, Option, Some, None, is_some, not, if◌then◌else◌}
 use Rattle.std.specs.Char.{is_ascii_digit}
+use Rattle.std.specs.List.{list_any}
 use Rattle.std.specs.Option.{option_map_or}
+use Rattle.std.specs.Ordering.{is_lt, is_eq, is_gt}
+use Rattle.std.specs.Str.{bytes_eq}
 use Rattle.std.specs.declared.cmp.Ordering.{Ordering}
 use Rattle.std.specs.declared.cmp.Ordering.TheVariants.{Less, Equal, Greater}
-use Rattle.std.specs.Ordering.{is_lt, is_eq, is_gt}
-use Rattle.version_commands.specs.Place.{spelled, text_of}
+use Rattle.version_commands.specs.Bad.{ends_in_return, scheme_at}
+use Rattle.version_commands.specs.Next.{IsNextBy, NoNextBy}
+use Rattle.version_commands.specs.Ordered.{versions_by}
+use Rattle.version_commands.specs.Picked.{has}
+use Rattle.version_commands.specs.Place.{group_text, spelled, text_of}
 use Rattle.version_commands.specs.Test.{holds}
 use Rattle.version_commands.specs.declared.options.Arrangement.{Arrangement}
 use Rattle.version_commands.specs.declared.options.Arrangement.TheVariants as arrangement
@@ -14,12 +20,18 @@ use Rattle.version_commands.specs.declared.options.LineOptions.{LineOptions}
 use Rattle.version_commands.specs.declared.options.Naming.{Naming}
 use Rattle.version_commands.specs.declared.options.Naming.TheVariants.{Bare, Tag, Prefix}
 use Rattle.version_commands.specs.declared.options.Operator.{Operator}
+use Rattle.version_commands.specs.declared.options.Step.{Step}
 use Rattle.version_commands.specs.declared.options.VersionPlace.{VersionPlace}
+use Rattle.version_lines.specs.Lines.{lines_of}
+use Rattle.version_lines.specs.declared.lines.LineEnd.{LineEnd}
+use Rattle.version_lines.specs.declared.column.Column.{Column}
 use Rattle.version_lines.specs.declared.column.Separators.{Separators}
 use Rattle.version_lines.specs.declared.column.Separators.TheVariants.{Blanks, Bytes, Csv}
 use Rattle.version_rules.specs.grammar.Front.{◌>>=◌}
+use Rattle.version_rules.specs.grammar.Versioning.{PlainVersioning, versioning_of}
 use Rattle.version_schemes.specs.any.Order.{PlainAny, any_of, any_precedence}
 use Rattle.version_schemes.specs.declared.scheme.Scheme.{Scheme}
+use Rattle.version_tasks.specs.Tag.{version_in_tag}
 
 -- whether a text is to be a version as a whole
 abbrev pub is_bare : Naming → Bool
@@ -30,6 +42,11 @@ is_bare other = false
 abbrev pub begins_with_v : List ℕ → Bool
 begins_with_v (letter ∷ next ∷ rest) = (letter == 118 || letter == 86) && is_ascii_digit next
 begins_with_v other = false
+
+-- whether a text begins with a number, perhaps behind a `v`
+abbrev pub begins_with_number : List ℕ → Bool
+begins_with_number [] = false
+begins_with_number (byte ∷ rest) = is_ascii_digit byte || begins_with_v (byte ∷ rest)
 
 -- the version in a tag
 abbrev pub tagged : Scheme → List ℕ → Option PlainAny
@@ -69,6 +86,11 @@ abbrev pub stands_otherwise : (reverse : Bool) → (unique : Bool) → VersionPl
 stands_otherwise reverse unique place before after = option_map_or (is_out_of_turn reverse unique)
     (order_of_tags place.scheme (text_of place before) (text_of place after)) false
 
+-- two of these lines, which follow each other, stand otherwise by their tags
+abbrev pub StandOtherwise : (reverse : Bool) → (unique : Bool) → VersionPlace → List (List ℕ) → Type 0
+StandOtherwise reverse unique place lines = (next : ℕ) × (0 < next) × (next < length lines)
+    × (stands_otherwise reverse unique place (get_or lines (next - 1) []) (get_or lines next []) ≡ true)
+
 -- whether one of two texts begins with a `v`, and by the versions in their tags the second is kept, and newer
 abbrev pub is_newer : (PlainAny → Bool) → Scheme → List ℕ → List ℕ → Bool
 is_newer keeps scheme newest text =
@@ -92,6 +114,19 @@ abbrev pub is_tested_otherwise : Scheme → List ℕ → Operator → List ℕ �
 is_tested_otherwise scheme first operator second answer =
     option_map_or (λ order. differ (holds operator order) answer) (order_of_tags scheme first second) false
 
+-- a text begins with a `v`, and no version comes next to it and one does to the version in its tag
+pub record HasNextInTag (step : Step) (text : List ℕ) : Type 0 where
+  pub whole : PlainVersioning
+  pub tag : PlainVersioning
+  pub next : PlainVersioning
+  pub begins : begins_with_v text ≡ true
+  pub whole_is : versioning_of text ≡ Some whole
+  pub tag_is : version_in_tag text ≡ Some tag
+  pub none : NoNextBy step whole
+  pub some : IsNextBy step tag next
+
+-- ---- of the words
+
 -- whether bytes between columns are named
 abbrev pub are_bytes : Separators → Bool
 are_bytes (Bytes bytes) = true
@@ -110,3 +145,41 @@ asks_by_name names = is_some names.version || (is_some names.group || is_some na
 abbrev pub takes_whole_lines : Arrangement → LineOptions → Bool
 takes_whole_lines arrangement options = are_bytes options.names.first.separators && not (is_some options.place.column
     || (is_some options.scheme_column || (asks_by_name options.names || has_group arrangement)))
+
+-- ---- of the lines of an input
+
+module _ (end : LineEnd) (place : VersionPlace) (schemes : Option Column) (keeps : PlainAny → Bool) where
+  -- whether a line is kept as a whole and isn't by the version in its tag, or the other way round
+  abbrev pub line_kept_otherwise : List ℕ → Bool
+  line_kept_otherwise line = option_map_or (λ scheme. is_kept_otherwise keeps scheme (text_of place line))
+      (scheme_at place schemes line) false
+
+  -- whether there is such a line
+  abbrev pub keeps_otherwise : List ℕ → Bool
+  keeps_otherwise input = is_bare place.naming && list_any line_kept_otherwise (lines_of end input)
+
+  -- whether a line is of the newest one's group, and newer by their tags; or where none is newest, whether it is kept
+  -- by its tag
+  abbrev pub is_another_newest : Option Column → Option (List ℕ) → List ℕ → Bool
+  is_another_newest group None line = line_kept_otherwise line
+  is_another_newest group (Some newest) line =
+      bytes_eq (group_text place.crlf group newest) (group_text place.crlf group line)
+      && is_newer keeps place.scheme (text_of place newest) (text_of place line)
+
+  -- whether there is such a line
+  abbrev pub another_is_newest : Option Column → Option (List ℕ) → List ℕ → Bool
+  another_is_newest group newest input =
+      is_bare place.naming && list_any (is_another_newest group newest) (lines_of end input)
+
+  -- whether there are lines, and none is kept
+  abbrev pub keeps_none : List ℕ → Bool
+  keeps_none input =
+      not (length input == 0) && not (list_any (has keeps (versions_by place schemes)) (lines_of end input))
+
+-- whether the first line of an input ends in a carriage return that is taken for a part of it
+abbrev pub has_returns : LineEnd → VersionPlace → List ℕ → Bool
+has_returns end place input = by (lines_of end input)
+  where
+    by : List (List ℕ) → Bool
+    by [] = false
+    by (line ∷ lines) = not place.crlf && ends_in_return line

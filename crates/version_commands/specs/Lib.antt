@@ -14,6 +14,7 @@ pub mod Files
 pub mod FirstWord
 pub mod Header
 pub mod Hint
+pub mod Hints
 pub mod Inputs
 pub mod Json
 pub mod Key

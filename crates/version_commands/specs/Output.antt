@@ -5,7 +5,7 @@ use Rattle.version_commands.specs.Compare.{comparison_line}
 use Rattle.version_commands.specs.Difference.{difference_line}
 use Rattle.version_commands.specs.Each.{are_versions, IsAnswered, IsAsked}
 use Rattle.version_commands.specs.Explain.{explained_line}
-use Rattle.version_commands.specs.FirstWord.{may_be_standard, HoldsByWords}
+use Rattle.version_commands.specs.FirstWord.{may_be_standard, Finding, HoldsByWords}
 use Rattle.version_commands.specs.Inputs.{ended, is_open, names_read, reads_standard, AreInputs, Reading}
 use Rattle.version_commands.specs.Label.{AreLabelled}
 use Rattle.version_commands.specs.Lists.{bad_lines_of, difference_text, names_of, rows_of}
@@ -59,28 +59,28 @@ Answers other answer = answer ≡ true
 
 -- What a task that ends well writes, by what its files give and what standard input had before and
 -- after, and what it leaves of its files.
-abbrev pub IsOutput : Task → Reading → Option (List ℕ) → Option (List ℕ)
+abbrev pub IsOutput : Task → Reading → Finding → Option (List ℕ) → Option (List ℕ)
     → (Option (List ℕ × List ℕ) → Type 0) → List ℕ → Type 0
-IsOutput (task.Lines arrangement options) reads old new leaves output =
-    HoldsByWords (λ asked with. IsOrdered asked with reads old new leaves output) arrangement options
-IsOutput (task.Each question options) reads old new leaves output =
+IsOutput (task.Lines arrangement options) reads finds old new leaves output =
+    HoldsByWords finds (λ asked with. IsOrdered asked with reads old new leaves output) arrangement options
+IsOutput (task.Each question options) reads finds old new leaves output =
     IsAnswered question options old new output
-IsOutput (task.TestTwo spelling a operator b) reads old new leaves output = output ≡ []
-IsOutput (task.TestSet spelling version set) reads old new leaves output = output ≡ []
-IsOutput (task.Implies scheme one other) reads old new leaves output =
+IsOutput (task.TestTwo spelling a operator b) reads finds old new leaves output = output ≡ []
+IsOutput (task.TestSet spelling version set) reads finds old new leaves output = output ≡ []
+IsOutput (task.Implies scheme one other) reads finds old new leaves output =
     IsLineOfSets scheme IsPart one.now other.now output
-IsOutput (task.Meets scheme one other) reads old new leaves output =
+IsOutput (task.Meets scheme one other) reads finds old new leaves output =
     IsLineOfSets scheme Meet one.now other.now output
-IsOutput (task.Compare spelling a b) reads old new leaves output =
+IsOutput (task.Compare spelling a b) reads finds old new leaves output =
     IsLineOfTwo (spelled spelling) (comparison_line line_feed) a.now b.now output
-IsOutput (task.Explain naming a b) reads old new leaves output =
+IsOutput (task.Explain naming a b) reads finds old new leaves output =
     IsLineOfTwo (spelled_mixed naming) (explained_line line_feed) a.now b.now output
-IsOutput (task.Difference naming a b) reads old new leaves output =
+IsOutput (task.Difference naming a b) reads finds old new leaves output =
     IsLineOfTwo (spelled_mixed naming) (difference_line line_feed) a.now b.now output
-IsOutput (task.Lists lists) reads old new leaves output = AreChanges lists reads old new output
-IsOutput (task.Label labels) reads old new leaves output = AreLabelled labels old new output
-IsOutput (task.Match list) reads old new leaves output = AreMatched list.now old new output
-IsOutput (task.Say text) reads old new leaves output = output ≡ string_bytes text
+IsOutput (task.Lists lists) reads finds old new leaves output = AreChanges lists reads old new output
+IsOutput (task.Label labels) reads finds old new leaves output = AreLabelled labels old new output
+IsOutput (task.Match list) reads finds old new leaves output = AreMatched list.now old new output
+IsOutput (task.Say text) reads finds old new leaves output = output ≡ string_bytes text
 
 -- whether a task reads standard input: no other task changes the reader
 abbrev pub asks_reader : Task → Bool

@@ -5,6 +5,7 @@ use Rattle.version_commands.specs.Cause.{ComesOf}
 use Rattle.version_commands.specs.Early.{IfOfWord, UnlessLate}
 use Rattle.version_commands.specs.Ends.{Ends}
 use Rattle.version_commands.specs.Files.{AltersAtMost, Leaves}
+use Rattle.version_commands.specs.FirstWord.{Finding}
 use Rattle.version_commands.specs.Inputs.{Reading}
 use Rattle.version_commands.specs.Output.{asks_reader, file_of, Answers, IsOutput}
 use Rattle.version_commands.specs.declared.faults.Fault.{Fault}
@@ -15,7 +16,7 @@ abbrev pub EndsAs : {T E : Type 0} → (Fault → E) → Result T Fault → Resu
 EndsAs of_task served result =
     MatchResult served (λ value. result ≡ Ok value) (λ fault. result ≡ Err (of_task fault))
 
-module _ {F R : Type 0} (reads : F → Reading) (puts : F → F → List ℕ → List ℕ → Type 0)
+module _ {F R : Type 0} (reads : F → Reading) (finds : F → Finding) (puts : F → F → List ℕ → List ℕ → Type 0)
     (refuses : F → List ℕ → Type 0)
     (alters : F → F → List ℕ → Type 0) (remaining : R → Option (List ℕ)) (may_fail : R → Bool)
     (files left : F) (reader after : R) (old new : Option (List ℕ))
@@ -23,8 +24,8 @@ module _ {F R : Type 0} (reads : F → Reading) (puts : F → F → List ℕ →
     -- A task was done: it answered, wrote what the task asks for, and left the reader and the files as they
     -- were where the task doesn't ask for these, or a fault came before.
     pub record Does (task : Task) (result : Result Bool Fault) : Type 0 where
-      pub ends : Ends (IsOutput task (reads files) (remaining reader) (remaining after)
-          (Leaves puts files left)) (ComesOf task (reads files) (refuses files) (may_fail reader)
+      pub ends : Ends (IsOutput task (reads files) (finds files) (remaining reader) (remaining after)
+          (Leaves puts files left)) (ComesOf task (reads files) (finds files) (refuses files) (may_fail reader)
           (remaining reader)) old new result
       pub answers : IfOk result (Answers task)
       pub unread : asks_reader task ≡ false → after ≡ reader

@@ -7,6 +7,7 @@ ghost use Rattle.version_commands.specs.Choice.{is_kept};
 ghost use Rattle.version_commands.specs.Early.{IfOfWord, UnlessLate};
 ghost use Rattle.version_commands.specs.Ends.{Ends};
 ghost use Rattle.version_commands.specs.Files.{AltersAtMost, Leaves};
+ghost use Rattle.version_commands.specs.Hints.{first_of, IsOfBody, IsOfInput, IsOfLines, IsOfNewest, IsOfRun, MayTell};
 ghost use Rattle.version_commands.specs.Inputs.{names_read, reads_standard};
 ghost use Rattle.version_commands.specs.Ordered.{bad_file, body_of, head_of, arranged_in, kept_in, kept_line, ordered_by, versions_by, IsArrangedIn, IsOrdered};
 ghost use Rattle.version_commands.specs.Place.{group_text, reads_of};
@@ -43,6 +44,7 @@ pub fn serve_lines<'w, F: Files, R: Source, W: Write>(
     reader: &mut R,
     writer: &mut W,
 ) -> Result<(), Fault<'w>>
+    requires hints { MayTell (IsOfRun arrangement options.now (F.reads files.old) (R.remaining reader.old)) F.may_hint }
     ensures ends { Ends (IsOrdered arrangement.entry options.now (F.reads files.old)
         (R.remaining reader.old) (R.remaining reader.new) (Leaves F.puts files.old files.new))
         (ComesOfArranging arrangement.entry options.now (F.reads files.old) (F.refuses files.old)
@@ -94,6 +96,9 @@ fn write_asked<'w, F: Files, W: Write>(
     files: &mut F,
     writer: &mut W,
 ) -> Result<(), Fault<'w>>
+    requires hints { (whole : List ℕ) × (input.now.head.now ≡ head_of options.now whole)
+        × (input.now.body.now ≡ body_of options.now whole)
+        × MayTell (IsOfInput arrangement (is_kept chooser.now) options.now whole) F.may_hint }
     ensures ends { (whole : List ℕ) → input.now.head.now ≡ head_of options.now whole
         → input.now.body.now ≡ body_of options.now whole
         → Ends (IsArrangedIn arrangement.entry options.now (is_kept chooser.now) whole
@@ -124,6 +129,7 @@ fn write_told<'w, F: Files, W: Write>(
     files: &mut F,
     writer: &mut W,
 ) -> Result<(), Fault<'w>>
+    requires hints { MayTell (IsOfBody arrangement (is_kept chooser.now) options.now input.now.body.now) F.may_hint }
     ensures ends { EndsArranged (versions_by options.now.place options.now.scheme_column) options.now input.now
         (ordered_by options.now.scheme_column (is_kept chooser.now) arrangement.entry options.now input.now.body.now)
         (Leaves F.puts files.old files.new) (F.refuses files.old) (W.contents writer.old) (W.contents writer.new) result }
@@ -131,8 +137,8 @@ fn write_told<'w, F: Files, W: Write>(
     ensures kept { UnlessLate (files.new ≡ files.old) result }
 {
     let written = write_input(alloc, arrangement, options, chooser, input, files, writer);
-    if written.is_ok() && matches!(arrangement, Arrangement::Filter { .. }) {
-        tell_of_filter(options, chooser, input, files);
+    if let (Ok(()), Arrangement::Filter { .. }) = (&written, arrangement) {
+        tell_of_filter(options, chooser, input.body, files);
     }
     written
 }
@@ -147,6 +153,7 @@ fn write_input<'w, F: Files, W: Write>(
     files: &mut F,
     writer: &mut W,
 ) -> Result<(), Fault<'w>>
+    requires hints { MayTell (IsOfBody arrangement (is_kept chooser.now) options.now input.now.body.now) F.may_hint }
     ensures ends { EndsArranged (versions_by options.now.place options.now.scheme_column) options.now input.now
         (ordered_by options.now.scheme_column (is_kept chooser.now) arrangement.entry options.now input.now.body.now)
         (Leaves F.puts files.old files.new) (F.refuses files.old) (W.contents writer.old) (W.contents writer.new) result }
@@ -208,6 +215,8 @@ fn write_arranged<'w, F: Files, W: Write>(
     files: &mut F,
     writer: &mut W,
 ) -> Result<(), Fault<'w>>
+    requires hints { MayTell (IsOfLines options.now.end options.now.place options.now.scheme_column (is_kept chooser.now)
+        input.now.body.now arrangement (arranged_in (reads_of options.now.place) (is_kept chooser.now) arrangement options.now input.now.body.now)) F.may_hint }
     ensures ends { EndsArranged (version_in (reads_of options.now.place)) options.now input.now
         (arranged_in (reads_of options.now.place) (is_kept chooser.now) arrangement.entry options.now input.now.body.now)
         (Leaves F.puts files.old files.new) (F.refuses files.old) (W.contents writer.old) (W.contents writer.new) result }
@@ -262,7 +271,9 @@ fn write_keyed<'w, B: SortBy + Copy, C: Chooses, F: Files, W: Write>(
     files: &mut F,
     writer: &mut W,
 ) -> Result<(), Fault<'w>>
-    requires { is_reversed arrangement ≡ B.is_reversed by }
+    requires reversed { is_reversed arrangement ≡ B.is_reversed by }
+    requires hints { MayTell (IsOfLines options.now.end options.now.place options.now.scheme_column (C.keeps chooser.now)
+        input.now.body.now arrangement (arranged_in (B.reads by) (C.keeps chooser.now) arrangement options.now input.now.body.now)) F.may_hint }
     ensures ends { EndsArranged (version_in (B.reads by)) options.now input.now
         (arranged_in (B.reads by) (C.keeps chooser.now) arrangement.entry options.now input.now.body.now)
         (Leaves F.puts files.old files.new) (F.refuses files.old) (W.contents writer.old) (W.contents writer.new) result }
@@ -341,6 +352,10 @@ fn write_newest<'w, B: SortBy, C: Chooses, F: Files, W: Write>(
     files: &mut F,
     writer: &mut W,
 ) -> Result<(), Fault<'w>>
+    requires hints { MayTell (IsOfNewest options.now.end options.now.place options.now.scheme_column (C.keeps chooser.now)
+        input.now.body.now None (first_of
+        (newest_alone (B.reads by) (kept_in (version_in (B.reads by)) (C.keeps chooser.now) options.now input.now.body.now))))
+        F.may_hint }
     ensures ends { EndsArranged (version_in (B.reads by)) options.now input.now
         (newest_alone (B.reads by) (kept_in (version_in (B.reads by)) (C.keeps chooser.now) options.now input.now.body.now))
         (Leaves F.puts files.old files.new) (F.refuses files.old) (W.contents writer.old) (W.contents writer.new) result }

@@ -5,6 +5,7 @@ ghost use Rattle.version_commands.specs.Cause.{ComesOfAnswering, ComesOfAsking, 
 ghost use Rattle.version_commands.specs.declared.each.Answers.{Answers};
 ghost use Rattle.version_commands.specs.Early.{is_of_word, IfOfWord};
 ghost use Rattle.version_commands.specs.Each.{are_versions, others_among, place_of, scheme_of, spelling_of, version_asked, versions_among, AreAnswered, HasSet, HaveAnswered, IsAnswer, IsAnswered, IsAsked, IsHead};
+ghost use Rattle.version_commands.specs.Hints.{IsOfEach, MayTell};
 ghost use Rattle.version_commands.specs.Pieces.{Adds};
 ghost use Rattle.version_commands.specs.Place.{line_text};
 ghost use Rattle.version_lines.specs.Lines.{lines_of, plain_end};
@@ -48,6 +49,7 @@ pub fn answer_each<'w, F: Files, R: Source>(
     files: &F,
     reader: &mut R,
 ) -> Result<Answered<'w>, Fault<'w>>
+    requires hints { MayTell (IsOfEach question options.now) F.may_hint }
     ensures output { IfOk result (λ answered. IsAnswered question.entry options.now
         (R.remaining reader.old) (R.remaining reader.new) answered.output.items) }
     ensures others { IfOk result (λ answered. map (λ word. word.now) answered.others.items
@@ -119,6 +121,7 @@ fn answer_words<'w, F: Files>(
     requires set { HasSet question asked.set }
     requires words { words.now ≡ options.now.versions.items }
     requires some { 0 < length words.now }
+    requires hints { MayTell (IsOfEach question options.now) F.may_hint }
     ensures answers { IfOk result (λ answered. Adds (AreAnswered question.entry options.now.naming options.now.end
         (versions_among question.entry options.now.naming (map (λ word. word.now) words.now)))
         asked.head.items answered.output.items) }

@@ -1,6 +1,7 @@
 //! The files of a run, and what it tells while it works.
 
-ghost use Rattle.std.specs.Prelude.{◌≡◌, ℕ, List, Option, None, Some, ◌++◌, IfErr, OnOk};
+ghost use Rattle.std.specs.Prelude.{◌≡◌, ⊤, ℕ, Bool, List, Option, None, Some, ◌++◌, IfErr, OnOk};
+ghost use Rattle.version_commands.specs.declared.files.Hint.{Hint as Told};
 
 use crate::remark::Remark;
 use version_lines::Trouble;
@@ -41,6 +42,9 @@ pub trait Files {
     // Reading the file of this name may give these bytes, or none and fail.
     ghost reads: { Self → List ℕ → Option (List ℕ) → Type 0 };
 
+    // Asking whether the file of this name is there may give this answer.
+    ghost finds: { Self → List ℕ → Bool → Type 0 };
+
     // Between the two states the bytes were written to the file of this name, in place of what it held.
     ghost puts: { Self → Self → List ℕ → List ℕ → Type 0 };
 
@@ -49,6 +53,9 @@ pub trait Files {
 
     // Between the two states at most the file of this name changed.
     ghost alters: { Self → Self → List ℕ → Type 0 };
+
+    // The hints that may be told: those that are so, as who calls a task says of it.
+    ghost may_hint: { Told → Type 0 } = { λ _. ⊤ };
 
     /// Adds what the file holds to the input. After an error, part of it may have been added.
     fn read_onto(&self, name: &str, input: &mut Vec<u8>) -> Result<(), Trouble>
@@ -66,13 +73,15 @@ pub trait Files {
         ensures others { alters self.old self.new name.now };
 
     /// Returns whether the file of this name is there.
-    fn has(&self, name: &str) -> bool;
+    fn has(&self, name: &str) -> bool
+        ensures { finds self.now name.now result };
 
     /// Tells how far the run is. Only `--progress` asks for it.
     fn tell(&self, stage: Stage);
 
     /// Tells what may not have been meant.
-    fn hint(&self, hint: Hint<'_>);
+    fn hint(&self, hint: Hint<'_>)
+        requires { may_hint hint };
 }
 
 /// No files: none can be read or written.
@@ -80,9 +89,11 @@ pub trait Files {
 pub struct NoFiles;
 
 impl Files for NoFiles {
-    ghost use Rattle.std.specs.Prelude.{◌≡◌, ⊤, None};
+    ghost use Rattle.std.specs.Prelude.{◌≡◌, ⊤, false, None};
 
     ghost reads = { λ _ _ text. text ≡ None };
+
+    ghost finds = { λ _ _ there. there ≡ false };
 
     ghost puts = { λ _ _ _ _. ⊥ };
 

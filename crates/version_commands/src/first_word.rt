@@ -1,10 +1,11 @@
 //! A first word of `filter` that is no set, and names a file.
-ghost use Rattle.std.specs.Prelude.{◌≡◌, ◌∷◌, false, map, Some, IfOk, IfSome};
-ghost use Rattle.version_commands.specs.Cause.{ComesOfArranging};
+ghost use Rattle.std.specs.Prelude.{◌≡◌, ◌∷◌, false, map, Some, IfNone, IfOk, IfSome};
+ghost use Rattle.version_commands.specs.Cause.{ComesOf};
 ghost use Rattle.version_commands.specs.Early.{IfOfWord, UnlessLate};
 ghost use Rattle.version_commands.specs.Ends.{Ends};
 ghost use Rattle.version_commands.specs.Files.{AltersAtMost, Leaves};
-ghost use Rattle.version_commands.specs.FirstWord.{asks, may_be_standard, word_for_file, HoldsByWords};
+ghost use Rattle.version_commands.specs.FirstWord.{asks, may_be_standard, word_for_file, HoldsByWords, IsThere, StaysWord};
+ghost use Rattle.version_commands.specs.Hints.{IsOfRun, MayTell};
 ghost use Rattle.version_commands.specs.Inputs.{names_read, reads_standard};
 ghost use Rattle.version_commands.specs.Ordered.{bad_file, IsOrdered};
 ghost use Rattle.version_commands.specs.Sets.{IsWrongSet};
@@ -13,7 +14,7 @@ ghost use Rattle.version_commands.specs.declared.set.WrongSet.{WrongSet};
 use crate::arrange::serve_lines;
 use crate::faults::Fault;
 use crate::files::Files;
-use crate::options::{Arrangement, Choice, LineOptions};
+use crate::options::{Arrangement, Choice, LineOptions, Task};
 use crate::set::Set;
 use std::alloc::{AllocError, Global};
 use std::io::Write;
@@ -30,11 +31,13 @@ pub fn serve_by_words<'w, F: Files, R: Source, W: Write>(
     reader: &mut R,
     writer: &mut W,
 ) -> Result<(), Fault<'w>>
-    ensures ends { Ends (λ output. HoldsByWords (λ asked with. IsOrdered asked with (F.reads files.old)
+    requires hints { MayTell (λ hint. HoldsByWords (F.finds files.old) (λ asked with. IsOfRun asked with (F.reads files.old)
+        (R.remaining reader.old) hint) arrangement options.now) F.may_hint }
+    ensures ends { Ends (λ output. HoldsByWords (F.finds files.old) (λ asked with. IsOrdered asked with (F.reads files.old)
         (R.remaining reader.old) (R.remaining reader.new) (Leaves F.puts files.old files.new) output)
         arrangement.entry options.now)
-        (λ fault. HoldsByWords (λ asked with. ComesOfArranging asked with (F.reads files.old) (F.refuses files.old)
-        (R.may_fail reader.old) (R.remaining reader.old) fault) arrangement.entry options.now)
+        (ComesOf (Task.Lines arrangement.entry options.now) (F.reads files.old) (F.finds files.old) (F.refuses files.old)
+        (R.may_fail reader.old) (R.remaining reader.old))
         (W.contents writer.old) (W.contents writer.new) result }
     ensures unread { reads_standard (names_read (map (λ name. name.now) options.now.files.items)) ≡ false
         → may_be_standard arrangement.entry options.now.choice ≡ false → reader.new ≡ reader.old }
@@ -62,9 +65,10 @@ fn file_named<'w, F: Files>(
     options: &LineOptions<'w>,
     files: &F,
 ) -> Result<Option<&'w str>, AllocError>
-    ensures { IfOk result (λ found. IfSome found (λ word.
+    ensures file { IfOk result (λ found. IfSome found (λ word.
         (word_for_file arrangement.now options.now.choice ≡ Some word)
-        × (wrong : WrongSet) × IsWrongSet options.now.place.scheme word.now wrong)) }
+        × ((wrong : WrongSet) × IsWrongSet options.now.place.scheme word.now wrong) × IsThere (F.finds files.now) word.now)) }
+    ensures word { IfOk result (λ found. IfNone found (StaysWord (F.finds files.now) arrangement.now options.now)) }
 {
     let Some(word) = word_for_file(arrangement, &options.choice) else {
         return Ok(None);

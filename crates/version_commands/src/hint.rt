@@ -1,13 +1,25 @@
 //! What a run tells beside: it may not have done what was meant.
 
-ghost use Rattle.std.specs.Prelude.{◌≡◌};
+ghost use Rattle.std.proofs.Common.{Bor};
+ghost use Rattle.std.specs.Prelude.{◌≡◌, ◌<◌, ℕ, List, Option, None, Some, is_some, map, true, IfErr, IsTrue};
+ghost use Rattle.std.specs.List.{list_any};
 ghost use Rattle.std.specs.Option.{option_map};
-ghost use Rattle.version_commands.specs.Hint.{asks_by_name, begins_with_v, compare_otherwise, is_bare, is_kept_by, is_kept_otherwise, is_newer, is_tested_otherwise, order_of_tags, stands_otherwise, tagged, takes_whole_lines};
+ghost use Rattle.version_commands.specs.Choice.{is_kept, is_of};
+ghost use Rattle.version_commands.specs.Each.{HasSet};
+ghost use Rattle.version_commands.specs.Hint.{another_is_newest, asks_by_name, begins_with_number, begins_with_v, compare_otherwise, has_returns, is_another_newest, is_bare, is_kept_by, is_kept_otherwise, is_newer, is_tested_otherwise, keeps_none, keeps_otherwise, line_kept_otherwise, order_of_tags, stands_otherwise, tagged, takes_whole_lines, HasNextInTag, StandOtherwise};
+ghost use Rattle.version_commands.specs.Hints.{first_of, is_filter, IfTags, IsOfEach, IsOfFilter, IsOfLines, IsOfNewest, MayTell};
+ghost use Rattle.version_commands.specs.Ordered.{versions_by};
+ghost use Rattle.version_commands.specs.Picked.{has as has_kept};
+ghost use Rattle.version_commands.specs.Place.{spelled};
+ghost use Rattle.version_commands.specs.Remark.{IsRemark};
+ghost use Rattle.version_commands.specs.declared.remark.Remark.{Remark};
+ghost use Rattle.version_lines.specs.KeyedLines.{lines_in};
+ghost use Rattle.version_lines.specs.Lines.{lines_of};
 ghost use Rattle.version_schemes.specs.any.AnyVersion.{plain_any};
 ghost use Rattle.version_schemes.specs.any.Order.{any_of};
+ghost use Rattle.version_sets.specs.Ends.{has};
 
-use crate::arrange::Input;
-use crate::bad::ends_in_return;
+use crate::bad::{ends_in_return, scheme_at};
 use crate::choice::Chooser;
 use crate::faults::Fault;
 use crate::files::{Files, Hint};
@@ -32,33 +44,51 @@ use version_texts::VersioningRef;
 pub fn tell_of_filter<F: Files>(
     options: &LineOptions<'_>,
     chooser: &Chooser,
-    input: &Input<'_>,
+    input: &[u8],
     files: &F,
-) {
-    if keeps_otherwise(options, chooser, input.body) {
+)
+    requires hints { MayTell (IsOfFilter options.now.end options.now.place options.now.scheme_column (is_kept chooser.now) input.now) F.may_hint }
+{
+    if keeps_otherwise(options, chooser, input) {
         files.hint(Hint::Tags);
     }
-    if keeps_none(options, chooser, input.body) {
+    if keeps_none(options, chooser, input) {
         files.hint(Hint::NothingKept {
-            has_returns: has_returns(options, input.body),
+            has_returns: has_returns(options, input),
         });
     }
 }
 
 // Whether a line is kept as a whole and isn't by the version in its tag, or the other way round.
-fn keeps_otherwise<C: Chooses>(options: &LineOptions<'_>, chooser: &C, input: &[u8]) -> bool {
-    if !is_bare(options.place.naming) {
-        return false;
-    }
+fn keeps_otherwise<C: Chooses>(options: &LineOptions<'_>, chooser: &C, input: &[u8]) -> bool
+    ensures { result ≡ keeps_otherwise options.now.end options.now.place options.now.scheme_column (C.keeps chooser.now) input.now }
+{
+    is_bare(options.place.naming) && any_kept_otherwise(options, chooser, input)
+}
+
+// The same where texts are to be versions as a whole.
+fn any_kept_otherwise<C: Chooses>(options: &LineOptions<'_>, chooser: &C, input: &[u8]) -> bool
+    ensures { result ≡ list_any (line_kept_otherwise options.now.end options.now.place options.now.scheme_column (C.keeps chooser.now)) (lines_of options.now.end input.now) }
+{
     let mut rest = input;
     while !rest.is_empty() {
         let (line, after) = split_line(options.end, rest);
-        if is_kept_otherwise(chooser, options.place.scheme, options.place.text(line)) {
+        if line_kept_otherwise(options, chooser, line) {
             return true;
         }
         rest = after;
     }
     false
+}
+
+// Whether a line is kept otherwise by the version in its tag.
+fn line_kept_otherwise<C: Chooses>(options: &LineOptions<'_>, chooser: &C, line: &[u8]) -> bool
+    ensures { result ≡ line_kept_otherwise options.now.end options.now.place options.now.scheme_column (C.keeps chooser.now) line.now }
+{
+    match scheme_at(&options.place, options.scheme_column, line) {
+        Some(scheme) => is_kept_otherwise(chooser, scheme, options.place.text(line)),
+        None => false,
+    }
 }
 
 // Whether a text begins with a `v`, and the version in its tag is kept where the text isn't, or the other way round.
@@ -92,7 +122,10 @@ pub fn tell_of_arranged<B: SortBy, C: Chooses, F: Files>(
     lines: &KeyedLines<'_, B>,
     input: &[u8],
     files: &F,
-) {
+)
+    requires hints { MayTell (IsOfLines options.now.end options.now.place options.now.scheme_column (C.keeps chooser.now) input.now
+        arrangement (lines_in lines.now)) F.may_hint }
+{
     match arrangement {
         Arrangement::Newest { group, .. } => {
             tell_of_newest(group, options, chooser, first_line(lines), input, files);
@@ -110,7 +143,9 @@ pub fn tell_of_arranged<B: SortBy, C: Chooses, F: Files>(
 }
 
 // Returns the first of some lines, if there are any.
-fn first_line<'a, B: SortBy>(lines: &KeyedLines<'a, B>) -> Option<&'a [u8]> {
+fn first_line<'a, B: SortBy>(lines: &KeyedLines<'a, B>) -> Option<&'a [u8]>
+    ensures { option_map (λ line. line.now) result ≡ first_of (lines_in lines.now) }
+{
     if lines.count() > 0 {
         Some(lines.line(0))
     } else {
@@ -124,7 +159,9 @@ fn stand_otherwise<B: SortBy>(
     unique: bool,
     place: &VersionPlace<'_>,
     lines: &KeyedLines<'_, B>,
-) -> bool {
+) -> bool
+    ensures { IsTrue result → StandOtherwise reverse unique place.now (lines_in lines.now) }
+{
     for next in 1..lines.count() {
         let (before, after) = (lines.line(next - 1), lines.line(next));
         if stands_otherwise(reverse, unique, place, before, after) {
@@ -172,7 +209,10 @@ pub fn tell_of_newest<C: Chooses, F: Files>(
     newest: Option<&[u8]>,
     input: &[u8],
     files: &F,
-) {
+)
+    requires hints { MayTell (IsOfNewest options.now.end options.now.place options.now.scheme_column (C.keeps chooser.now) input.now
+        group (option_map (λ line. line.now) newest)) F.may_hint }
+{
     if is_bare(options.place.naming) && another_is_newest(group, options, chooser, newest, input) {
         files.hint(Hint::Tags);
     }
@@ -186,28 +226,42 @@ fn another_is_newest<C: Chooses>(
     chooser: &C,
     newest: Option<&[u8]>,
     input: &[u8],
-) -> bool {
-    let place = &options.place;
-    let groups = ByColumn {
-        crlf: place.crlf,
-        column: group,
-    };
+) -> bool
+    ensures { result ≡ list_any (is_another_newest options.now.end options.now.place options.now.scheme_column (C.keeps chooser.now)
+        group.entry (option_map (λ line. line.now) newest.entry)) (lines_of options.now.end input.now) }
+{
     let mut rest = input;
     while !rest.is_empty() {
         let (line, after) = split_line(options.end, rest);
-        let found = match newest {
-            Some(newest) if groups.group(newest) == groups.group(line) => {
-                is_newer(chooser, place.scheme, place.text(newest), place.text(line))
-            }
-            Some(_) => false,
-            None => is_kept_otherwise(chooser, place.scheme, place.text(line)),
-        };
-        if found {
+        if is_another_newest(group, options, chooser, newest, line) {
             return true;
         }
         rest = after;
     }
     false
+}
+
+// Whether that is so of a line.
+fn is_another_newest<C: Chooses>(
+    group: Option<Column<'_>>,
+    options: &LineOptions<'_>,
+    chooser: &C,
+    newest: Option<&[u8]>,
+    line: &[u8],
+) -> bool
+    ensures { result ≡ is_another_newest options.now.end options.now.place options.now.scheme_column (C.keeps chooser.now)
+        group.entry (option_map (λ line. line.now) newest.entry) line.now }
+{
+    let place = &options.place;
+    let groups = ByColumn {
+        crlf: place.crlf,
+        column: group,
+    };
+    match newest {
+        Some(newest) => groups.group(newest) == groups.group(line)
+            && is_newer(chooser, place.scheme, place.text(newest), place.text(line)),
+        None => line_kept_otherwise(options, chooser, line),
+    }
 }
 
 // Whether one of two texts begins with a `v`, and by the versions in their tags the second is kept, and newer.
@@ -227,7 +281,9 @@ pub fn tell_of_two<F: Files>(
     first: &str,
     second: &str,
     files: &F,
-) {
+)
+    requires hints { MayTell (IfTags ((is_bare naming ≡ true) × (compare_otherwise scheme first.now second.now ≡ true))) F.may_hint }
+{
     if is_bare(naming) && compare_otherwise(scheme, first.as_bytes(), second.as_bytes()) {
         files.hint(Hint::Tags);
     }
@@ -255,7 +311,10 @@ pub fn tell_of_test<F: Files>(
     second: &str,
     answer: bool,
     files: &F,
-) {
+)
+    requires hints { MayTell (IfTags ((is_bare spelling.now.naming ≡ true)
+        × (is_tested_otherwise spelling.now.scheme first.now operator second.now answer ≡ true))) F.may_hint }
+{
     if is_bare(spelling.naming)
         && is_tested_otherwise(
             spelling.scheme,
@@ -286,12 +345,26 @@ fn is_tested_otherwise(
 }
 
 /// Tells where a set has the version in the tag of one of some words and hasn't the word, or the other way round.
-pub fn tell_of_set<F: Files>(spelling: &Spelling<'_>, words: &[&str], set: &Set, files: &F) {
-    if is_bare(spelling.naming)
-        && words.iter().any(|word| is_kept_otherwise(set, spelling.scheme, word.as_bytes()))
-    {
+pub fn tell_of_set<F: Files>(spelling: &Spelling<'_>, words: &[&str], set: &Set, files: &F)
+    requires hints { MayTell (IfTags ((is_bare spelling.now.naming ≡ true)
+        × (list_any (λ word. is_kept_otherwise (is_of (has set.now)) spelling.now.scheme word.now) words.now ≡ true)))
+        F.may_hint }
+{
+    if is_bare(spelling.naming) && any_had_otherwise(spelling.scheme, words, set) {
         files.hint(Hint::Tags);
     }
+}
+
+// Whether a set has the version in the tag of one of some words and hasn't the word, or the other way round.
+fn any_had_otherwise(scheme: Scheme, words: &[&str], set: &Set) -> bool
+    ensures { result ≡ list_any (λ word. is_kept_otherwise (is_of (has set.now)) scheme word.now) words.now }
+{
+    for word in words {
+        if is_kept_otherwise(set, scheme, word.as_bytes()) {
+            return true;
+        }
+    }
+    false
 }
 
 /// Tells where `why` would answer otherwise of one of the words by the version in its tag. Of lines it tells nothing.
@@ -300,18 +373,39 @@ pub fn tell_of_why<F: Files>(
     question: Question<'_>,
     options: &EachOptions<'_>,
     files: &F,
-) -> Result<(), AllocError> {
+) -> Result<(), AllocError>
+    requires hints { MayTell (IsOfEach question options.now) F.may_hint }
+{
     let Question::Why(scheme, word) = question else {
         return Ok(());
     };
-    let words = options.versions.as_slice();
-    if !words.iter().any(|word| begins_with_v(word.as_bytes())) {
+    if !options
+        .versions
+        .iter()
+        .any(|word| begins_with_v(word.as_bytes()))
+    {
         return Ok(());
     }
     if let Ok(set) = Set::read(alloc, scheme, word)? {
-        tell_of_set(&question.spelling(options.naming), words, &set, files);
+        tell_of_asked(question, options, &set, files);
     }
     Ok(())
+}
+
+// The same by the set that the question's word is.
+fn tell_of_asked<F: Files>(
+    question: Question<'_>,
+    options: &EachOptions<'_>,
+    set: &Set,
+    files: &F,
+)
+    requires set { HasSet question (Some set.now) }
+    requires hints { MayTell (IsOfEach question options.now) F.may_hint }
+{
+    if let Question::Why(_, _) = question {
+        let spelling = question.spelling(options.naming);
+        tell_of_set(&spelling, options.versions.as_slice(), set, files);
+    }
 }
 
 /// Tells where no version comes next to one of the words, and one does to the version in its tag.
@@ -320,21 +414,23 @@ pub fn tell_of_next<T, F: Files>(
     options: &EachOptions<'_>,
     answered: &Result<T, Fault<'_>>,
     files: &F,
-) {
+)
+    requires hints { MayTell (IsOfEach question options.now) F.may_hint }
+{
     if let (Question::Next(step), Err(Fault::NoNext(_))) = (question, answered) {
-        if is_bare(options.naming)
-            && options
-                .versions
-                .iter()
-                .any(|word| has_next_in_tag(step, word.as_bytes()))
-        {
-            files.hint(Hint::Tags);
+        for word in &options.versions {
+            if is_bare(options.naming) && has_next_in_tag(step, word.as_bytes()) {
+                files.hint(Hint::Tags);
+                return;
+            }
         }
     }
 }
 
 // Whether a text begins with a `v`, and no version comes next to it and one does to the version in its tag.
-fn has_next_in_tag(step: Step<'_>, text: &[u8]) -> bool {
+fn has_next_in_tag(step: Step<'_>, text: &[u8]) -> bool
+    ensures { IsTrue result → HasNextInTag step.entry text.now }
+{
     if !begins_with_v(text) {
         return false;
     }
@@ -350,7 +446,9 @@ pub fn tell_of_separators<F: Files>(
     options: &LineOptions<'_>,
     served: &Result<(), Fault<'_>>,
     files: &F,
-) {
+)
+    requires hints { takes_whole_lines arrangement.now options.now ≡ true → F.may_hint Hint.WholeLines }
+{
     if matches!(served, Ok(()) | Err(Fault::BadLine(_)))
         && takes_whole_lines(arrangement, options)
     {
@@ -376,17 +474,10 @@ fn asks_by_name(names: &ColumnNames<'_>) -> bool
     names.version.is_some() || names.group.is_some() || names.scheme.is_some()
 }
 
-/// Tells how many lines of a list have a version, and the name of an earlier line.
-pub fn tell_of_repeated<F: Files>(
-    lists: &Lists<'_>,
-    name: &str,
-    input: &[u8],
-    names: usize,
-    bad: usize,
-    files: &F,
-) {
-    let lines = count_lines(lists.end, input);
-    let repeated = lines.saturating_sub(bad).saturating_sub(names);
+/// Tells how many lines of a list, which is the input of a name, have a version, and the name of an earlier line.
+pub fn tell_of_repeated<F: Files>(name: &str, repeated: usize, files: &F)
+    requires hints { 0 < repeated → F.may_hint (Hint.Repeated name repeated) }
+{
     if repeated > 0 {
         files.hint(Hint::Repeated(name, repeated));
     }
@@ -399,7 +490,11 @@ pub fn tell_of_fault<F: Files>(
     place: &VersionPlace<'_>,
     served: &Result<(), Fault<'_>>,
     files: &F,
-) {
+)
+    requires hints { IfErr served.now (λ fault. (name : Bor (List ℕ)) → fault ≡ Fault.Read name
+        → is_filter arrangement.now ≡ true → begins_with_number name.now ≡ true
+        → is_some (any_of place.now.scheme name.now) ≡ true → F.may_hint (Hint.NoFile name)) }
+{
     if let (Arrangement::Filter { .. }, Err(Fault::Read(name))) = (arrangement, served) {
         if begins_with_number(name.as_bytes())
             && AnyVersion::read(place.scheme, name.as_bytes()).is_some()
@@ -410,7 +505,10 @@ pub fn tell_of_fault<F: Files>(
 }
 
 /// Tells which words are no versions.
-pub fn tell_others<F: Files>(spelling: &Spelling<'_>, words: &[&str], files: &F) {
+pub fn tell_others<F: Files>(spelling: &Spelling<'_>, words: &[&str], files: &F)
+    requires hints { (word : Bor (List ℕ)) (remark : Option Remark) → spelled spelling.now word.now ≡ None
+        → IsRemark spelling.now word.now remark → F.may_hint (Hint.NotVersion word remark) }
+{
     for word in words {
         if spelling.version(word.as_bytes()).is_none() {
             files.hint(Hint::NotVersion(word, spelling.remark(word.as_bytes())));
@@ -444,27 +542,49 @@ fn begins_with_v(text: &[u8]) -> bool
 }
 
 // Whether a text begins with a number, perhaps behind a `v`.
-fn begins_with_number(text: &[u8]) -> bool {
+fn begins_with_number(text: &[u8]) -> bool
+    ensures { result ≡ begins_with_number text.now }
+{
     matches!(text, [b'0'..=b'9', ..]) || begins_with_v(text)
 }
 
 // Whether there are lines, and no version is kept of them.
-fn keeps_none(options: &LineOptions<'_>, chooser: &Chooser, input: &[u8]) -> bool {
+fn keeps_none(options: &LineOptions<'_>, chooser: &Chooser, input: &[u8]) -> bool
+    ensures { result ≡ keeps_none options.now.end options.now.place options.now.scheme_column (is_kept chooser.now) input.now }
+{
+    !input.is_empty() && !keeps_any(options, chooser, input)
+}
+
+// Whether a version is kept of some lines.
+fn keeps_any(options: &LineOptions<'_>, chooser: &Chooser, input: &[u8]) -> bool
+    ensures { result ≡ list_any (has_kept (is_kept chooser.now) (versions_by options.now.place options.now.scheme_column))
+        (lines_of options.now.end input.now) }
+{
     let mut rest = input;
     while !rest.is_empty() {
         let (line, after) = split_line(options.end, rest);
-        if let Some(version) = options.place.version(line) {
-            if chooser.keeps(&version) {
-                return false;
-            }
+        if keeps_line(options, chooser, line) {
+            return true;
         }
         rest = after;
     }
-    !input.is_empty()
+    false
+}
+
+// Whether a line has a version that is kept.
+fn keeps_line(options: &LineOptions<'_>, chooser: &Chooser, line: &[u8]) -> bool
+    ensures { result ≡ has_kept (is_kept chooser.now) (versions_by options.now.place options.now.scheme_column) line.now }
+{
+    match scheme_at(&options.place, options.scheme_column, line) {
+        Some(scheme) => is_kept(chooser, scheme, options.place.text(line)),
+        None => false,
+    }
 }
 
 // Whether the first line ends in a carriage return that is taken for a part of it.
-fn has_returns(options: &LineOptions<'_>, input: &[u8]) -> bool {
+fn has_returns(options: &LineOptions<'_>, input: &[u8]) -> bool
+    ensures { result ≡ has_returns options.now.end options.now.place input.now }
+{
     if options.place.crlf || input.is_empty() {
         return false;
     }

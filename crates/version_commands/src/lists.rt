@@ -1,6 +1,7 @@
 //! What differs between two lists of names with versions.
 ghost use Rattle.std.specs.Prelude.{◌≡◌, ℕ, ◌∷◌, ◌++◌, [], length, List, IfOk, OnOk};
 ghost use Rattle.std.specs.Option.{option_map};
+ghost use Rattle.version_commands.specs.Hints.{repeated};
 ghost use Rattle.version_commands.specs.Lists.{difference_text, first_rows, lines_against, name_line, plain_row, row_text, rows_of, version_of, AreNames, Row};
 ghost use Rattle.version_commands.specs.Picked.{AreBadOf};
 ghost use Rattle.version_commands.specs.Place.{reads_of};
@@ -8,6 +9,7 @@ ghost use Rattle.version_lines.specs.Lines.{lines_of, whole_line};
 ghost use Rattle.version_lines.specs.Sort.{version_in};
 ghost use Rattle.version_schemes.specs.any.AnyVersion.{plain_any};
 
+use crate::inputs::count_lines;
 use crate::options::Lists;
 use crate::pick::{BadLines, EveryVersion, Takes, pick};
 use crate::place::{column_text, line_text};
@@ -95,6 +97,18 @@ pub fn read_names<'a>(
     };
     let bad = pick(alloc, &mut list, &EveryVersion, lists.end, input)?;
     Ok((list.names, bad))
+}
+
+/// Returns how many lines of a list have a version, and the name of an earlier line, by its names and its lines without
+/// a version.
+pub fn repeated(lists: &Lists<'_>, input: &[u8], names: &Names<'_>, bad: &BadLines<'_>) -> usize
+    requires names { AreNames (rows_of lists.now input.now) names.now }
+    requires bad { AreBadOf (version_in (reads_of lists.now.place)) (lines_of lists.now.end input.now) bad.now }
+    ensures { result ≡ repeated lists.now input.now }
+{
+    count_lines(lists.end, input)
+        .saturating_sub(bad.lines.len())
+        .saturating_sub(names.count())
 }
 
 // A list, as its lines are read.

@@ -1,6 +1,6 @@
 //! The command `next`: the version that comes next after another.
 
-ghost use Rattle.std.specs.Prelude.{◌≡◌, string_bytes, IfOk, MatchOption};
+ghost use Rattle.std.specs.Prelude.{◌≡◌, false, string_bytes, IfOk, IsTrue, MatchOption};
 ghost use Rattle.std.specs.Option.{option_map};
 ghost use Rattle.version_commands.specs.Next.{IsNextBy, NoNextBy, WritesNext};
 ghost use Rattle.version_commands.specs.Pieces.{Adds};
@@ -64,7 +64,10 @@ fn next_text(
 }
 
 /// Returns whether a version comes next to another.
-pub(crate) fn has_next(version: &VersioningRef<'_>, step: Step<'_>) -> bool {
+pub(crate) fn has_next(version: &VersioningRef<'_>, step: Step<'_>) -> bool
+    ensures some { IsTrue result → (next : PlainVersioning) × IsNextBy step.entry (plain_versioning_ref version.now) next }
+    ensures none { result ≡ false → NoNextBy step.entry (plain_versioning_ref version.now) }
+{
     match step {
         Step::Place(place) => next_of(version, place).is_some(),
         Step::Release => next_release(version).is_some(),

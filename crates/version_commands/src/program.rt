@@ -8,6 +8,7 @@ ghost use Rattle.version_commands.specs.Early.{IfOfWord, UnlessLate};
 ghost use Rattle.version_commands.specs.Ends.{Ends};
 ghost use Rattle.version_commands.specs.Fault.{first_wrong, ComesOfBad, ComesOfWords};
 ghost use Rattle.version_commands.specs.Files.{AltersAtMost, Leaves};
+ghost use Rattle.version_commands.specs.Hints.{IsHint, IsOfLists, MayTell};
 ghost use Rattle.version_commands.specs.Inputs.{reads_standard};
 ghost use Rattle.version_commands.specs.Lists.{names_of};
 ghost use Rattle.version_commands.specs.Output.{asks_reader, file_of, Answers, AreChanges, IsLineOfTwo, IsOutput};
@@ -29,7 +30,7 @@ use crate::hint::{
 };
 use crate::inputs::read_input;
 use crate::label::write_labels;
-use crate::lists::{add_lists, read_names};
+use crate::lists::{add_lists, read_names, repeated};
 use crate::matched::write_matched;
 use crate::options::{Invalid, Lists, Naming, Spelling, Task};
 use crate::pick::BadLines;
@@ -42,7 +43,8 @@ use version_lines::Source;
 use version_schemes::Scheme;
 
 /// Does a task, and returns whether it answers yes: one that answers by its output alone does. What it writes is
-/// `IsOutput` of the task and of what its files and the reader hold, and a fault `ComesOf` the same. At a fault the writer got nothing, or a proper beginning if it takes no more. A task that doesn't
+/// `IsOutput` of the task and of what its files and the reader hold, a fault `ComesOf` the same, and each hint that it
+/// tells is an `IsHint` of them. At a fault the writer got nothing, or a proper beginning if it takes no more. A task that doesn't
 /// read standard input leaves the reader as it is. Each leaves all files as they are but the one for lines without a
 /// version, at a fault too.
 pub fn serve<'w, F: Files, R: Source, W: Write>(
@@ -52,11 +54,13 @@ pub fn serve<'w, F: Files, R: Source, W: Write>(
     reader: &mut R,
     writer: &mut W,
 ) -> Result<bool, Fault<'w>>
+    requires hints { MayTell (IsHint task.now (F.reads files.old) (F.finds files.old) (F.refuses files.old) (R.may_fail reader.old)
+        (R.remaining reader.old)) F.may_hint }
     ensures answers { IfOk result (Answers task.now) }
-    ensures ends { Ends (IsOutput task.now (F.reads files.old) (R.remaining reader.old)
+    ensures ends { Ends (IsOutput task.now (F.reads files.old) (F.finds files.old) (R.remaining reader.old)
         (R.remaining reader.new) (Leaves F.puts files.old files.new))
-        (ComesOf task.now (F.reads files.old) (F.refuses files.old) (R.may_fail reader.old)
-        (R.remaining reader.old))
+        (ComesOf task.now (F.reads files.old) (F.finds files.old) (F.refuses files.old)
+        (R.may_fail reader.old) (R.remaining reader.old))
         (W.contents writer.old) (W.contents writer.new) result }
     ensures unread { asks_reader task.now ≡ false → reader.new ≡ reader.old }
     ensures files { AltersAtMost F.alters (file_of task.now) files.old files.new }
@@ -200,6 +204,7 @@ fn changes<'w, F: Files, R: Source>(
     files: &F,
     reader: &mut R,
 ) -> Result<Vec<u8>, Fault<'w>>
+    requires hints { MayTell (IsOfLists lists.now (F.reads files.now) (R.remaining reader.old)) F.may_hint }
     ensures output { IfOk result (λ output. AreChanges lists.now (F.reads files.now)
         (R.remaining reader.old) (R.remaining reader.new) output.items) }
     ensures unread { reads_standard (names_of lists.now) ≡ false → reader.new ≡ reader.old }
@@ -212,22 +217,10 @@ fn changes<'w, F: Files, R: Source>(
     let (new_names, new_bad) = read_names(alloc, lists, new.as_slice())?;
     refuse_of_list(alloc, lists, lists.old, &old_bad)?;
     refuse_of_list(alloc, lists, lists.new, &new_bad)?;
-    tell_of_repeated(
-        lists,
-        lists.old,
-        old.as_slice(),
-        old_names.count(),
-        old_bad.lines.len(),
-        files,
-    );
-    tell_of_repeated(
-        lists,
-        lists.new,
-        new.as_slice(),
-        new_names.count(),
-        new_bad.lines.len(),
-        files,
-    );
+    let repeated_old = repeated(lists, old.as_slice(), &old_names, &old_bad);
+    tell_of_repeated(lists.old, repeated_old, files);
+    let repeated_new = repeated(lists, new.as_slice(), &new_names, &new_bad);
+    tell_of_repeated(lists.new, repeated_new, files);
     let mut output = Vec::new(alloc);
     add_lists(&old_names, &new_names, lists.end.byte, &mut output)?;
     Ok(output)

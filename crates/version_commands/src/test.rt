@@ -1,7 +1,9 @@
 //! The commands `test`, `implies` and `meets`, which answer by their status.
 
-ghost use Rattle.std.specs.Prelude.{◌≡◌, ◌∷◌, [], Some, IfErr, IfOk};
+ghost use Rattle.std.specs.Prelude.{◌≡◌, ◌∷◌, [], Bool, Some, true, IfErr, IfOk};
 ghost use Rattle.version_commands.specs.Fault.{first_wrong, ComesOfTestOfSet, ComesOfTestOfSets, ComesOfTestOfTwo};
+ghost use Rattle.version_commands.specs.Hint.{is_bare, is_tested_otherwise};
+ghost use Rattle.version_commands.specs.Hints.{HasOtherwise, IfTags, MayTell};
 ghost use Rattle.version_commands.specs.Place.{spelled};
 ghost use Rattle.version_commands.specs.Test.{answer_line, answer_of_set, answer_of_two, holds, AreSetsSo};
 ghost use Rattle.version_sets.specs.Ends.{IsPart, Meet};
@@ -37,6 +39,9 @@ pub(crate) fn test_two<'w, F: Files>(
     second: &'w str,
     files: &F,
 ) -> Result<bool, Fault<'w>>
+    requires hints { MayTell (IfTags ((answer : Bool)
+        × (answer_of_two spelling.now operator first.now second.now ≡ Some answer) × (is_bare spelling.now.naming ≡ true)
+        × (is_tested_otherwise spelling.now.scheme first.now operator second.now answer ≡ true))) F.may_hint }
     ensures answer { IfOk result (λ yes. answer_of_two spelling.now operator first.now second.now ≡ Some yes) }
     ensures faults { IfErr result (ComesOfTestOfTwo spelling.now (first_wrong (spelled spelling.now) (first.now ∷ second.now ∷ []))) }
 {
@@ -55,6 +60,7 @@ pub(crate) fn test_set<'w, F: Files>(
     set: &'w str,
     files: &F,
 ) -> Result<bool, Fault<'w>>
+    requires hints { MayTell (IfTags (HasOtherwise spelling.now.naming spelling.now.scheme set.now (word ∷ []))) F.may_hint }
     ensures answer { IfOk result (λ yes. answer_of_set spelling.now word.now set.now ≡ Some yes) }
     ensures faults { IfErr result (ComesOfTestOfSet spelling.now word.now set.now) }
 {

@@ -1,9 +1,11 @@
 //! A run of the program over any files, reader and writer.
 
 ghost use Rattle.std.specs.Prelude.{map, string_bytes};
+ghost use Rattle.version_commands.specs.Hints.{IsHint, MayTell};
 ghost use Rattle.version_commands.specs.Run.{RunsBy};
+ghost use Rattle.version_commands.specs.declared.options.Task.{Task};
 ghost use Rattle.version_words.specs.Words.{IsOfWords, Means};
-ghost use Rattle.version_words.specs.declared.faults.Fault.TheVariants.{Task};
+ghost use Rattle.version_words.specs.declared.faults.Fault.TheVariants as fault;
 
 use crate::faults::Fault;
 use crate::words::read_words;
@@ -24,9 +26,11 @@ pub fn run<'w, F: Files, R: Source, W: Write>(
     reader: &mut R,
     writer: &mut W,
 ) -> Result<bool, Fault<'w>>
-    ensures { RunsBy F.reads F.puts F.refuses F.alters R.remaining R.may_fail files.old files.new reader.old reader.new
+    requires hints { (task : Task) → Means (map string_bytes words.now) task → MayTell (IsHint task (F.reads files.old)
+        (F.finds files.old) (F.refuses files.old) (R.may_fail reader.old) (R.remaining reader.old)) F.may_hint }
+    ensures { RunsBy F.reads F.finds F.puts F.refuses F.alters R.remaining R.may_fail files.old files.new reader.old reader.new
         (W.contents writer.old) (W.contents writer.new) (Means (map string_bytes words.now))
-        (IsOfWords (map string_bytes words.now)) Task result }
+        (IsOfWords (map string_bytes words.now)) fault.Task result }
 {
     let task = read_words(alloc, words)?;
     Ok(serve(alloc, &task, files, reader, writer)?)

@@ -70,6 +70,8 @@ impl Files for SystemFiles<'_> {
 
     ghost reads = { λ _ _ _. ⊤ };
 
+    ghost finds = { λ _ _ _. ⊤ };
+
     ghost puts = { λ _ _ _ _. ⊤ };
 
     ghost refuses = { λ _ _. ⊤ };

@@ -97,7 +97,7 @@ files-alike options other versions head body lines leaves output arranged = reco
   is_placed = record { put = arranged.is_placed.put; output_is = arranged.is_placed.output_is };
 }
 
-ordered-alike : (column : Option Column) (keeps : PlainAny → Bool) (arrangement : Arrangement)
+pub ordered-alike : (column : Option Column) (keeps : PlainAny → Bool) (arrangement : Arrangement)
     (options other : LineOptions) (body : List ℕ)
     → ordered_by column keeps arrangement (record options { files = other.files }) body
     ≡ ordered_by column keeps arrangement options body

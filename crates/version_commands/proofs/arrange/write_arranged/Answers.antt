@@ -9,6 +9,7 @@ use Rattle.version_lines.specs.Sort.{Reads, version_in}
 use Rattle.version_schemes.specs.declared.scheme.Scheme.TheVariants.{Mixed}
 use Rattle.version_commands.proofs.lemmas.Ends.{ends-weaker}
 use Rattle.version_commands.proofs.lemmas.Ordered.{at-once, lines-alike}
+use Rattle.version_commands.proofs.lemmas.Hints.{hints-alike}
 use Rattle.version_commands.proofs.arrange.write_arranged.Goals as goal
 
 pub returns-then-not-reverse : goal.returns-then-not-reverse
@@ -49,3 +50,10 @@ returns-then-leaves_others_out-clause-ends g c =
 
 pub returns-in-Filter-clause-ends : goal.returns-in-Filter-clause-ends
 returns-in-Filter-clause-ends g c = rw c.in-Filter.is c.write_kept.ensures.ends
+
+pub write_keyed-requires : goal.write_keyed-requires
+write_keyed-requires g c = record {
+  reversed = search rules;
+  hints = λ hint so. c.requires.hints hint (hints-alike c.args.options.now c.args.chooser.now c.args.arrangement
+      c.args.input.now.body.now (c.is_whole.ensures (search rules)) (c.keeps_all.ensures (search rules)) hint so);
+}

@@ -5,6 +5,7 @@ use Rattle.version_commands.specs.Header.{arrangement_by, first_unnamed, options
 use Rattle.version_commands.specs.Ordered.{name_missing, names_line}
 use Rattle.version_commands.proofs.lemmas.Ends.{ends-at, ends-weaker}
 use Rattle.version_commands.proofs.lemmas.Header.{arranged-in, arrangement-stays, faults-in, header-is, missing-is, missing-not, none-missing, options-stay, unnamed-faults}
+use Rattle.version_commands.proofs.lemmas.Hints.{hints-in}
 use Rattle.version_commands.proofs.arrange.write_asked.Goals.{then-not-is_empty+in_ok-refuse_unnamed, else-not-is_empty}
 use Rattle.version_commands.proofs.arrange.write_asked.Goals as goal
 
@@ -71,3 +72,35 @@ returns-clause-ends g c = λ whole head_is body_is.
     (arranged-in c.args.arrangement c.arrangement_by-arrangement.result options made keeps leaves Refuses whole head body head_is body_is has asked_is made_is)
     (faults-in c.args.arrangement c.arrangement_by-arrangement.result options made keeps leaves Refuses whole head body head_is body_is has asked_is made_is)
     c.write_told-2.ensures.ends
+
+pub write_told-requires : goal.write_told-requires
+write_told-requires g c =
+    let options = c.args.options.now in
+    let (whole, head_is, body_is, told) = c.requires.hints in
+    let line = names_line options whole in
+    record {
+      hints = λ hint so. told hint (hints-in c.args.arrangement c.args.arrangement options options
+          (is_kept c.args.chooser.now) whole c.args.input.now.body.now body_is
+          (sym (arrangement-stays line options.names c.args.arrangement (c.are_none.ensures.group (search rules))))
+          (sym (options-stay line options (c.are_none.ensures.version (search rules))
+          (c.are_none.ensures.scheme (search rules))))
+          hint so);
+    }
+
+pub write_told-requires-2 : goal.write_told-requires-2
+write_told-requires-2 g c =
+    let options = c.args.options.now in
+    let made = c.in_ok-options.options in
+    let (whole, head_is, body_is, told) = c.requires.hints in
+    let header = c.names_line-header.result.now in
+    let is = header-is options whole c.args.input.now.head.now c.args.input.now.body.now head_is body_is header
+    c.names_line-header.ensures in
+    record {
+      hints = λ hint so. told hint (hints-in c.args.arrangement c.arrangement_by-arrangement.result options made
+          (is_kept c.args.chooser.now) whole c.args.input.now.body.now body_is
+          (c.arrangement_by-arrangement.ensures
+          ∙ ap (λ (l : List ℕ). arrangement_by l options.names c.args.arrangement) is)
+          (c.in_ok-options.ensures.columns
+          ∙ ap (λ (l : List ℕ). record (options_by l options) { files = made.files }) is)
+          hint so);
+    }

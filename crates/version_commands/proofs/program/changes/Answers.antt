@@ -1,7 +1,13 @@
-use Rattle.std.proofs.Common.{◌++◌, None, Some, inr, ◌∷◌, [], ℕ, Bool, List, refl, rules, subst, ap, ◌∙◌, arith}
+use Rattle.std.proofs.Common.{◌++◌, None, Some, inl, inr, ◌∷◌, [], ℕ, Bool, List, refl, rules, subst, ap, sym, ◌∙◌, arith}
 use Rattle.std.proofs.lemmas.Result.{IfErr-weaker}
 use Rattle.version_commands.specs.Fault.{ComesOfBad, ComesOfReadingOne}
+use Rattle.version_commands.specs.Hints.{repeated}
 use Rattle.version_commands.specs.Lists.{difference_text, names_of, rows_of}
+use Rattle.version_commands.specs.Picked.{AreBadOf}
+use Rattle.version_commands.specs.Place.{reads_of}
+use Rattle.version_commands.specs.declared.files.Hint.TheVariants.{Repeated}
+use Rattle.version_lines.specs.Lines.{lines_of}
+use Rattle.version_lines.specs.Sort.{version_in}
 use Rattle.version_commands.proofs.lemmas.Fault.{reading-at}
 use Rattle.version_commands.proofs.lemmas.Changes.{are-changes, changes-bad, changes-reading, input-bad, input-good}
 use Rattle.version_commands.proofs.program.changes.Goals as goal
@@ -87,3 +93,48 @@ returns-in_err-refuse_of_list-2-clause-faults g c =
       input-bad lists lists.new second after bad second_is c.in_ok-new_names.ensures.bad fault is,
     )))
     (search rules)
+
+-- the text of a list is read once, and its lines without a version are those of that text
+pub repeated-repeated_old-requires-clause-bad : goal.repeated-repeated_old-requires-clause-bad
+repeated-repeated_old-requires-clause-bad g c =
+    let lists = c.args.lists.now in
+    subst (λ (input : List ℕ). AreBadOf (version_in (reads_of lists.place)) (lines_of lists.end input)
+    c.in_ok-old_names.old_bad) (c.as_slice.ensures.value ∙ sym c.as_slice-3.ensures.value) c.in_ok-old_names.ensures.bad
+
+pub repeated-repeated_new-requires-clause-bad : goal.repeated-repeated_new-requires-clause-bad
+repeated-repeated_new-requires-clause-bad g c =
+    let lists = c.args.lists.now in
+    subst (λ (input : List ℕ). AreBadOf (version_in (reads_of lists.place)) (lines_of lists.end input)
+    c.in_ok-new_names.new_bad) (c.as_slice-2.ensures.value ∙ sym c.as_slice-4.ensures.value) c.in_ok-new_names.ensures.bad
+
+pub tell_of_repeated-requires : goal.tell_of_repeated-requires
+tell_of_repeated-requires g c =
+    let lists = c.args.lists.now in
+    let between = g.R.Source.remaining c.read_input.new.reader in
+    let end = g.R.Source.remaining c.read_input-2.new.reader in
+    let (first, one, old_is, old_closed) = c.in_ok-old.ensures.input in
+    let (second, other, new_is, new_closed) = c.in_ok-new.ensures.input in
+    record {
+      hints = λ some. c.requires.hints (Repeated lists.old c.repeated-repeated_old.result)
+          (end, first, second, (between, one, (end, other, refl)), inl (
+            refl,
+            some,
+            c.repeated-repeated_old.ensures ∙ ap (repeated lists) (c.as_slice-3.ensures.value ∙ old_is),
+          ));
+    }
+
+pub tell_of_repeated-requires-2 : goal.tell_of_repeated-requires-2
+tell_of_repeated-requires-2 g c =
+    let lists = c.args.lists.now in
+    let between = g.R.Source.remaining c.read_input.new.reader in
+    let end = g.R.Source.remaining c.read_input-2.new.reader in
+    let (first, one, old_is, old_closed) = c.in_ok-old.ensures.input in
+    let (second, other, new_is, new_closed) = c.in_ok-new.ensures.input in
+    record {
+      hints = λ some. c.requires.hints (Repeated lists.new c.repeated-repeated_new.result)
+          (end, first, second, (between, one, (end, other, refl)), inr (
+            refl,
+            some,
+            c.repeated-repeated_new.ensures ∙ ap (repeated lists) (c.as_slice-4.ensures.value ∙ new_is),
+          ));
+    }

@@ -1,6 +1,7 @@
 use Rattle.std.proofs.Common.{◌≡◌, ◌||◌, ℕ, Bool, true, false, List, Option, Result, Err, refl, rules, subst, sym}
 use Rattle.version_commands.specs.Ends.{Ends}
 use Rattle.version_commands.specs.declared.faults.Fault.{Fault}
+use Rattle.version_commands.proofs.lemmas.Hints.{of-run}
 use Rattle.version_commands.proofs.program.serve.Goals as goal
 
 -- neither holds where one of them does not
@@ -34,3 +35,10 @@ returns-in-TestTwo-clause-ends g c = rw c.in-TestTwo.is (search rules)
 
 pub returns-in-TestSet-clause-ends : goal.returns-in-TestSet-clause-ends
 returns-in-TestSet-clause-ends g c = rw c.in-TestSet.is (search rules)
+
+pub serve_by_words-served-requires : goal.serve_by_words-served-requires
+serve_by_words-served-requires g c = record {
+  hints = λ hint so. c.requires.hints hint (rw c.in-Lines.is (of-run c.in-Lines.arrangement c.in-Lines.options
+      (g.F.Files.reads c.args.files.now) (g.F.Files.finds c.args.files.now) (g.F.Files.refuses c.args.files.now)
+      (g.R.Source.may_fail c.args.reader.now) (g.R.Source.remaining c.args.reader.now) hint so));
+}
