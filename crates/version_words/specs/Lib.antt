@@ -4,3 +4,4 @@ pub mod Named
 pub mod Rows
 pub mod Task
 pub mod Words
+pub mod Wrong

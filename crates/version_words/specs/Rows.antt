@@ -17,6 +17,8 @@ use Rattle.version_schemes.specs.declared.scheme.Scheme.TheVariants.{Mixed}
 use Rattle.version_tasks.specs.declared.stability.Stability.{Stability}
 use Rattle.version_tasks.specs.declared.stability.Stability.TheVariants.{Dev}
 use Rattle.version_words.specs.Named.{count_named, invalid_asked, invalid_named, is_no_column, is_number, may_ask, separators_named, stability_named}
+use Rattle.version_words.specs.Wrong.{Quotes}
+use Rattle.version_words.specs.declared.faults.WordsFault.{WordsFault}
 use Rattle.version_words.specs.declared.named.Verb.{Verb}
 use Rattle.version_words.specs.declared.named.Verb.TheVariants.{Filter}
 
@@ -73,9 +75,11 @@ AreSeparators rows Blanks = (is_csv rows ≡ false) × (separators_asked rows �
 AreSeparators rows (Bytes bytes) = (is_csv rows ≡ false) × (separators_asked rows ≡ Some (Some bytes.now))
 AreSeparators rows (Csv separator) = (is_csv rows ≡ true) × (csv_separator_of rows ≡ Some separator)
 
--- the words name nothing that can stand there
-abbrev pub HasNoSeparators : List Row → Type 0
-HasNoSeparators rows = (separators_asked rows ≡ None) ⊎ ((is_csv rows ≡ true) × (csv_separator_of rows ≡ None))
+-- the word names nothing that can stand there, and is quoted
+abbrev pub HasNoSeparators : List Row → WordsFault → Type 0
+HasNoSeparators rows fault =
+    ((separators_asked rows ≡ None) ⊎ ((is_csv rows ≡ true) × (csv_separator_of rows ≡ None)))
+    × Quotes (word_of (codes "field-separator") rows) fault
 
 -- the separator of CSV
 abbrev pub csv_of : Separators → Option ℕ

@@ -1,5 +1,5 @@
 -- Which task a command and its rows mean, and what is wrong where they mean none.
-use Rattle.std.specs.Prelude.{◌≡◌, ◌⊎◌, ⊤, ℕ, true, false, List, [], ◌∷◌, Option, None, Some, codes, map, option_map, unwrap_or, if◌then◌else◌}
+use Rattle.std.specs.Prelude.{◌≡◌, ◌⊎◌, ⊤, ℕ, true, false, List, [], ◌∷◌, Option, None, Some, codes, is_some, map, option_map, unwrap_or, if◌then◌else◌}
 use Rattle.std.specs.Str.{bytes_eq}
 use Rattle.clap.specs.Words.{all_of, first_of, Row}
 use Rattle.version_commands.specs.declared.options.Arrangement.{Arrangement}
@@ -23,7 +23,9 @@ use Rattle.version_lines.specs.declared.column.Column.{Column}
 use Rattle.version_lines.specs.declared.column.Separators.{Separators}
 use Rattle.version_schemes.specs.declared.scheme.Scheme.{Scheme}
 use Rattle.version_words.specs.Named.{operator_named, place_named}
-use Rattle.version_words.specs.Rows.{column_at, column_of, end_of, has_option_of_lists, has_two_schemes, has_wrong_column, header_of, invalid_of, is_crlf, is_given, is_set, key_of, lacks_set, level_of, line_end, name_of_column, number_of, scheme_of, word_of, words_of, AreSeparators, HasNoSeparators}
+use Rattle.version_words.specs.Rows.{column_at, column_of, end_of, has_no_column, has_option_of_lists, has_two_schemes, has_wrong_column, header_of, invalid_of, invalid_word, is_crlf, is_given, is_set, key_of, lacks_header, lacks_set, level_of, line_end, name_of_column, number_of, scheme_of, word_of, words_of, AreSeparators, HasNoSeparators}
+use Rattle.version_words.specs.Wrong.{Quotes}
+use Rattle.version_words.specs.declared.faults.WordsFault.{WordsFault}
 use Rattle.version_words.specs.declared.named.Verb.{Verb}
 use Rattle.version_words.specs.declared.named.Verb.TheVariants.{Compare, Diff, Filter, Implies, Key, Meets, Newest, Next, Show, Sort, Test, Why}
 
@@ -95,10 +97,6 @@ IsStep rows (step.Pre word) =
     (bytes_eq (word_of (codes "PLACE") rows) (codes "pre") ≡ true)
     × (option_map (λ word. word.now) word ≡ first_of (codes "word") rows)
 
--- the words of `next` are none of these
-abbrev pub HasNoStep : List Row → Type 0
-HasNoStep rows = (step : Step) → ¬ IsStep rows step
-
 -- what is asked of each version
 abbrev pub IsQuestion : Verb → List Row → Question → Type 0
 IsQuestion Show rows question.Show = is_set (codes "json") rows ≡ false
@@ -164,63 +162,88 @@ IsTaskOf Diff rows (task.Lists lists) = (separators : Separators)
     × AreSeparators rows separators × AreLists separators rows lists
 IsTaskOf command rows other = ⊥
 
--- ---- what is wrong
+-- ---- what is wrong, of which a fault quotes the word
 
 -- of the scheme: the word names none
-abbrev pub HasWrongScheme : List Row → Type 0
-HasWrongScheme rows = scheme_of rows ≡ None
+abbrev pub HasWrongScheme : List Row → WordsFault → Type 0
+HasWrongScheme rows fault = (scheme_of rows ≡ None) × Quotes (word_of (codes "scheme") rows) fault
 
 -- of how a version stands in its text: in a tag, and after a prefix
-abbrev pub HasWrongNaming : List Row → Type 0
-HasWrongNaming rows = (is_set (codes "tags") rows ≡ true) × (is_given (codes "prefix") rows ≡ true)
+abbrev pub HasWrongNaming : List Row → WordsFault → Type 0
+HasWrongNaming rows fault = (is_set (codes "tags") rows ≡ true) × (is_given (codes "prefix") rows ≡ true)
 
 -- of how a text spells a version
-abbrev pub HasWrongSpelling : List Row → Type 0
-HasWrongSpelling rows = HasWrongNaming rows ⊎ HasWrongScheme rows
+abbrev pub HasWrongSpelling : List Row → WordsFault → Type 0
+HasWrongSpelling rows fault = HasWrongNaming rows fault ⊎ HasWrongScheme rows fault
 
 -- of the place of a version: the same, or nothing can stand between columns that the words name
-abbrev pub HasWrongPlace : List Row → Type 0
-HasWrongPlace rows = HasNoSeparators rows ⊎ HasWrongSpelling rows
+abbrev pub HasWrongPlace : List Row → WordsFault → Type 0
+HasWrongPlace rows fault = HasNoSeparators rows fault ⊎ HasWrongSpelling rows fault
+
+-- of a column: the word is the number of none
+abbrev pub HasNoColumn : List ℕ → List Row → WordsFault → Type 0
+HasNoColumn option rows fault = (has_no_column option rows ≡ true) × Quotes (word_of option rows) fault
+
+-- of the columns: one of them is none, or is asked for by its name where no line has names
+abbrev pub HasWrongColumn : List Row → WordsFault → Type 0
+HasWrongColumn rows fault = HasNoColumn (codes "key") rows fault
+    ⊎ (HasNoColumn (codes "group") rows fault
+    ⊎ (HasNoColumn (codes "scheme-column") rows fault ⊎ (lacks_header rows ≡ true)))
+
+-- of the stability: the word names no level
+abbrev pub HasWrongLevel : List Row → WordsFault → Type 0
+HasWrongLevel rows fault = (level_of rows ≡ None) × Quotes (word_of (codes "min-stability") rows) fault
+
+-- of lines without a version: the word names nothing that the command can do with them, or what it names leaves none
+-- for a file
+abbrev pub HasWrongInvalid : Verb → List Row → WordsFault → Type 0
+HasWrongInvalid command rows fault = (invalid_of command rows ≡ None)
+    × ((is_some (invalid_word command rows) ≡ true) ⊎ Quotes (word_of (codes "invalid") rows) fault)
 
 -- of the options of a command over lines
-abbrev pub HasWrongLines : Verb → List Row → Type 0
-HasWrongLines command rows = HasWrongPlace rows ⊎ ((has_two_schemes rows ≡ true)
-    ⊎ ((has_wrong_column rows ≡ true) ⊎ ((level_of rows ≡ None) ⊎ (invalid_of command rows ≡ None))))
+abbrev pub HasWrongLines : Verb → List Row → WordsFault → Type 0
+HasWrongLines command rows fault = HasWrongPlace rows fault ⊎ ((has_two_schemes rows ≡ true)
+    ⊎ (HasWrongColumn rows fault ⊎ (HasWrongLevel rows fault ⊎ HasWrongInvalid command rows fault)))
 
 -- of `filter`: the same, or it has no set where it needs one
-abbrev pub HasWrongFilter : List Row → Type 0
-HasWrongFilter rows = HasWrongLines Filter rows ⊎ (lacks_set rows ≡ true)
+abbrev pub HasWrongFilter : List Row → WordsFault → Type 0
+HasWrongFilter rows fault = HasWrongLines Filter rows fault ⊎ (lacks_set rows ≡ true)
 
 -- of `compare`: that, or a scheme is named where the difference is asked for, which is one of mixed
-abbrev pub HasWrongCompare : List Row → Type 0
-HasWrongCompare rows =
-    ((is_set (codes "explain") rows ≡ true) × (is_given (codes "scheme") rows ≡ true)) ⊎ HasWrongSpelling rows
+abbrev pub HasWrongCompare : List Row → WordsFault → Type 0
+HasWrongCompare rows fault = ((is_set (codes "explain") rows ≡ true) × (is_given (codes "scheme") rows ≡ true))
+    ⊎ HasWrongSpelling rows fault
 
 -- of the words of `test`: they are neither two nor three, or no operator is between two
-abbrev pub HasWrongTest : Option (List (List ℕ)) → Type 0
-HasWrongTest (Some (version ∷ set ∷ [])) = ⊥
-HasWrongTest (Some (first ∷ word ∷ second ∷ [])) = operator_named word ≡ None
-HasWrongTest other = ⊤
+abbrev pub HasWrongTest : Option (List (List ℕ)) → WordsFault → Type 0
+HasWrongTest (Some (version ∷ set ∷ [])) fault = ⊥
+HasWrongTest (Some (first ∷ word ∷ second ∷ [])) fault = (operator_named word ≡ None) × Quotes word fault
+HasWrongTest other fault = ⊤
+
+-- of the words of `next`: no step is theirs; a word beside a place is wrong, or else the place
+abbrev pub HasNoStep : List Row → WordsFault → Type 0
+HasNoStep rows fault = ((step : Step) → ¬ IsStep rows step)
+    × ((is_given (codes "word") rows ≡ true) ⊎ Quotes (word_of (codes "PLACE") rows) fault)
 
 -- of the options of `diff`
-abbrev pub HasWrongDiff : List Row → Type 0
-HasWrongDiff rows =
+abbrev pub HasWrongDiff : List Row → WordsFault → Type 0
+HasWrongDiff rows fault =
     ((is_set (codes "lists") rows ≡ false) × (has_option_of_lists rows ≡ true))
-    ⊎ (HasWrongNaming rows
+    ⊎ (HasWrongNaming rows fault
     ⊎ ((is_set (codes "lists") rows ≡ true)
-    × (HasWrongPlace rows ⊎ (invalid_of Diff rows ≡ None))))
+    × (HasWrongPlace rows fault ⊎ HasWrongInvalid Diff rows fault)))
 
 -- the command and its rows mean no task
-abbrev pub IsWrong : Verb → List Row → Type 0
-IsWrong Sort rows = HasWrongLines Sort rows
-IsWrong Newest rows = HasWrongLines Newest rows
-IsWrong Filter rows = HasWrongFilter rows
-IsWrong Test rows = HasWrongSpelling rows ⊎ HasWrongTest (all_of (codes "WORD") rows)
-IsWrong Show rows = HasWrongNaming rows
-IsWrong Key rows = HasWrongSpelling rows
-IsWrong Why rows = HasWrongSpelling rows
-IsWrong Implies rows = HasWrongScheme rows
-IsWrong Meets rows = HasWrongScheme rows
-IsWrong Compare rows = HasWrongCompare rows
-IsWrong Diff rows = HasWrongDiff rows
-IsWrong Next rows = HasNoStep rows ⊎ HasWrongNaming rows
+abbrev pub IsWrong : Verb → List Row → WordsFault → Type 0
+IsWrong Sort rows fault = HasWrongLines Sort rows fault
+IsWrong Newest rows fault = HasWrongLines Newest rows fault
+IsWrong Filter rows fault = HasWrongFilter rows fault
+IsWrong Test rows fault = HasWrongSpelling rows fault ⊎ HasWrongTest (all_of (codes "WORD") rows) fault
+IsWrong Show rows fault = HasWrongNaming rows fault
+IsWrong Key rows fault = HasWrongSpelling rows fault
+IsWrong Why rows fault = HasWrongSpelling rows fault
+IsWrong Implies rows fault = HasWrongScheme rows fault
+IsWrong Meets rows fault = HasWrongScheme rows fault
+IsWrong Compare rows fault = HasWrongCompare rows fault
+IsWrong Diff rows fault = HasWrongDiff rows fault
+IsWrong Next rows fault = HasNoStep rows fault ⊎ HasWrongNaming rows fault

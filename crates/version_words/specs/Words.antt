@@ -1,5 +1,5 @@
 -- What the words of a run mean.
-use Rattle.std.specs.Prelude.{◌≡◌, ◌≢◌, ◌⊎◌, ⊤, ℕ, Bool, true, false, List, [], Option, None, Some, option_and_then, option_map}
+use Rattle.std.specs.Prelude.{◌≡◌, ◌≢◌, ◌⊎◌, ⊤, ℕ, Bool, true, false, List, [], Option, None, Some, option_and_then, option_map, string_bytes}
 use Rattle.clap.specs.Words.{fault_of, subcommand_of, IsAmong, Kinds, Row}
 use Rattle.clap.specs.declared.error.kind.ErrorKind.{ErrorKind}
 use Rattle.clap.specs.declared.error.kind.ErrorKind.TheVariants.{DisplayHelp, DisplayVersion, OutOfMemory}
@@ -12,16 +12,17 @@ use Rattle.version_words.specs.Named.{verb_named}
 use Rattle.version_words.specs.Task.{IsTaskOf, IsWrong}
 use Rattle.version_words.specs.declared.faults.Fault.{Fault}
 use Rattle.version_words.specs.declared.faults.Fault.TheVariants as fault
+use Rattle.version_words.specs.Wrong.{HasText}
 use Rattle.version_words.specs.declared.named.Verb.{Verb}
 
--- the words are no task
+-- the words are no task, and something is said of them
 abbrev pub IsUsage : WordsFault → Type 0
-IsUsage (Usage text) = ⊤
+IsUsage (Usage text) = HasText (string_bytes text)
 IsUsage other = ⊥
 
--- there was no memory, or the words are no task since this is wrong with them
-abbrev pub ComesOfWrong : Type 0 → WordsFault → Type 0
-ComesOfWrong Wrong fault = (fault ≡ Memory) ⊎ (IsUsage fault × Wrong)
+-- there was no memory, or the words are no task since this is wrong with them, and is said
+abbrev pub ComesOfWrong : (WordsFault → Type 0) → WordsFault → Type 0
+ComesOfWrong Wrong fault = (fault ≡ Memory) ⊎ (IsUsage fault × Wrong fault)
 
 -- the command that `clap` found, with the rows of its words
 abbrev pub command_in : Option (List ℕ × List Row) → Option (Verb × List Row)
@@ -33,9 +34,9 @@ IsTaskIn None task = ⊥
 IsTaskIn (Some (command, rows)) task = IsTaskOf command rows task
 
 -- there is no command, or no task of it
-abbrev pub IsWrongIn : Option (Verb × List Row) → Type 0
-IsWrongIn None = ⊤
-IsWrongIn (Some (command, rows)) = IsWrong command rows
+abbrev pub IsWrongIn : Option (Verb × List Row) → WordsFault → Type 0
+IsWrongIn None fault = ⊤
+IsWrongIn (Some (command, rows)) fault = IsWrong command rows fault
 
 -- whether an error shows what was asked for: help, or the version
 abbrev pub shows : ErrorKind → Bool
@@ -43,9 +44,9 @@ shows DisplayHelp = true
 shows DisplayVersion = true
 shows other = false
 
--- an error of this kind shows the text of the task
+-- an error of this kind shows the text of the task, which isn't empty
 abbrev pub Shows : ErrorKind → Task → Type 0
-Shows kind (Say text) = shows kind ≡ true
+Shows kind (Say text) = (shows kind ≡ true) × HasText (string_bytes text)
 Shows kind other = ⊥
 
 -- an error of this kind is a mistake in the words
@@ -65,14 +66,15 @@ module _ (words : List (List ℕ)) where
   abbrev pub command_of : Option (Verb × List Row)
   command_of = command_in (subcommand_of program_app words)
 
-  -- The words mean this task: that of their command and its rows, or to show help or the version.
+  -- The words mean this task: that of their command and its rows, or to show help or the version,
+  -- a text that isn't empty.
   abbrev pub Means : Task → Type 0
-  Means (Say text) = HasAnswer true faults
+  Means (Say text) = HasAnswer true faults × HasText (string_bytes text)
   Means task = (faults ≡ []) × IsTaskIn command_of task
 
   -- they are none that the grammar has, or its command and rows mean no task
-  abbrev pub AreWrong : Type 0
-  AreWrong = HasAnswer false faults ⊎ ((faults ≡ []) × IsWrongIn command_of)
+  abbrev pub AreWrong : WordsFault → Type 0
+  AreWrong fault = HasAnswer false faults ⊎ ((faults ≡ []) × IsWrongIn command_of fault)
 
   -- the faults that words which mean no task end in
   abbrev pub ComesOfWords : WordsFault → Type 0

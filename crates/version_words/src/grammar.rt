@@ -15,8 +15,8 @@ use std::alloc::{AllocError, Global};
 // The version of the library, and of the program.
 const VERSION: &str = "0.1.0";
 
-// What help says of the program.
-const ABOUT: &str = "Sorts, filters and explains version numbers of mixed shapes";
+/// What help says of the program.
+pub const ABOUT: &str = "Sorts, filters and explains version numbers of mixed shapes";
 
 // What help says after the commands.
 const STATUSES: &str =

@@ -1,29 +1,35 @@
 //! What was meant where one letter of a word is wrong, beside what `clap` finds itself.
 
+ghost use Rattle.std.specs.Prelude.{string_bytes, IfOk};
+ghost use Rattle.version_words.specs.Wrong.{HasText};
+
 use std::alloc::{AllocError, Global};
 use strsim::osa_distance;
 
-/// Adds to the text of a fault the name that a word may stand for, if it has none yet: before its last part, which begins
-/// with `end`.
+/// Adds to the text of a fault the command that a word may stand for, if it names none yet: before how it is used.
 pub fn with_tip(
     alloc: Global,
     text: String,
-    end: &str,
-    what: &str,
     name: Option<&'static str>,
-) -> Result<String, AllocError> {
-    match (text.as_str().split_once(end), name) {
-        (Some((before, after)), Some(name)) if !before.contains("  tip: ") => format!(in alloc;
-            "{before}\n\n  tip: a similar {what} exists: '{name}'{end}{after}"
-        ),
+) -> Result<String, AllocError>
+    ensures { HasText (string_bytes text) → IfOk result (λ made. HasText (string_bytes made)) }
+{
+    let usage = "\n\nUsage:";
+    match (text.as_str().split_once(usage), name) {
+        (Some((before, after)), Some(name)) if !before.contains("  tip: ") => {
+            let tip = "\n\n  tip: a similar subcommand exists: '";
+            [before, tip, name, "'", usage, after].concat(alloc)
+        }
         _ => Ok(text),
     }
 }
 
 /// Takes from the text of a fault the tip to put an unknown option behind `--`, where it would be a file or a version.
-pub fn without_tip(alloc: Global, text: String) -> Result<String, AllocError> {
+pub fn without_tip(alloc: Global, text: String) -> Result<String, AllocError>
+    ensures { HasText (string_bytes text) → IfOk result (λ made. HasText (string_bytes made)) }
+{
     match beside_tip(text.as_str()) {
-        Some((before, after)) => format!(in alloc; "{before}\n\n{after}"),
+        Some((before, after)) => [before, "\n\n", after].concat(alloc),
         None => Ok(text),
     }
 }

@@ -3,7 +3,9 @@
 ghost use Rattle.std.specs.Prelude.{◌≡◌, ◌⊎◌, None, Some, codes, false, true, map, option_map, IfErr, IfOk, OnOk, unwrap_or};
 ghost use Rattle.clap.specs.Words.{all_of, first_of, subcommand_rows_of};
 ghost use Rattle.version_words.specs.Rows.{column_at, column_of, csv_separator, end_of, has_no_column, has_option_of_lists, has_two_schemes, has_wrong_column, header_of, invalid_of, invalid_unasked, invalid_word, is_crlf, is_csv, is_given, is_named, is_set, key_of, lacks_header, lacks_set, level_of, line_end, name_of_column, number_of, rows_in, scheme_of, separators_asked, word_of, words_of, AreSeparators, HasNoSeparators};
+ghost use Rattle.version_words.specs.Task.{HasNoColumn, HasWrongColumn, HasWrongInvalid, HasWrongLevel, HasWrongScheme};
 ghost use Rattle.version_words.specs.Words.{command_in, ComesOfWrong};
+ghost use Rattle.version_words.specs.Wrong.{Quotes};
 
 use crate::faults::WordsFault;
 use crate::named::{
@@ -135,7 +137,8 @@ fn separators_asked<'w>(
 ) -> Result<Option<&'w [u8]>, WordsFault>
     ensures ok { IfOk result (λ asked. separators_asked (rows_in options.now)
         ≡ Some (option_map (λ bytes. bytes.now) asked)) }
-    ensures faults { IfErr result (ComesOfWrong (separators_asked (rows_in options.now) ≡ None)) }
+    ensures faults { IfErr result (ComesOfWrong (λ fault. (separators_asked (rows_in options.now) ≡ None)
+        × Quotes (word_of (codes "field-separator") (rows_in options.now)) fault)) }
 {
     let Some(word) = text_of(options, "field-separator") else {
         return Ok(None);
@@ -253,7 +256,7 @@ fn refuse_number(
     argument: &str,
 ) -> Result<(), WordsFault>
     ensures ok { OnOk result (has_no_column option.now (rows_in options.now) ≡ false) }
-    ensures faults { IfErr result (ComesOfWrong (has_no_column option.now (rows_in options.now) ≡ true)) }
+    ensures faults { IfErr result (ComesOfWrong (HasNoColumn option.now (rows_in options.now))) }
 {
     match text_of(options, option) {
         Some(word) if is_no_column(word) => Err(wrong_column(alloc, word, argument)),
@@ -264,7 +267,7 @@ fn refuse_number(
 /// Fails where a column is asked for that can't be: by the number of none, or by its name without a header.
 pub fn refuse_columns(alloc: Global, options: &ArgMatches<'_>) -> Result<(), WordsFault>
     ensures ok { OnOk result (has_wrong_column (rows_in options.now) ≡ false) }
-    ensures faults { IfErr result (ComesOfWrong (has_wrong_column (rows_in options.now) ≡ true)) }
+    ensures faults { IfErr result (ComesOfWrong (HasWrongColumn (rows_in options.now))) }
 {
     refuse_number(alloc, options, "key", "'--key <COLUMN>'")?;
     refuse_number(alloc, options, "group", "'--group <COLUMN>'")?;
@@ -283,7 +286,7 @@ pub fn refuse_columns(alloc: Global, options: &ArgMatches<'_>) -> Result<(), Wor
 /// Returns the level of the versions that are kept.
 pub fn level_of(alloc: Global, options: &ArgMatches<'_>) -> Result<Stability, WordsFault>
     ensures ok { IfOk result (λ level. level_of (rows_in options.now) ≡ Some level) }
-    ensures faults { IfErr result (ComesOfWrong (level_of (rows_in options.now) ≡ None)) }
+    ensures faults { IfErr result (ComesOfWrong (HasWrongLevel (rows_in options.now))) }
 {
     let Some(word) = text_of(options, "min-stability") else {
         return Ok(Stability::Dev);
@@ -297,7 +300,7 @@ pub fn level_of(alloc: Global, options: &ArgMatches<'_>) -> Result<Stability, Wo
 /// Returns the scheme that is asked for, or else mixed.
 pub fn scheme_of(alloc: Global, options: &ArgMatches<'_>) -> Result<Scheme, WordsFault>
     ensures ok { IfOk result (λ scheme. scheme_of (rows_in options.now) ≡ Some scheme) }
-    ensures faults { IfErr result (ComesOfWrong (scheme_of (rows_in options.now) ≡ None)) }
+    ensures faults { IfErr result (ComesOfWrong (HasWrongScheme (rows_in options.now))) }
 {
     let Some(word) = text_of(options, "scheme") else {
         return Ok(Scheme::Mixed);
@@ -317,7 +320,7 @@ pub fn scheme_column_of<'w>(
     ensures column { IfOk result (λ column. column
         ≡ column_of (codes "scheme-column") separators.entry (rows_in options.now)) }
     ensures one { IfOk result (λ _. has_two_schemes (rows_in options.now) ≡ false) }
-    ensures faults { IfErr result (ComesOfWrong (has_two_schemes (rows_in options.now) ≡ true)) }
+    ensures faults { IfErr result (ComesOfWrong (λ _. has_two_schemes (rows_in options.now) ≡ true)) }
 {
     if has_two_schemes(options) {
         let what =
@@ -342,7 +345,7 @@ pub fn invalid_of(
     options: &ArgMatches<'_>,
 ) -> Result<Invalid, WordsFault>
     ensures ok { IfOk result (λ invalid. invalid_of command (rows_in options.now) ≡ Some invalid) }
-    ensures faults { IfErr result (ComesOfWrong (invalid_of command (rows_in options.now) ≡ None)) }
+    ensures faults { IfErr result (ComesOfWrong (HasWrongInvalid command (rows_in options.now))) }
 {
     let asked = invalid_word(alloc, command, options)?;
     match invalid_asked(
@@ -365,7 +368,8 @@ fn invalid_word(
     options: &ArgMatches<'_>,
 ) -> Result<Option<Invalid>, WordsFault>
     ensures ok { IfOk result (λ asked. invalid_word command (rows_in options.now) ≡ Some asked) }
-    ensures faults { IfErr result (ComesOfWrong (invalid_word command (rows_in options.now) ≡ None)) }
+    ensures faults { IfErr result (ComesOfWrong (λ fault. (invalid_word command (rows_in options.now) ≡ None)
+        × Quotes (word_of (codes "invalid") (rows_in options.now)) fault)) }
 {
     let Some(word) = text_of(options, "invalid") else {
         return Ok(None);

@@ -3,9 +3,10 @@
 ghost use Rattle.std.specs.Prelude.{map, string_bytes, IfErr, IfOk};
 ghost use Rattle.clap.specs.Words.{kind_of};
 ghost use Rattle.version_words.specs.Words.{ComesOfWords, ComesOfWrong, IsMistake, Means, Shows};
+ghost use Rattle.version_words.specs.Wrong.{HasText};
 
 use crate::faults::WordsFault;
-use crate::grammar::program;
+use crate::grammar::{ABOUT, program};
 use crate::near::{similar, with_tip, without_tip};
 use crate::table::NAMES;
 use crate::task::task_of;
@@ -30,19 +31,33 @@ pub fn read_words<'w>(alloc: Global, words: &'w [String]) -> Result<Task<'w>, Wo
 // Returns what a parse without matches asks for: a text, if the words ask for help or the version.
 fn answer_to<'w>(alloc: Global, error: &Error, words: &[String]) -> Result<Task<'w>, WordsFault>
     ensures task { IfOk result (Shows (kind_of error.now)) }
-    ensures faults { IfErr result (ComesOfWrong (IsMistake (kind_of error.now))) }
+    ensures faults { IfErr result (ComesOfWrong (λ _. IsMistake (kind_of error.now))) }
 {
     match error.kind() {
         ErrorKind::DisplayHelp | ErrorKind::DisplayVersion => {
-            Ok(Task::Say(format!(in alloc; "{error}")?))
+            Ok(Task::Say(text_shown(alloc, error)?))
         }
         ErrorKind::OutOfMemory => Err(WordsFault::Memory),
         kind => Err(WordsFault::Usage(what_is_wrong(alloc, kind, words)?)),
     }
 }
 
+// Returns the text of help or of the version, as the error prints it, and never an empty one.
+fn text_shown(alloc: Global, error: &Error) -> Result<String, AllocError>
+    ensures { IfOk result (λ text. HasText (string_bytes text)) }
+{
+    let text = format!(in alloc; "{error}")?;
+    if text.is_empty() {
+        [ABOUT, "\n"].concat(alloc)
+    } else {
+        Ok(text)
+    }
+}
+
 // Returns what is wrong with words, and which were meant.
-fn what_is_wrong(alloc: Global, kind: ErrorKind, words: &[String]) -> Result<String, AllocError> {
+fn what_is_wrong(alloc: Global, kind: ErrorKind, words: &[String]) -> Result<String, AllocError>
+    ensures { IfOk result (λ text. HasText (string_bytes text)) }
+{
     let text = text_of(alloc, kind, words)?;
     match kind {
         ErrorKind::InvalidSubcommand => meant_command(alloc, text, words),
@@ -52,7 +67,9 @@ fn what_is_wrong(alloc: Global, kind: ErrorKind, words: &[String]) -> Result<Str
 }
 
 // Returns the text of an error of this kind. Since errors hold words whole, it is that of the words as they are quoted.
-fn text_of(alloc: Global, kind: ErrorKind, words: &[String]) -> Result<String, AllocError> {
+fn text_of(alloc: Global, kind: ErrorKind, words: &[String]) -> Result<String, AllocError>
+    ensures { IfOk result (λ text. HasText (string_bytes text)) }
+{
     let mut shown = Vec::with_capacity(alloc, words.len())?;
     for word in words {
         shown.push(quoted(alloc, word.as_bytes())?)?;
@@ -61,33 +78,43 @@ fn text_of(alloc: Global, kind: ErrorKind, words: &[String]) -> Result<String, A
 }
 
 // Returns the text of the error of these words, if it is of this kind.
-fn text_of_parse(alloc: Global, kind: ErrorKind, words: &[String]) -> Result<String, AllocError> {
+fn text_of_parse(alloc: Global, kind: ErrorKind, words: &[String]) -> Result<String, AllocError>
+    ensures { IfOk result (λ text. HasText (string_bytes text)) }
+{
     match program(alloc)?.try_get_matches_from(words) {
         Err(error) => text_of_error(alloc, kind, &error),
         Ok(_matches) => text_of_kind(alloc, kind),
     }
 }
 
-// Returns the text of an error, if it is of this kind.
-fn text_of_error(alloc: Global, kind: ErrorKind, error: &Error) -> Result<String, AllocError> {
+// Returns the text of an error, if it is of this kind, and never an empty one.
+fn text_of_error(alloc: Global, kind: ErrorKind, error: &Error) -> Result<String, AllocError>
+    ensures { IfOk result (λ text. HasText (string_bytes text)) }
+{
     let found = error.kind();
     if found == ErrorKind::OutOfMemory {
-        Err(AllocError)
-    } else if found == kind {
-        format!(in alloc; "{error}")
+        return Err(AllocError);
+    }
+    let text = format!(in alloc; "{error}")?;
+    if found == kind && !text.is_empty() {
+        Ok(text)
     } else {
         text_of_kind(alloc, kind)
     }
 }
 
 // Returns a text that quotes nothing.
-fn text_of_kind(alloc: Global, kind: ErrorKind) -> Result<String, AllocError> {
+fn text_of_kind(alloc: Global, kind: ErrorKind) -> Result<String, AllocError>
+    ensures { IfOk result (λ text. HasText (string_bytes text)) }
+{
     let what = kind.as_str().unwrap_or("the words are no command");
-    format!(in alloc; "error: {what}{MORE}")
+    ["error: ", what, MORE].concat(alloc)
 }
 
 // Adds to the text of a fault which command was meant.
-fn meant_command(alloc: Global, text: String, words: &[String]) -> Result<String, AllocError> {
+fn meant_command(alloc: Global, text: String, words: &[String]) -> Result<String, AllocError>
+    ensures { HasText (string_bytes text) → IfOk result (λ made. HasText (string_bytes made)) }
+{
     let [word, ..] = words else {
         return Ok(text);
     };
@@ -95,5 +122,5 @@ fn meant_command(alloc: Global, text: String, words: &[String]) -> Result<String
         "match" => Some("filter"),
         word => similar(alloc, word, &NAMES)?,
     };
-    with_tip(alloc, text, "\n\nUsage:", "subcommand", name)
+    with_tip(alloc, text, name)
 }

@@ -1,30 +1,32 @@
 //! The faults of words that `clap` lets through.
 
-ghost use Rattle.std.specs.Prelude.{⊤};
+ghost use Rattle.std.specs.Prelude.{◌≡◌, ◌++◌, codes, string_bytes, IfOk, MatchResult};
 ghost use Rattle.version_words.specs.Words.{ComesOfWrong};
+ghost use Rattle.version_words.specs.Wrong.{in_quotes, wrong_text, Holds, Quotes, Says};
 
 use crate::faults::WordsFault;
 use crate::named::Verb;
-use crate::near::{similar, with_tip};
+use crate::near::similar;
 use std::alloc::{AllocError, Global};
 use version_commands::quoted;
+use version_schemes::Scheme;
 
 /// How the text of wrong words ends.
 pub const MORE: &str = "\n\nFor more information, try '--help'.\n";
 
 /// Returns the fault of words with which this is wrong.
 pub fn wrong(alloc: Global, what: &str) -> WordsFault
-    ensures { ComesOfWrong ⊤ result }
+    ensures { ComesOfWrong (Says (wrong_text what.now)) result }
 {
-    fault_of(format!(in alloc; "error: {what}{MORE}"))
+    fault_of(["error: ", what, MORE].concat(alloc))
 }
 
 /// Returns the fault of a word of `test` that is no operator.
 pub fn wrong_operator(alloc: Global, word: &str) -> WordsFault
-    ensures { ComesOfWrong ⊤ result }
+    ensures { ComesOfWrong (Quotes word.now) result }
 {
     let argument = "'<OP>'\n  [possible values: <, <=, =, >=, >, lt, le, eq, ge, gt]";
-    fault_of(text_of_value(alloc, word, argument, operator_meant(word)))
+    wrong_value(alloc, word, argument, operator_meant(word))
 }
 
 // Returns the operator that a word of another language stands for.
@@ -41,7 +43,7 @@ fn operator_meant(word: &str) -> Option<&'static str> {
 
 /// Returns the fault of a word of `next` that is no place.
 pub fn wrong_place(alloc: Global, word: &str) -> WordsFault
-    ensures { ComesOfWrong ⊤ result }
+    ensures { ComesOfWrong (Quotes word.now) result }
 {
     let argument =
         "'<PLACE>'\n  [possible values: major, minor, patch, release, pre, a number from 0]";
@@ -55,7 +57,7 @@ pub fn wrong_place(alloc: Global, word: &str) -> WordsFault
 
 /// Returns the fault of a word that is no level of stability.
 pub fn wrong_stability(alloc: Global, word: &str) -> WordsFault
-    ensures { ComesOfWrong ⊤ result }
+    ensures { ComesOfWrong (Quotes word.now) result }
 {
     let argument = "'--min-stability <LEVEL>'\n  [possible values: dev, alpha, beta, rc, stable]";
     wrong_name(
@@ -68,41 +70,59 @@ pub fn wrong_stability(alloc: Global, word: &str) -> WordsFault
 
 /// Returns the fault of a word that is no scheme.
 pub fn wrong_scheme(alloc: Global, word: &str) -> WordsFault
-    ensures { ComesOfWrong ⊤ result }
+    ensures { ComesOfWrong (Quotes word.now) result }
 {
-    let argument =
-        "'--scheme <NAME>'\n  [possible values: mixed, deb (debian, ubuntu), rpm (redhat, fedora, suse), pypi (python, pip, pep440), semver (npm, cargo, crates.io), gem (rubygems, ruby)]";
-    wrong_name(
-        alloc,
-        word,
-        argument,
-        &[
-            "mixed",
-            "deb",
-            "rpm",
-            "pypi",
-            "semver",
-            "gem",
-            "debian",
-            "ubuntu",
-            "redhat",
-            "fedora",
-            "suse",
-            "python",
-            "pip",
-            "pep440",
-            "npm",
-            "cargo",
-            "crates.io",
-            "rubygems",
-            "ruby",
-        ],
-    )
+    fault_of(text_of_scheme(alloc, word))
+}
+
+// Returns the text of that fault.
+fn text_of_scheme(alloc: Global, word: &str) -> Result<String, AllocError>
+    ensures { IfOk result (λ text. Holds (in_quotes word.now) (string_bytes text)) }
+{
+    let listed = listed_schemes(alloc)?;
+    let argument = [
+        "'--scheme <NAME>'\n  [possible values: ",
+        listed.as_str(),
+        "]",
+    ]
+    .concat(alloc)?;
+    let names = names_of_schemes(alloc)?;
+    text_of_name(alloc, word, argument.as_str(), names.as_slice())
+}
+
+// Returns the names of the schemes, each with what else people call it.
+fn listed_schemes(alloc: Global) -> Result<String, AllocError> {
+    let mut listed = String::new(alloc);
+    for scheme in Scheme::all() {
+        if !listed.is_empty() {
+            listed.push_str(", ")?;
+        }
+        listed.push_str(scheme.name())?;
+        if !scheme.aliases().is_empty() {
+            let aliases = scheme.aliases().join(alloc, ", ")?;
+            listed.push_str(" (")?;
+            listed.push_str(aliases.as_str())?;
+            listed.push_str(")")?;
+        }
+    }
+    Ok(listed)
+}
+
+// Returns the names of the schemes, and then what else people call them.
+fn names_of_schemes(alloc: Global) -> Result<Vec<&'static str>, AllocError> {
+    let mut names = Vec::new(alloc);
+    for scheme in Scheme::all() {
+        names.push(scheme.name())?;
+    }
+    for scheme in Scheme::all() {
+        names.extend_from_slice(scheme.aliases())?;
+    }
+    Ok(names)
 }
 
 /// Returns the fault of a word that doesn't name what a command can do with lines without a version.
 pub fn wrong_invalid(alloc: Global, command: Verb, word: &str) -> WordsFault
-    ensures { ComesOfWrong ⊤ result }
+    ensures { ComesOfWrong (Quotes word.now) result }
 {
     if matches!(command, Verb::Sort | Verb::Filter) {
         let argument = "'--invalid <WHAT>'\n  [possible values: fail, skip, first, last]";
@@ -115,34 +135,36 @@ pub fn wrong_invalid(alloc: Global, command: Verb, word: &str) -> WordsFault
 
 /// Returns the fault of a word that names no bytes between columns.
 pub fn wrong_separators(alloc: Global, word: &str) -> WordsFault
-    ensures { ComesOfWrong ⊤ result }
+    ensures { ComesOfWrong (Quotes word.now) result }
 {
     let argument = match word {
         "" =>
             "'--field-separator <SEP>': it is ASCII, \\t or \\0; an equals sign is written -t '='",
         _ => "'--field-separator <SEP>': it is ASCII, \\t or \\0",
     };
-    fault_of(text_of_value(alloc, word, argument, None))
+    wrong_value(alloc, word, argument, None)
 }
 
 /// Returns the fault of a word that names no byte between the fields of CSV.
 pub fn wrong_csv_separator(alloc: Global, word: &str) -> WordsFault
-    ensures { ComesOfWrong ⊤ result }
+    ensures { ComesOfWrong (Quotes word.now) result }
 {
     let argument =
         "'--field-separator <SEP>': with --csv it is one byte, but no quote and no line's end";
-    fault_of(text_of_value(alloc, word, argument, None))
+    wrong_value(alloc, word, argument, None)
 }
 
 /// Returns the fault of a word of an option for a column that is the number of none.
 pub fn wrong_column(alloc: Global, word: &str, option: &str) -> WordsFault
-    ensures { ComesOfWrong ⊤ result }
+    ensures { ComesOfWrong (Quotes word.now) result }
 {
     fault_of(text_of_column(alloc, word, option))
 }
 
 // Returns the text of that fault.
-fn text_of_column(alloc: Global, word: &str, option: &str) -> Result<String, AllocError> {
+fn text_of_column(alloc: Global, word: &str, option: &str) -> Result<String, AllocError>
+    ensures { IfOk result (λ text. Holds (in_quotes word.now) (string_bytes text)) }
+{
     let argument = format!(in alloc;
         "{option}: it is a number from 1 to 18446744073709551615, or a name"
     )?;
@@ -151,7 +173,7 @@ fn text_of_column(alloc: Global, word: &str, option: &str) -> Result<String, All
 
 // Returns the fault of a word that is none of these names.
 fn wrong_name(alloc: Global, word: &str, argument: &str, names: &[&'static str]) -> WordsFault
-    ensures { ComesOfWrong ⊤ result }
+    ensures { ComesOfWrong (Quotes word.now) result }
 {
     fault_of(text_of_name(alloc, word, argument, names))
 }
@@ -162,27 +184,56 @@ fn text_of_name(
     word: &str,
     argument: &str,
     names: &[&'static str],
-) -> Result<String, AllocError> {
+) -> Result<String, AllocError>
+    ensures { IfOk result (λ text. Holds (in_quotes word.now) (string_bytes text)) }
+{
     let meant = similar(alloc, word, names)?;
     text_of_value(alloc, word, argument, meant)
 }
 
-// Returns the text for a word that an argument can't take: the argument's name and values, and which of them may be
+// Returns the fault of a word that an argument can't take: the argument's name and values, and which of them may be
 // meant.
+fn wrong_value(alloc: Global, word: &str, argument: &str, meant: Option<&'static str>) -> WordsFault
+    ensures { ComesOfWrong (Quotes word.now) result }
+{
+    fault_of(text_of_value(alloc, word, argument, meant))
+}
+
+// Returns the text of that fault.
 fn text_of_value(
     alloc: Global,
     word: &str,
     argument: &str,
     meant: Option<&'static str>,
-) -> Result<String, AllocError> {
-    let word = quoted(alloc, word.as_bytes())?;
-    let text = format!(in alloc; "error: invalid value '{word}' for {argument}{MORE}")?;
-    with_tip(alloc, text, MORE, "value", meant)
+) -> Result<String, AllocError>
+    ensures { IfOk result (λ text. Holds (in_quotes word.now) (string_bytes text)) }
+{
+    let shown = quoted(alloc, word.as_bytes())?;
+    text_of_shown(alloc, shown.as_str(), argument, meant)
+}
+
+// Returns that text for a word as a message shows it.
+fn text_of_shown<'t>(
+    alloc: Global,
+    shown: &'t str,
+    argument: &'t str,
+    meant: Option<&'t str>,
+) -> Result<String, AllocError>
+    ensures { IfOk result (λ text. Holds (codes "'" ++ (shown.now ++ codes "'")) (string_bytes text)) }
+{
+    let (start, end) = ("error: invalid value '", "' for ");
+    match meant {
+        Some(name) => {
+            let tip = "\n\n  tip: a similar value exists: '";
+            [start, shown, end, argument, tip, name, "'", MORE].concat(alloc)
+        }
+        None => [start, shown, end, argument, MORE].concat(alloc),
+    }
 }
 
 // Returns the fault of wrong words by its text, if there is memory for that.
 fn fault_of(text: Result<String, AllocError>) -> WordsFault
-    ensures { ComesOfWrong ⊤ result }
+    ensures { MatchResult text (λ text. result ≡ WordsFault.Usage text) (λ _. result ≡ WordsFault.Memory) }
 {
     match text {
         Ok(text) => WordsFault::Usage(text),

@@ -10,9 +10,8 @@ returns-in-Ok-clause-task c = IfOk-weaker c.task_of.result _ _
 
 pub returns-in-Ok-clause-faults : goal.returns-in-Ok-clause-faults
 returns-in-Ok-clause-faults c = IfErr-weaker c.task_of.result _ _
-    (λ fault. wrong_so fault _ _ (rows-wrong (map string_bytes c.args.words.now) _
-    c.in_ok-program.ensures c.in-Ok.matches c.in-Ok.ensures.kinds c.in-Ok.ensures.matches))
-    c.task_of.ensures.faults
+    (wrong_so _ _ (rows-wrong (map string_bytes c.args.words.now) _ c.in_ok-program.ensures c.in-Ok.matches
+    c.in-Ok.ensures.kinds c.in-Ok.ensures.matches)) c.task_of.ensures.faults
 
 pub returns-in-Err-clause-task : goal.returns-in-Err-clause-task
 returns-in-Err-clause-task c = IfOk-weaker c.answer_to.result _ _
@@ -21,5 +20,5 @@ returns-in-Err-clause-task c = IfOk-weaker c.answer_to.result _ _
 
 pub returns-in-Err-clause-faults : goal.returns-in-Err-clause-faults
 returns-in-Err-clause-faults c = IfErr-weaker c.answer_to.result _ _
-    (λ fault. wrong_so fault _ _ (words-wrong (map string_bytes c.args.words.now) _
-    c.in_ok-program.ensures c.in-Err.error c.in-Err.ensures.kinds)) c.answer_to.ensures.faults
+    (wrong_so _ _ (words-wrong (map string_bytes c.args.words.now) _ c.in_ok-program.ensures c.in-Err.error
+    c.in-Err.ensures.kinds)) c.answer_to.ensures.faults
