@@ -39,7 +39,7 @@ from lists import LongLists
 
 HERE = os.path.dirname(os.path.abspath(__file__))
 sys.path.insert(0, os.path.join(HERE, "..", "..", "tests", "support"))
-from schemes import NOT_IN_SETS, OPERATORS, Process, system_of  # noqa: E402
+from schemes import OPERATORS, Process, system_of  # noqa: E402
 
 try:
     import pyarrow
@@ -339,7 +339,7 @@ class Systems(LongLists):
         """Rows of a system, and ranges, each by its package and its alternatives of operators and versions."""
         system = self.systems[name]
         texts = self.drawn(chosen, system, 400)
-        ends = [text for text, reads in zip(texts, system.reads(texts)) if reads and not NOT_IN_SETS.search(text)]
+        ends = [text for text, reads in zip(texts, system.reads(texts)) if reads and system.may_stand(text)]
         rows = [(name, chosen.choice(packages), chosen.choice(texts)) for _ in range(self.COUNT)]
         shapes = [((">=", "<"),), ((">=", "<"),), ((">=", "<="),), (("<",),), (("=",),), ((">",), ("<",))]
         ranges = [

@@ -20,7 +20,7 @@ from pathlib import Path
 sys.dont_write_bytecode = True
 sys.path.insert(0, str(Path(__file__).resolve().parent))
 from library import OK, Library, coded  # noqa: E402
-from schemes import NOT_IN_SETS, SYSTEMS, Missing, system_of  # noqa: E402
+from schemes import NAMES, Missing, system_of  # noqa: E402
 from sets import Model, Wrong, drawn_set, made_versions  # noqa: E402
 
 EACH, POOL = 3, 120
@@ -104,12 +104,7 @@ class SchemeModel(Model):
         return self.orders[a, b]
 
     def may_follow(self, operator, text, of_parts):
-        return operator in self.operators and not of_parts and self.is_version(text) and not self.is_slip(text)
-
-    def is_slip(self, text):
-        """Whether a version is meant as a word, a pattern or a tag; none is where the v changes nothing."""
-        ties = text[:1] in ("v", "V") and self.is_version(text[1:]) and self.order(text, text[1:]) == 0
-        return NOT_IN_SETS.search(text) is not None and not ties
+        return operator in self.operators and not of_parts and self.is_version(text) and self.system.may_stand(text)
 
     def holds(self, operator, of_parts, text, version):
         return operator is None or self.order(version, text) in self.operators[operator]
@@ -191,7 +186,7 @@ class Drawing:
 
 
 def main(count, *words):
-    c, names = C(os.environ["C_LIBRARY"]), ("mixed", *SYSTEMS)
+    c, names = C(os.environ["C_LIBRARY"]), [*NAMES]
     spoils = SPOILS + SURROGATES if "surrogates" in words else SPOILS
     for name in names:
         try:

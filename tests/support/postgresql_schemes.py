@@ -18,15 +18,14 @@ sys.dont_write_bytecode = True
 sys.path.insert(0, str(Path(__file__).resolve().parent))
 from checks import check, conclude  # noqa: E402
 from library import Library  # noqa: E402
-from schemes import ASKS_FOR_PARTS, SYSTEMS, Missing, chains_of, sets_of, system_of  # noqa: E402
+from schemes import ASKS_FOR_PARTS, NAMES, SYSTEMS, Missing, System, chains_of, sets_of, system_of  # noqa: E402
 from sets import Model, worked_rows, wrong_rows  # noqa: E402
 
 COUNT, PSQL = int(sys.argv[1]), sys.argv[2:]
-NUMBERS = {name: number for number, name in enumerate(("mixed", "deb", "rpm", "pypi", "semver", "gem"), 1)}
+NUMBERS = {name: number for number, name in enumerate(NAMES, 1)}
 TYPES = {name: "version" if name == "mixed" else f"{name}_version" for name in NUMBERS}
 OPERATORS = {"=": (0,), "==": (0,), "!=": (-1, 1), "<": (-1,), "<=": (-1, 0), ">": (1,), ">=": (0, 1)}
 SETS = 20  # of which each is asked of a whole column
-NOT_IN_SETS = re.compile(r"[ \t|,]|\.\*$")
 
 
 class C(Library):
@@ -56,7 +55,7 @@ class Mixed:
         self.c = C(NUMBERS["mixed"])
         self.model = Model(self.c.kind, self.c.compare)
 
-    draw, neighbour = SYSTEMS["deb"].draw, SYSTEMS["deb"].neighbour
+    draw, neighbour, may_stand = SYSTEMS["deb"].draw, SYSTEMS["deb"].neighbour, System.may_stand
 
     def reads(self, texts):
         return [self.c.kind(text) is not None for text in texts]
@@ -132,7 +131,7 @@ class Trial:
         pairs = self.rows(count)
         texts = [text for pair in pairs for text in pair]
         reads = dict(zip(texts, self.system.reads(texts)))
-        members = [text for text in reads if reads[text] and not NOT_IN_SETS.search(text) and self.c.form("=" + text)]
+        members = [text for text in reads if reads[text] and self.system.may_stand(text)]
         sets = [(self.drawn_set(members), self.drawn_set(members)) for _ in pairs]
         answers = self.answers(pairs, sets)
         both = [place for place, (a, b) in enumerate(pairs) if reads[a] and reads[b]]
@@ -199,7 +198,7 @@ class Trial:
     def column(self, reads):
         """A column of the type: its order, its ends, its different values, and what sets find by an index."""
         texts = [text for text in reads if reads[text]][:2000]
-        members = [text for text in texts if not NOT_IN_SETS.search(text) and self.c.form("=" + text)]
+        members = [text for text in texts if self.system.may_stand(text)]
         sets = [self.drawn_set(members) for _ in range(SETS)]
         with tempfile.NamedTemporaryFile("w", suffix=".rows", encoding="utf-8", newline="") as file:
             file.write(copied((n, text) for n, text in enumerate(texts)))

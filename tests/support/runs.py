@@ -5,7 +5,7 @@ A run has FILES in its folder, and a file `full` that takes no byte. docs/VERS.m
 import os
 from typing import NamedTuple
 
-from schemes import SYSTEMS
+from schemes import LISTED, NAMES
 
 
 class Run(NamedTuple):
@@ -78,12 +78,9 @@ Options:
 Status: 0 for an answer, even an empty one; 1 for a text that is no version or set, and for a no of
 test, implies and meets; 2 for wrong words; 3 if there is no memory, or a file can't be read or written.
 """
-SCHEMES = f"[possible values: {', '.join(['mixed', *SYSTEMS])}]"
+SCHEMES = f"[possible values: {', '.join(NAMES)}]"
 # What is said of a name that is none.
-NAMES_OF_SCHEMES = (
-    "[possible values: mixed, deb (debian, ubuntu), rpm (redhat, fedora, suse), pypi (python, pip, pep440), "
-    "semver (npm, cargo, crates.io), gem (rubygems, ruby)]"
-)
+NAMES_OF_SCHEMES = f"[possible values: {LISTED}]"
 HELP_OF_KEY = f"""\
 Write sort keys in hexadecimal, whose order as bytes is that of the versions
 

@@ -1,5 +1,9 @@
 """The systems whose versions the schemes of the library have: which texts each reads, and how it compares two. Where a
 scheme is added, its system is one more class here. And the tables and sentences of docs/SCHEMES.md.
+
+    schemes.py names | others
+
+writes the names of the schemes, or what else each is called, for the scripts in bash.
 """
 import importlib
 import json
@@ -7,33 +11,37 @@ import os
 import re
 import shutil
 import subprocess
+import sys
 import tempfile
 from pathlib import Path
 
 from checks import TOP
+from sets import SAID
 
 PAGE = (TOP / "docs/SCHEMES.md").read_text()
 SPAN = re.compile("`([^`]+)`")
+# The schemes in the order of their numbers, each with the other names that people know its system by.
+NAMES = {
+    name: SPAN.findall(others)
+    for name, others in re.findall(r"^\| `(\w+)` \| ([^|]*)\|(?: [^|]* \|){4} \d*n(?: \+ \d+)? \|$", PAGE, re.M)
+}
+# How the program `versions` lists them, and the scheme of each name, in lower case.
+LISTED = ", ".join(f"{name} ({', '.join(others)})" if others else name for name, others in NAMES.items())
+SCHEME_OF = {each: name for name, others in NAMES.items() for each in (name, *others)}
 # What is said of a member that asks for parts.
 (ASKS_FOR_PARTS,) = re.findall(r"^\| each of these \| `~[^`]*` \| \d+ \| (.*) \|$", PAGE, re.M)
 # Which orders of a version and the member's version each operator has.
 OPERATORS = {"=": (0,), "==": (0,), "!=": (-1, 1), "<": (-1,), "<=": (-1, 0), ">": (1,), ">=": (0, 1)}
-# What a text has that can't be a version in a set, or is refused there as a slip: no digit, v first, or a part x.
-NOT_IN_SETS = re.compile(r"[ \t|,]|\.\*$|^[^0-9]*$|^[vV][0-9]|^([0-9]*:)?([A-Za-z0-9]*\.)*[xX](?![A-Za-z0-9])")
-# Slips, with the place and the reason, and what is none though it has a v, an x or few digits.
-LETTER_V, PART_X, NO_DIGIT = 9, 10, 11
+# What a text has that can't be a version in a set as it stands: it ends there, or before `.*`.
+ENDS_IN_SETS = re.compile(r"[ \t|,]|\.\*$")
+# Slips, versions by which people mean others, by the row of docs/SETS.md that shows one: its number in versions.h, and
+# which texts are such.
 SLIPS = {
-    "deb": ((">=1.x", 2, PART_X), ("=1:1.2.X-1", 1, PART_X), (">= 2.x+dfsg-1", 3, PART_X)),
-    "rpm": ((">=1.x", 2, PART_X), ("<X.1", 1, PART_X), ("=latest", 1, NO_DIGIT), ("= .", 2, NO_DIGIT), (">=v1.2", 2, LETTER_V)),
-    "gem": ((">=1.x", 2, PART_X), ("<2.0.X", 1, PART_X)),
+    ">=v1.2": (9, re.compile("[vV][0-9]")),
+    ">=1.x": (10, re.compile("([0-9]+:)?([A-Za-z0-9]*[.])*[xX](?![A-Za-z0-9])")),
+    ">=latest": (11, re.compile("[^0-9]*$")),
 }
-NO_SLIPS = {
-    "deb": ("=1.2-x", "=1.2+x", "=1.2~x.1", "=1.x1", "=1.xx", "=1x.2", "=1:2:3.x"),
-    "rpm": ("=x1", "=1.2-x", "=1_x", "=1.vx", "=v.1", "=1^x"),
-    "pypi": ("=v1.2", ">=V1.2"),
-    "semver": ("=1.2.3-x", "=1.2.3-rc.x", "=1.2.3+v1.x"),
-    "gem": ("=1.x1", "=1.2x", "=1-x"),
-}
+OF_NONE = "=>1"  # the row of what is no version
 # Shapes of `[epoch:]version[-release]`: N is a number, S a sign, W a word, and E an epoch.
 OF_THREE_PARTS = "N NSN N.NSN NWN N.NSW WSN N.NSWSN E:NSN N.N-N NSN-NWN N.NWN-SWN E:NSNWN-NSN NSNWNSN-WSN N-N-N".split()
 
@@ -110,6 +118,11 @@ class System:
     rows, no_versions = (), ()
     # What the system reads and the scheme doesn't, and the other way round.
     only_system, only_scheme = (), ()
+    # Whether a v before a version changes nothing, and so is no slip.
+    ignores_v = False
+    # Members of sets with a v, an x or no digit, by the row of docs/SETS.md whose sentence is said of them, or with the
+    # member whose set they are; and members that are no slips though they have a v or an x.
+    members, no_slips = {}, ()
 
     def draw(self, random):
         words = self.words
@@ -143,6 +156,17 @@ class System:
         """What else holds its answers: names, whether they hold, and what is wrong."""
         return ()
 
+    @classmethod
+    def slips(cls, text):
+        """The rows of SLIPS that a version is like. Of more than one the pages don't say which is told."""
+        found = [row for row, (_, form) in SLIPS.items() if form.match(text)]
+        return [row for row in found if row != ">=v1.2" or not cls.ignores_v]
+
+    @classmethod
+    def may_stand(cls, text):
+        """Whether a version may follow an operator."""
+        return not ENDS_IN_SETS.search(text) and not cls.slips(text)
+
 
 class Deb(System):
     """Debian's order by libapt-pkg, and its texts by the rule of dpkg's parseversion, which is held against dpkg."""
@@ -165,6 +189,11 @@ class Deb(System):
         "1\0",
     )
     only_system = (" 1.0", "1.0 ", "\t1.0", "+1:2", " +0:2")
+    members = {
+        **dict.fromkeys((">=v1.2", "=V1", ">=latest", "<x.1"), OF_NONE),
+        **dict.fromkeys((">=1.x", "=1:1.2.X-1", ">= 2.x+dfsg-1", "<<1.x", "!=1.x.2"), ">=1.x"),
+    }
+    no_slips = ("=1.2-x", "=1.2+x", "=1.2~x.1", "=1.x1", "=1.xx", "=1x.2", "=1:2:3.x")
     upstream, revision = re.compile("[0-9][A-Za-z0-9.+~:-]*"), re.compile("[A-Za-z0-9.+~]+")
 
     def __init__(self):
@@ -225,6 +254,12 @@ class Rpm(System):
         "", "-", "-1", "1-", ":1", "1:", "a:1", "1:2:3", "1-2-3", "1 0", "1/0", "4294967296:1", "1é", "1%0", "1\0",
     )
     only_system, only_scheme = ("1%0", "1{0", "1}0-%"), ("1..0", "1-a..")
+    members = {
+        **dict.fromkeys((">=v1.2", "= V1-2", "!=v1"), ">=v1.2"),
+        **dict.fromkeys((">=1.x", "<X.1", "=1:2.x-1"), ">=1.x"),
+        **dict.fromkeys((">=latest", "= .", "!=a_b-c"), ">=latest"),
+    }
+    no_slips = ("=x1", "=1.2-x", "=1_x", "=1.vx", "=v.1", "=1^x")
     part = re.compile("[A-Za-z0-9._+~^]+")
 
     def __init__(self):
@@ -294,6 +329,12 @@ class Pypi(System):
     )
     no_versions = ("", " ", "a", "1.", "1..0", "1.0+", "1.0-", "1.0-a-b", "1.0x", "1!", "1.0+a..b", "1.0\0", "é")
     only_system = ("1.0.poſt1", "1.0\xa0")
+    ignores_v = True
+    members = {
+        **dict.fromkeys((">=1.x", "=latest", "!=v", "<1.2.X", ">=vv1.2"), OF_NONE),
+        **{"=v1.0": "=1.0", ">=v1.2": ">=1.2", "!=V1.0a1": "!=1.0a1", "<v1!2": "<1!2", ">= v1": ">=1.0"},
+    }
+    no_slips = ("=v1.2", ">=V1.2", "=1.2+x", "=1+v1.x")
 
     def __init__(self):
         found = importlib.import_module("packaging.version")
@@ -349,6 +390,8 @@ class SemVer(System):
     )
     only_system = ("v1.0.0",)
     only_scheme = ("9007199254740992.0.0", "1.0.0-" + "a" * 251)
+    members = dict.fromkeys((">=v1.2.3", "=V1.2.3", ">=1.2.x", "<1.X", "=latest", "!=x.1.2"), OF_NONE)
+    no_slips = ("=1.2.3-x", "=1.2.3-rc.x", "=1.2.3+v1.x")
     program = """
         const semver = require("semver");
         const answer = (it) => Array.isArray(it) ? semver.compare(...it) : semver.valid(it) !== null;
@@ -390,6 +433,11 @@ class Gem(System):
     )
     no_versions = ("a", "1.", ".1", "1..0", "1-", "1.0-.", "1_0", "1+0", "v1", "1é", "1\0")
     only_system = ("", " ")
+    members = {
+        **dict.fromkeys((">=v1.2", "=latest", "!=x.1"), OF_NONE),
+        **dict.fromkeys((">=1.x", "<2.0.X", "!=1.x.2", "=1.x-1"), ">=1.x"),
+    }
+    no_slips = ("=1.x1", "=1.2x", "=1-x")
     program = """
         require "json"
         $stdin.each_line do |line|
@@ -421,3 +469,8 @@ def system_of(name):
         return SYSTEMS[name]() if name in SYSTEMS else None
     except ImportError as error:
         raise Missing(f"{error} (Debian has it in the package {SYSTEMS[name].package})") from None
+
+
+if __name__ == "__main__":
+    others = (f"{each}:{name}" for each, name in SCHEME_OF.items() if each != name)
+    print({"names": ", ".join(NAMES), "others": " ".join(others)}[sys.argv[1]])

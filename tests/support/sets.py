@@ -118,3 +118,7 @@ def wrong_rows():
     """Texts of the page that are no sets, each with the place and the sentence that are told."""
     for text, place, sentence in rows_of_page("text | at | what is said"):
         yield text.strip("`"), int(place), sentence
+
+
+# What is said of those texts.
+SAID = {text: sentence for text, _, sentence in wrong_rows()}

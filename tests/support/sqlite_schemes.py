@@ -15,7 +15,7 @@ import tempfile
 from collections import Counter
 
 from checks import built_package, check, conclude, stop
-from schemes import NOT_IN_SETS, OPERATORS, SYSTEMS, Missing, system_of
+from schemes import ENDS_IN_SETS, OPERATORS, SYSTEMS, Missing, System, system_of
 from sets import DOUBLED, PIECE, SINGLE, Model, Wrong
 
 COUNT = int(sys.argv[2]) if len(sys.argv) > 2 else 100_000
@@ -29,7 +29,7 @@ MIXED = """0 0.1 1 1.0 0:1.0 1.2 01.2 1.2+x 1.2-1 1.2.0-rc.1 1.2.0 1.2rc1 1.2.3 
 class Mixed:
     """The scheme `mixed`, and its sets by their model. Kinds and order are asked of the package."""
 
-    name = "mixed"
+    name, slips = "mixed", System.slips
 
     def __init__(self, versions):
         self.versions, self.model = versions, Model(versions.kind, versions.compare)
@@ -65,7 +65,7 @@ class Ordered:
 
     def __init__(self, system):
         self.name, self.draw, self.neighbour = system.name, system.draw, system.neighbour
-        self.reads, self.compare, self.long = system.reads, system.compare, system.long
+        self.reads, self.compare, self.long, self.slips = system.reads, system.compare, system.long, system.slips
         self.operators = OPERATORS | ({"<<": (-1,), ">>": (1,)} if system.name == "deb" else {})
 
     def member(self, draw, text):
@@ -80,7 +80,7 @@ class Ordered:
             elif found[0] != ",":
                 sign = next(each for each in (*DOUBLED, *SINGLE) if found[0].startswith(each))
                 version = found[0][len(sign) :]
-                if sign not in self.operators or not self.known[version]:
+                if sign not in self.operators or not self.known[version] or self.slips(version):
                     raise Wrong(found.start() + len(sign))
                 alternatives[-1].append((sign, version))
         return alternatives
@@ -108,9 +108,11 @@ class Trial:
         texts = [*{*firsts, *seconds}]
         texts.sort()
         scheme.known = dict(zip(texts, scheme.reads(texts)))
-        may_stand = [text for text in texts if text and not NOT_IN_SETS.search(text)]
-        self.ends = [text for text in may_stand if scheme.known[text]]
-        self.no_ends = [text for text in may_stand if not scheme.known[text]]
+        parted = {False: [], True: []}
+        for text in texts:
+            if text and not ENDS_IN_SETS.search(text):
+                parted[scheme.known[text] and not scheme.slips(text)].append(text)
+        self.no_ends, self.ends = parted.values()
 
     def same(self, what, found, wanted, said):
         odd = [(*some, f"found {a!r}", f"wanted {b!r}") for a, b, some in zip(found, wanted, said) if a != b]

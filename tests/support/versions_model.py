@@ -12,6 +12,7 @@ from functools import cmp_to_key
 
 import versions
 from runs import REFUSED
+from schemes import LISTED, SCHEME_OF
 from tasks import stability_of_words, text_after_prefix, text_in_tag
 
 csv.field_size_limit(sys.maxsize)
@@ -23,16 +24,6 @@ PLACES = [*NUMBERS, "release", "pre"]
 # A member of a set, as it stands there.
 MEMBER = re.compile(r"\*|[=!<>~^]+[ \t]*[^ \t,|]+")
 SHOWN = 60
-SCHEME_NAMES = (
-    b"mixed, deb (debian, ubuntu), rpm (redhat, fedora, suse), pypi (python, pip, pep440), "
-    b"semver (npm, cargo, crates.io), gem (rubygems, ruby)"
-)
-# The scheme of each name, in lower case.
-NAMED = {
-    name: scheme
-    for scheme, aliases in re.findall(r"(\w+)(?: \(([^)]*)\))?", SCHEME_NAMES.decode())
-    for name in (scheme, *filter(None, aliases.split(", ")))
-}
 TAGS = b"versions: a version begins with v: with --tags the answer is another\n"
 ORDINALS = "first second third fourth fifth sixth seventh eighth ninth tenth".split()
 
@@ -92,7 +83,7 @@ class Run:
             raise WRONG
         self.command = command = words.pop(0)
         self.options, rest = parsed(command, words)
-        self.scheme = NAMED[self.options.get("scheme", "mixed").lower()]
+        self.scheme = SCHEME_OF[self.options.get("scheme", "mixed").lower()]
         return getattr(self, command)(*rest)
 
     # Lines.
@@ -263,7 +254,7 @@ class Run:
                 scheme = scheme_named(self.column(line, number(self.options["scheme-column"])))
             text, below = self.column(line, self.key_column(key)), b""
             if scheme is None:
-                said = shown(line) + b": no scheme is named, of " + SCHEME_NAMES
+                said = shown(line) + b": no scheme is named, of " + LISTED.encode()
             elif text is None:
                 said = shown(line) + b": no such column"
             else:
@@ -640,7 +631,7 @@ def are_right(command, options):
         and options.get("min-stability", "dev") in STABILITIES
         and options.get("invalid", "fail") in invalid
         and not ("invalid-to" in options and options.get("invalid", "skip") != "skip")
-        and options.get("scheme", "mixed").lower() in NAMED
+        and options.get("scheme", "mixed").lower() in SCHEME_OF
         and not ("tags" in options and "prefix" in options)
         and not ("explain" in options and "scheme" in options)
         and not ("scheme-column" in options and ("scheme" in options or "match" in options))
@@ -688,7 +679,7 @@ def csv_fields(record, separator, end):
 def scheme_named(column):
     """The scheme that a column names, or None."""
     text = readable(column)
-    return None if text is None else NAMED.get(text.lower())
+    return None if text is None else SCHEME_OF.get(text.lower())
 
 
 def begins_with_v(text):
