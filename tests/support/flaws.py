@@ -26,8 +26,7 @@ def place_of(is_version, text):
 def reason_at(scheme, text, place):
     before, at = text[:place][-1:].decode("latin-1"), text[place : place + 1].decode("latin-1")
     is_zero_led = scheme == "semver" and ZERO_LED.fullmatch(text[:place])
-    # Of deb and rpm alone: a hyphen of mixed may have a colon after it.
-    hyphen, after = text[:place].partition(b"-")[1:] if scheme in ("deb", "rpm") else (b"", b"")
+    hyphen, after = text[:place].partition(b"-")[1:] if ":" in MARKS[scheme] else (b"", b"")
     if at == "" and before not in AFTER:
         found = "a number with a leading zero" if is_zero_led else "a colon after the hyphen" if b":" in after else ""
         return found or ("an end too early" if before else "nothing")
