@@ -16,7 +16,7 @@ ghost use Rattle.versions_c.specs.Written.{IsWritten};
 use crate::schemes::write_text;
 use crate::status::{NO_ROOM, NO_SCHEME, NO_SET, NO_VERSION, NO_WRONG_MEMBER, OK};
 use version_schemes::{ByKey, Deb, Gem, Pypi, Rpm, Scheme, SemVer, VersioningRef, by_scheme};
-use version_sets::{Fault, Reason, find_fault, read_set, set_room, write_tied};
+use version_sets::{Fault, Reason, Slip, find_fault, read_set, set_room, write_tied};
 use version_texts::Keyed;
 
 /// A member has to come.
