@@ -90,7 +90,8 @@ fn put_key_in(scheme: Scheme, text: &[u8], key: &mut [u8], key_len: &mut usize) 
     by_scheme!(scheme, put_key(text, key, key_len))
 }
 
-// Writes the sort key of a version.
+// Writes the sort key of a version. Never inlined, so that the call for mixed needs no room on the stack for the others.
+#[inline(never)]
 fn put_key<'t, V: Keyed<'t>>(text: &'t [u8], key: &mut [u8], key_len: &mut usize) -> i32
     ensures status { result ≡ key_status (key_by V.read_as text.now) (length key.old) }
     ensures key { result ≡ OK → IfSome (key_by V.read_as text.now)
