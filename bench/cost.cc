@@ -28,11 +28,9 @@ using Call = long (*)(const std::string &, const std::string &);
 static long kind(const std::string &a, const std::string &) { return versions_kind(a.data(), a.size()); }
 
 static long sort_key(const std::string &a, const std::string &) {
-  static std::vector<uint8_t> key;
-  size_t bound = 0, length = 0;
-  versions_key_bound(VERSIONS_MIXED, a.size(), &bound);
-  if (key.size() < bound) key.resize(bound);
-  versions_key(VERSIONS_MIXED, a.data(), a.size(), key.data(), bound, &length);
+  static uint8_t key[1 << 16];
+  size_t length = 0;
+  versions_key(VERSIONS_MIXED, a.data(), a.size(), key, sizeof key, &length);
   return static_cast<long>(length);
 }
 

@@ -19,6 +19,9 @@ use version_rules::Kind;
 use version_schemes::{Scheme, by_scheme, write_key};
 use version_texts::{Keyed, VersioningRef, mark_kind};
 
+/// The number of the scheme mixed.
+pub const MIXED: u32 = 1;
+
 /// Writes a size that is enough for the key of any text of a length in a scheme.
 #[unsafe(no_mangle)]
 pub extern "C" fn versions_key_bound(scheme: u32, text_len: usize, bound: &mut usize) -> i32
@@ -68,25 +71,14 @@ pub extern "C" fn versions_key(scheme: u32, text: &[u8], key: &mut [u8], key_len
         (λ bytes. key_len.new ≡ saturated (length bytes))) }
     ensures no_length { result ≢ OK → result ≢ NO_ROOM → key_len.new ≡ key_len.old }
 {
-    let Some(scheme) = Scheme::of_number(scheme) else {
-        return NO_SCHEME;
-    };
-    put_key_in(scheme, text, key, key_len)
-}
-
-// Writes the sort key of a version of a scheme. One of mixed takes fewer instructions in its own way.
-fn put_key_in(scheme: Scheme, text: &[u8], key: &mut [u8], key_len: &mut usize) -> i32
-    ensures status { result ≡ key_status (key_by (rules scheme).read_as text.now) (length key.old) }
-    ensures key { result ≡ OK → IfSome (key_by (rules scheme).read_as text.now)
-        (λ bytes. key.new ≡ bytes ++ drop (length bytes) key.old) }
-    ensures kept { result ≢ OK → key.new ≡ key.old }
-    ensures length { IfSome (key_by (rules scheme).read_as text.now) (λ bytes. key_len.new ≡ saturated (length bytes)) }
-    ensures no_length { result ≢ OK → result ≢ NO_ROOM → key_len.new ≡ key_len.old }
-{
-    if scheme == Scheme::Mixed {
+    // That of mixed takes fewer instructions in its own way.
+    if scheme == MIXED {
         let mut kind = 0;
         return versions_parse(text, &mut kind, key, key_len);
     }
+    let Some(scheme) = Scheme::of_number(scheme) else {
+        return NO_SCHEME;
+    };
     by_scheme!(scheme, put_key(text, key, key_len))
 }
 
