@@ -133,7 +133,7 @@ extern "C" {
 #define VERSIONS_WHY_PARTS 4 /* none of these: parts or fields differ */
 
 /* The schemes: which texts are versions, and how these compare. */
-#define VERSIONS_MIXED 1 /* mixed: every version, in the one order of versions_compare */
+#define VERSIONS_MIXED 1 /* mixed: every version, in the one order of all kinds */
 #define VERSIONS_DEB 2 /* deb: Debian's versions (Debian Policy, 5.6.12) */
 #define VERSIONS_RPM 3 /* rpm: RPM's versions (rpm-version(7)) */
 #define VERSIONS_PYPI 4 /* pypi: Python's versions (PEP 440) */
