@@ -65,7 +65,7 @@ int main() {
 
   double compare = compared([](const std::string &a, const std::string &b) {
     int32_t order = 0;
-    versions_compare(a.data(), a.size(), b.data(), b.size(), &order);
+    versions_compare(VERSIONS_MIXED, a.data(), a.size(), b.data(), b.size(), &order);
     return order;
   });
   show("versions_compare", compare);
@@ -80,18 +80,18 @@ int main() {
     long sum = 0;
     for (const std::string &text : lines) {
       size_t length = 0;
-      versions_sort_key(text.data(), text.size(), keys.data(), versions_sort_key_bound(text.size()), &length);
+      versions_key(VERSIONS_MIXED, text.data(), text.size(), keys.data(), bound, &length);
       sum += length;
     }
     return sum;
   });
-  show("versions_sort_key", key);
+  show("versions_key", key);
   double key_of_many = nanoseconds([&] {
-    versions_sort_keys(texts.data(), texts.size(), offsets.data(), count + 1, keys.data(), bound, key_offsets.data(),
-                       count + 1);
+    versions_keys(VERSIONS_MIXED, texts.data(), texts.size(), offsets.data(), count + 1, keys.data(), bound,
+                  key_offsets.data(), count + 1);
     return key_offsets[count];
   });
-  show("versions_sort_keys", key_of_many);
+  show("versions_keys", key_of_many);
 
   double kind = nanoseconds([] {
     long sum = 0;

@@ -2,7 +2,7 @@
 // to count its instructions:
 //   cost CALL ROUNDS
 // A round makes the call for each line. A comparison takes a line and the next, and the last line and the first.
-// A round of versions_sort_keys or versions_sort is one call for all lines. A round of qsort is versions_sort_keys and
+// A round of versions_keys or versions_sort is one call for all lines. A round of qsort is versions_keys and
 // the C library's sort by the keys, with ties by place.
 #include <versions.h>
 
@@ -28,16 +28,15 @@ using Call = long (*)(const std::string &, const std::string &);
 static long kind(const std::string &a, const std::string &) { return versions_kind(a.data(), a.size()); }
 
 static long sort_key(const std::string &a, const std::string &) {
-  static std::vector<uint8_t> key;
-  size_t bound = versions_sort_key_bound(a.size()), length = 0;
-  if (key.size() < bound) key.resize(bound);
-  versions_sort_key(a.data(), a.size(), key.data(), bound, &length);
+  static uint8_t key[1 << 16];
+  size_t length = 0;
+  versions_key(VERSIONS_MIXED, a.data(), a.size(), key, sizeof key, &length);
   return static_cast<long>(length);
 }
 
 static long compare(const std::string &a, const std::string &b) {
   int32_t order = 0;
-  versions_compare(a.data(), a.size(), b.data(), b.size(), &order);
+  versions_compare(VERSIONS_MIXED, a.data(), a.size(), b.data(), b.size(), &order);
   return order;
 }
 
@@ -112,7 +111,7 @@ static const struct {
   Call call;
 } calls[] = {
     {"versions_kind", kind},
-    {"versions_sort_key", sort_key},
+    {"versions_key", sort_key},
     {"versions_compare", compare},
     {"versions_compare_total", compare_total},
     {"versions_matches", matches},
@@ -139,12 +138,12 @@ static std::vector<uint8_t> keys;
 static std::vector<uint64_t> order;
 
 static long sort_keys() {
-  return versions_sort_keys(texts.data(), texts.size(), offsets.data(), offsets.size(), keys.data(), keys.size(),
-                            key_offsets.data(), key_offsets.size());
+  return versions_keys(VERSIONS_MIXED, texts.data(), texts.size(), offsets.data(), offsets.size(), keys.data(),
+                       keys.size(), key_offsets.data(), key_offsets.size());
 }
 
 static long sort() {
-  versions_sort(texts.data(), texts.size(), offsets.data(), offsets.size(), keys.data(), keys.size(),
+  versions_sort(VERSIONS_MIXED, texts.data(), texts.size(), offsets.data(), offsets.size(), keys.data(), keys.size(),
                 key_offsets.data(), key_offsets.size(), order.data(), order.size());
   return static_cast<long>(order[0]);
 }
@@ -167,7 +166,7 @@ static long sort_by_qsort() {
 static const struct {
   const char *name;
   long (*call)();
-} calls_for_all[] = {{"versions_sort_keys", sort_keys}, {"versions_sort", sort}, {"qsort", sort_by_qsort}};
+} calls_for_all[] = {{"versions_keys", sort_keys}, {"versions_sort", sort}, {"qsort", sort_by_qsort}};
 
 int main(int count, char **words) {
   std::vector<std::string> lines;

@@ -25,20 +25,20 @@ using Call = long (*)(const std::string &, const std::string &);
 
 static long has(const std::string &a, const std::string &) {
   bool has = false;
-  versions_scheme_has(scheme, a.data(), a.size(), &has);
+  versions_has(scheme, a.data(), a.size(), &has);
   return has;
 }
 
 static long compare(const std::string &a, const std::string &b) {
   int32_t order = 0;
-  versions_scheme_compare(scheme, a.data(), a.size(), b.data(), b.size(), &order);
+  versions_compare(scheme, a.data(), a.size(), b.data(), b.size(), &order);
   return order;
 }
 
 static long key(const std::string &a, const std::string &) {
   static uint8_t key[4096];
   size_t length = 0;
-  versions_scheme_key(scheme, a.data(), a.size(), key, sizeof key, &length);
+  versions_key(scheme, a.data(), a.size(), key, sizeof key, &length);
   return static_cast<long>(length);
 }
 

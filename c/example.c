@@ -8,7 +8,7 @@
 static int by_version(const void *a, const void *b) {
   const char *const *first = (const char *const *)a, *const *second = (const char *const *)b;
   int32_t order = 0;
-  versions_compare(*first, strlen(*first), *second, strlen(*second), &order);
+  versions_compare(VERSIONS_MIXED, *first, strlen(*first), *second, strlen(*second), &order);
   return order;
 }
 

@@ -176,18 +176,17 @@ function wrongIn(text, scheme, askPlace, askReason) {
 
 // How many bytes are enough for the key of any text of a length in a scheme.
 function roomForKey(length, scheme) {
-  call.versions_scheme_key_bound(scheme, big(length), SLOTS[0]);
+  call.versions_key_bound(scheme, big(length), SLOTS[0]);
   return slot(0);
 }
 
 // The key of a version of a scheme, as a text of its bytes.
 function keyIn(text, scheme) {
-  if (scheme === MIXED) return parse(text)[1];
   const length = write(text);
   const room = roomForKey(length, scheme);
   const key = FIRST + length;
   reserve(key + room);
-  const status = call.versions_scheme_key(scheme, FROM, big(length), after(length), big(room), SLOTS[0]);
+  const status = call.versions_key(scheme, FROM, big(length), after(length), big(room), SLOTS[0]);
   if (status !== OK) throw new InvalidVersion(text, nameOfScheme(scheme));
   return binary(key, key + slot(0));
 }
@@ -242,10 +241,7 @@ function compareIn(scheme, a, b) {
   const its = textOf(a, scheme);
   const other = textOf(b, scheme);
   writeTwo(its, other);
-  const status =
-    scheme === MIXED
-      ? call.versions_compare(FROM, big(one), after(one), big(two), SLOTS[0])
-      : call.versions_scheme_compare(scheme, FROM, big(one), after(one), big(two), SLOTS[0]);
+  const status = call.versions_compare(scheme, FROM, big(one), after(one), big(two), SLOTS[0]);
   if (status !== OK) refuseTwo(status, its, other, scheme);
   return words[START / 4] | 0;
 }
@@ -306,9 +302,6 @@ function writeAll(texts, each, more = 0) {
   return { count, results, end, size: end - from, passed: [BigInt(from), BigInt(end - from), FROM, BigInt(count + 1)] };
 }
 
-// How many bytes the text at a place has, of those that are written.
-const lengthAt = (place) => wordPair(FIRST + 8 * (place + 1)) - wordPair(FIRST + 8 * place);
-
 // A list of what a function answers for each place.
 function forEach(count, answer) {
   const answers = new Array(count);
@@ -360,11 +353,11 @@ export function inTags(texts) {
   });
 }
 
-// Makes room for the keys in a scheme of texts that are written, and returns how much is always enough.
+// Makes room for the keys in a scheme of texts that are written, and returns how much is always enough: the sum of what
+// is for each, which is linear.
 function roomForKeys({ count, size, end }, scheme) {
-  let room = 0;
-  if (scheme === MIXED) room = 3 * size + 5 * count;
-  else for (let place = 0; place < count; place++) room += roomForKey(lengthAt(place), scheme);
+  const least = roomForKey(0, scheme);
+  const room = roomForKey(size, scheme) - least + count * least;
   reserve(end + room);
   return BigInt(room);
 }
@@ -374,8 +367,7 @@ export function sortKeys(texts, options) {
   const all = writeAll(textsOf(itemsOf(texts), scheme), 8);
   const { count, results, end, passed } = all;
   const written = [...passed, BigInt(end), roomForKeys(all, scheme), BigInt(results), BigInt(count + 1)];
-  if (scheme === MIXED) call.versions_sort_keys(...written);
-  else call.versions_scheme_keys(scheme, ...written);
+  call.versions_keys(scheme, ...written);
   return forEach(count, (place) => {
     const from = wordPair(results + 8 * place);
     const to = wordPair(results + 8 * (place + 1));
@@ -390,8 +382,7 @@ function placesInOrder(texts, scheme) {
   const sorted = results + 8 * (count + 1);
   const written = [...passed, BigInt(end), roomForKeys(all, scheme), BigInt(results), BigInt(count + 1)];
   written.push(BigInt(sorted), BigInt(count));
-  if (scheme === MIXED) call.versions_sort(...written);
-  else call.versions_scheme_sort(scheme, ...written);
+  call.versions_sort(scheme, ...written);
   const places = forEach(count, (at) => words[sorted / 4 + 2 * at]);
   const hasKey = (place) => wordPair(results + 8 * place) !== wordPair(results + 8 * (place + 1));
   let good = count;

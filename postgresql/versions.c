@@ -167,7 +167,7 @@ static bytea *whole_once(FunctionCallInfo fcinfo, Datum value) {
 
 /*
  * Schemes. A type of versions has one: its functions are written for every scheme, and a macro defines them for each
- * type. The calls for mixed alone take less time than those that are given a scheme.
+ * type.
  */
 
 /* The type of the versions of each scheme, at the scheme's number. */
@@ -177,19 +177,16 @@ static const char *const type_names[] = {
 
 static bool parses(uint32 scheme, Span span) {
   bool parses = false;
-  if (scheme == VERSIONS_MIXED) return versions_kind(span.bytes, span.len) != VERSIONS_NONE;
-  versions_scheme_has(scheme, span.bytes, span.len, &parses);
+  versions_has(scheme, span.bytes, span.len, &parses);
   return parses;
 }
 
 static int compare(uint32 scheme, Span a, Span b, int32_t *order) {
-  return scheme == VERSIONS_MIXED ? versions_compare(a.bytes, a.len, b.bytes, b.len, order)
-                                  : versions_scheme_compare(scheme, a.bytes, a.len, b.bytes, b.len, order);
+  return versions_compare(scheme, a.bytes, a.len, b.bytes, b.len, order);
 }
 
 static int write_key(uint32 scheme, Span span, uint8_t *key, size_t room, size_t *len) {
-  return scheme == VERSIONS_MIXED ? versions_sort_key(span.bytes, span.len, key, room, len)
-                                  : versions_scheme_key(scheme, span.bytes, span.len, key, room, len);
+  return versions_key(scheme, span.bytes, span.len, key, room, len);
 }
 
 /* The name of a scheme; NULL where no scheme has the number. */
@@ -371,15 +368,20 @@ FUNCTIONS(version_kind) {
   PG_RETURN_TEXT_P(cstring_to_text(name));
 }
 
-/* versions_compare or versions_compare_total */
-typedef int Comparison(const char *, size_t, const char *, size_t, int32_t *);
+/* In mixed alone. */
+static int compare_total(uint32 scheme, Span a, Span b, int32_t *order) {
+  (void)scheme;
+  return versions_compare_total(a.bytes, a.len, b.bytes, b.len, order);
+}
+
+typedef int Comparison(uint32, Span, Span, int32_t *);
 
 /* Compares the first two arguments, and frees their copies, as functions of an index have to. */
 static Datum compare_arguments(FunctionCallInfo fcinfo, bool typed, Comparison *compare) {
   text *first = PG_GETARG_TEXT_PP(0), *second = PG_GETARG_TEXT_PP(1);
   Span a = span_of(first), b = span_of(second);
   int32_t order;
-  int status = compare(a.bytes, a.len, b.bytes, b.len, &order);
+  int status = compare(VERSIONS_MIXED, a, b, &order);
   if (status != VERSIONS_OK) {
     return no_result(fcinfo, typed, VERSIONS_NO_VERSION, status == VERSIONS_NO_VERSION_B ? b : a);
   }
@@ -388,8 +390,8 @@ static Datum compare_arguments(FunctionCallInfo fcinfo, bool typed, Comparison *
   PG_RETURN_INT32(order);
 }
 
-FUNCTIONS(version_compare) { return compare_arguments(fcinfo, typed, versions_compare); }
-FUNCTIONS(version_compare_total) { return compare_arguments(fcinfo, typed, versions_compare_total); }
+FUNCTIONS(version_compare) { return compare_arguments(fcinfo, typed, compare); }
+FUNCTIONS(version_compare_total) { return compare_arguments(fcinfo, typed, compare_total); }
 
 SQL_FUNCTION(version_compare_in_scheme) {
   uint32 scheme = scheme_of(span_of(PG_GETARG_TEXT_PP(2)));

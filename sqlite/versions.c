@@ -201,16 +201,10 @@ static inline bool read_scheme(sqlite3_context *context, int count, sqlite3_valu
   return false;
 }
 
-/* Writes a key. The first call writes the same for mixed, in fewer instructions. */
-static inline int write_key(uint32_t scheme, struct text text, uint8_t *key, size_t room, size_t *len) {
-  if (scheme == VERSIONS_MIXED) return versions_sort_key(text.bytes, text.len, key, room, len);
-  return versions_scheme_key(scheme, text.bytes, text.len, key, room, len);
-}
-
 /* Returns a key that is too long for the stack, in memory of its length. */
 static void give_long_key(sqlite3_context *context, uint32_t scheme, struct text text, size_t len) {
   uint8_t *key = sqlite3_malloc64(len);
-  if (key && write_key(scheme, text, key, len, &len) == VERSIONS_OK) {
+  if (key && versions_key(scheme, text.bytes, text.len, key, len, &len) == VERSIONS_OK) {
     sqlite3_result_blob64(context, key, len, sqlite3_free);
   } else {
     sqlite3_free(key);
@@ -228,18 +222,17 @@ static void version_key(sqlite3_context *context, int count, sqlite3_value **val
     sqlite3_result_error_nomem(context);
     return;
   }
-  switch (write_key(scheme, text, key, sizeof key, &len)) {
+  switch (versions_key(scheme, text.bytes, text.len, key, sizeof key, &len)) {
     case VERSIONS_OK: sqlite3_result_blob64(context, key, len, SQLITE_TRANSIENT); break;
     case VERSIONS_NO_ROOM: give_long_key(context, scheme, text, len); break;
     default: sqlite3_result_null(context);
   }
 }
 
-/* Whether a text is a version. The first call says the same for mixed. */
+/* Whether a text is a version. */
 static bool is_of(uint32_t scheme, struct text text) {
   bool has = false;
-  if (scheme == VERSIONS_MIXED) return versions_kind(text.bytes, text.len) != VERSIONS_NONE;
-  versions_scheme_has(scheme, text.bytes, text.len, &has);
+  versions_has(scheme, text.bytes, text.len, &has);
   return has;
 }
 
@@ -285,7 +278,7 @@ static void version_compare(sqlite3_context *context, int count, sqlite3_value *
   if (!a.bytes || !b.bytes) {
     sqlite3_result_error_nomem(context);
   } else {
-    give_order(context, versions_scheme_compare(scheme, a.bytes, a.len, b.bytes, b.len, &order), &order);
+    give_order(context, versions_compare(scheme, a.bytes, a.len, b.bytes, b.len, &order), &order);
   }
 }
 
@@ -876,7 +869,7 @@ static bool is_better(sqlite3_context *context, uint32_t scheme, struct text tex
   int32_t order;
   int status = scheme == VERSIONS_MIXED
                    ? versions_compare_total(text.bytes, text.len, than->bytes, than->len, &order)
-                   : versions_scheme_compare(scheme, text.bytes, text.len, than->bytes, than->len, &order);
+                   : versions_compare(scheme, text.bytes, text.len, than->bytes, than->len, &order);
   return status == VERSIONS_OK && order == *better;
 }
 
@@ -1003,7 +996,7 @@ static int collate(void *none, int a_len, const void *a_bytes, int b_len, const 
   struct text a = passed(a_bytes, a_len), b = passed(b_bytes, b_len);
   int32_t order = 0;
   (void)none;
-  switch (versions_compare(a.bytes, a.len, b.bytes, b.len, &order)) {
+  switch (versions_compare(VERSIONS_MIXED, a.bytes, a.len, b.bytes, b.len, &order)) {
     case VERSIONS_NO_VERSION_A: return 1;
     case VERSIONS_NO_VERSION_B: return -1;
     default: return order ? order : compare_bytes(a, b);

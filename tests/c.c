@@ -98,11 +98,18 @@ static size_t length_of(const struct lines *lines, size_t line) {
   return (size_t)(lines->offsets[line + 1] - lines->offsets[line]);
 }
 
+// The size that is enough for the key of a text of a length in a scheme.
+static size_t bound_in(uint32_t scheme, size_t length) {
+  size_t bound = 77;
+  CHECK(versions_key_bound(scheme, length, &bound) == VERSIONS_OK);
+  return bound;
+}
+
 // The key of a text in a block of exactly its length, or NULL. Checks that a buffer of size 0, or one byte too small,
 // stays unchanged, and that nothing after the key is written.
 static uint8_t *key_of(const char *text, size_t length, size_t *key_length) {
-  size_t bound = versions_sort_key_bound(length), needed = 77;
-  int status = versions_sort_key(text, length, NULL, 0, &needed);
+  size_t bound = bound_in(VERSIONS_MIXED, length), needed = 77;
+  int status = versions_key(VERSIONS_MIXED, text, length, NULL, 0, &needed);
   if (status == VERSIONS_NO_VERSION) {
     CHECK(needed == 77);
     CHECK(versions_kind(text, length) == VERSIONS_NONE);
@@ -114,15 +121,15 @@ static uint8_t *key_of(const char *text, size_t length, size_t *key_length) {
 
   uint8_t *key = (uint8_t *)block(needed);
   memset(key, 170, needed);
-  CHECK(versions_sort_key(text, length, key, needed - 1, key_length) == VERSIONS_NO_ROOM);
+  CHECK(versions_key(VERSIONS_MIXED, text, length, key, needed - 1, key_length) == VERSIONS_NO_ROOM);
   CHECK(*key_length == needed);
   for (size_t i = 0; i < needed; i++) CHECK(key[i] == 170);
-  CHECK(versions_sort_key(text, length, key, needed, key_length) == VERSIONS_OK);
+  CHECK(versions_key(VERSIONS_MIXED, text, length, key, needed, key_length) == VERSIONS_OK);
   CHECK(*key_length == needed);
 
   uint8_t *other = (uint8_t *)block(bound + 3);
   memset(other, 170, bound + 3);
-  CHECK(versions_sort_key(text, length, other, bound + 3, key_length) == VERSIONS_OK);
+  CHECK(versions_key(VERSIONS_MIXED, text, length, other, bound + 3, key_length) == VERSIONS_OK);
   CHECK(*key_length == needed && memcmp(key, other, needed) == 0);
   for (size_t i = needed; i < bound + 3; i++) CHECK(other[i] == 170);
   release(other);
@@ -132,8 +139,8 @@ static uint8_t *key_of(const char *text, size_t length, size_t *key_length) {
 // Checks versions_parse with buffers of several sizes, beside the kind and the key of the text. The key is NULL if the
 // text is not a version.
 static void check_parse(const char *text, size_t length, int kind, const uint8_t *key, size_t key_length) {
-  const size_t rooms[] = {0, key_length / 2, key_length - (key != NULL), key_length, key_length + 3,
-                          versions_sort_key_bound(length)};
+  const size_t rooms[] = {0,          key_length / 2, key_length - (key != NULL),
+                          key_length, key_length + 3, bound_in(VERSIONS_MIXED, length)};
   for (size_t i = 0; i < sizeof rooms / sizeof *rooms; i++) {
     size_t room = rooms[i], needed = 77;
     bool fits = key != NULL && key_length <= room;
@@ -286,7 +293,7 @@ static size_t newest_of(const struct lines *lines, const char *list, size_t leng
     text_length -= start;
     if (versions_matches(list, length, text, text_length, &matches) != VERSIONS_OK || !matches) continue;
     if ((uint32_t)versions_stability(text, text_length) < least) continue;
-    if (newest < lines->count) versions_compare(text, text_length, newest_text, newest_length, &order);
+    if (newest < lines->count) versions_compare(VERSIONS_MIXED, text, text_length, newest_text, newest_length, &order);
     if (order != 1) continue;
     newest = line;
     newest_text = text;
@@ -335,18 +342,18 @@ static void show(const struct lines *lines) {
   uint8_t *kinds = (uint8_t *)block(count);
   int64_t *key_offsets = (int64_t *)block((count + 1) * sizeof(int64_t));
   CHECK(versions_kinds(lines->texts, lines->length, lines->offsets, count + 1, kinds, count) == VERSIONS_OK);
-  CHECK(versions_sort_keys(lines->texts, lines->length, lines->offsets, count + 1, NULL, 0, key_offsets, count + 1) ==
-        (count == 0 || key_offsets[count] == 0 ? VERSIONS_OK : VERSIONS_NO_ROOM));
+  CHECK(versions_keys(VERSIONS_MIXED, lines->texts, lines->length, lines->offsets, count + 1, NULL, 0, key_offsets,
+                      count + 1) == (count == 0 || key_offsets[count] == 0 ? VERSIONS_OK : VERSIONS_NO_ROOM));
   size_t all = (size_t)key_offsets[count];
   uint8_t *keys = (uint8_t *)block(all);
   memset(key_offsets, 0, (count + 1) * sizeof(int64_t));
   if (all > 0) {
-    CHECK(versions_sort_keys(lines->texts, lines->length, lines->offsets, count + 1, keys, all - 1, key_offsets,
-                             count + 1) == VERSIONS_NO_ROOM);
+    CHECK(versions_keys(VERSIONS_MIXED, lines->texts, lines->length, lines->offsets, count + 1, keys, all - 1,
+                        key_offsets, count + 1) == VERSIONS_NO_ROOM);
     CHECK((size_t)key_offsets[count] == all);
   }
-  CHECK(versions_sort_keys(lines->texts, lines->length, lines->offsets, count + 1, keys, all, key_offsets,
-                           count + 1) == VERSIONS_OK);
+  CHECK(versions_keys(VERSIONS_MIXED, lines->texts, lines->length, lines->offsets, count + 1, keys, all, key_offsets,
+                      count + 1) == VERSIONS_OK);
 
   for (size_t line = 0; line < count; line++) {
     // A copy, so that no byte follows the text.
@@ -423,7 +430,7 @@ static void compare(const struct lines *lines) {
     size_t a_length = length_of(lines, line), b_length = length_of(lines, line + 1);
     int wanted = status_of(versions_kind(a, a_length) != 0, versions_kind(b, b_length) != 0);
     int32_t order = 77, total = 77, turned = 77;
-    CHECK(versions_compare(a, a_length, b, b_length, &order) == wanted);
+    CHECK(versions_compare(VERSIONS_MIXED, a, a_length, b, b_length, &order) == wanted);
     CHECK(versions_compare_total(a, a_length, b, b_length, &total) == wanted);
     check_difference(a, a_length, b, b_length, wanted, order, total);
     if (wanted != VERSIONS_OK) {
@@ -431,7 +438,7 @@ static void compare(const struct lines *lines) {
       printf("%d\n", wanted);
       continue;
     }
-    CHECK(versions_compare(b, b_length, a, a_length, &turned) == VERSIONS_OK && turned == -order);
+    CHECK(versions_compare(VERSIONS_MIXED, b, b_length, a, a_length, &turned) == VERSIONS_OK && turned == -order);
     CHECK(versions_compare_total(b, b_length, a, a_length, &turned) == VERSIONS_OK && turned == -total);
     CHECK(order == 0 || order == total);
 
@@ -460,9 +467,9 @@ static void free_range(struct range *range) {
 }
 
 // The range that a list asks for. Checks that a buffer that is too small stays unchanged, that the sizes that a call
-// reports are those of the bounds, and that those of versions_sort_key_bound are enough.
+// reports are those of the bounds, and that those of versions_key_bound are enough.
 static bool range_of(const char *list, size_t length, struct range *range) {
-  size_t bound = versions_sort_key_bound(length), low = 77, high = 77, low_room, high_room;
+  size_t bound = bound_in(VERSIONS_MIXED, length), low = 77, high = 77, low_room, high_room;
   uint32_t flags = 77;
   int status = versions_range(list, length, NULL, 0, &low, NULL, 0, &high, &flags);
   if (status == VERSIONS_NO_REQUIREMENTS) {
@@ -513,11 +520,11 @@ static int bytes_order(const uint8_t *a, size_t a_length, const uint8_t *b, size
 // Whether a text is in a range, by its key and its kind: 1, 0, or 2 for a text that is not a version. Checks that the
 // call gives the same answer.
 static int in_range(const char *text, size_t length, const struct range *range) {
-  size_t bound = versions_sort_key_bound(length), key_length = 0;
+  size_t bound = bound_in(VERSIONS_MIXED, length), key_length = 0;
   uint8_t *key = (uint8_t *)block(bound);
   int kind = versions_kind(text, length), wanted = 2;
   bool answer = true, other = false;
-  if (versions_sort_key(text, length, key, bound, &key_length) == VERSIONS_OK) {
+  if (versions_key(VERSIONS_MIXED, text, length, key, bound, &key_length) == VERSIONS_OK) {
     wanted = bytes_order(key, key_length, range->low, range->low_length) >= 0 &&
              (!(range->flags & VERSIONS_RANGE_HIGH) ||
               bytes_order(key, key_length, range->high, range->high_length) < 0) &&
@@ -644,26 +651,26 @@ static void sort(const struct lines *lines) {
   int64_t *needed = (int64_t *)block((count + 1) * sizeof(int64_t));
   int64_t *key_offsets = (int64_t *)block((count + 1) * sizeof(int64_t));
   uint64_t *order = (uint64_t *)block(count * sizeof(uint64_t));
-  versions_sort_keys(lines->texts, lines->length, lines->offsets, count + 1, NULL, 0, needed, count + 1);
+  versions_keys(VERSIONS_MIXED, lines->texts, lines->length, lines->offsets, count + 1, NULL, 0, needed, count + 1);
   size_t all = (size_t)needed[count];
   uint8_t *wanted = (uint8_t *)block(all), *keys = (uint8_t *)block(all + 3);
-  CHECK(versions_sort_keys(lines->texts, lines->length, lines->offsets, count + 1, wanted, all, needed, count + 1) ==
-        VERSIONS_OK);
+  CHECK(versions_keys(VERSIONS_MIXED, lines->texts, lines->length, lines->offsets, count + 1, wanted, all, needed,
+                      count + 1) == VERSIONS_OK);
 
   // If the buffer is one byte too small, nothing is sorted, but the needed size is returned.
   for (size_t i = 0; i < count; i++) order[i] = 77;
   if (all > 0) {
-    CHECK(versions_sort(lines->texts, lines->length, lines->offsets, count + 1, keys, all - 1, key_offsets, count + 1,
-                        order, count) == VERSIONS_NO_ROOM);
+    CHECK(versions_sort(VERSIONS_MIXED, lines->texts, lines->length, lines->offsets, count + 1, keys, all - 1,
+                        key_offsets, count + 1, order, count) == VERSIONS_NO_ROOM);
     CHECK(memcmp(key_offsets, needed, (count + 1) * sizeof(int64_t)) == 0);
     for (size_t i = 0; i < count; i++) CHECK(order[i] == 77);
   }
 
-  // The keys are those of versions_sort_keys, and nothing after them is written.
+  // The keys are those of versions_keys, and nothing after them is written.
   memset(keys, 170, all + 3);
   memset(key_offsets, 0, (count + 1) * sizeof(int64_t));
-  CHECK(versions_sort(lines->texts, lines->length, lines->offsets, count + 1, keys, all + 3, key_offsets, count + 1,
-                      order, count) == VERSIONS_OK);
+  CHECK(versions_sort(VERSIONS_MIXED, lines->texts, lines->length, lines->offsets, count + 1, keys, all + 3,
+                      key_offsets, count + 1, order, count) == VERSIONS_OK);
   CHECK(memcmp(key_offsets, needed, (count + 1) * sizeof(int64_t)) == 0);
   CHECK(memcmp(keys, wanted, all) == 0);
   for (size_t i = all; i < all + 3; i++) CHECK(keys[i] == 170);
@@ -686,8 +693,8 @@ static uint64_t summed_order(const struct lines *lines) {
   uint8_t *keys = (uint8_t *)block(room);
   int64_t *key_offsets = (int64_t *)block((count + 1) * sizeof(int64_t));
   uint64_t *order = (uint64_t *)block(count * sizeof(uint64_t)), sum = 0;
-  CHECK(versions_sort(lines->texts, lines->length, lines->offsets, count + 1, keys, room, key_offsets, count + 1, order,
-                      count) == VERSIONS_OK);
+  CHECK(versions_sort(VERSIONS_MIXED, lines->texts, lines->length, lines->offsets, count + 1, keys, room, key_offsets,
+                      count + 1, order, count) == VERSIONS_OK);
   for (size_t i = 0; i < count; i++) sum = sum * 31 + order[i];
   release(keys);
   release(key_offsets);
@@ -714,10 +721,10 @@ static void *summed(void *argument) {
     sum = sum * 31 + (uint64_t)versions_stability(a, a_length);
     sum = sum * 31 + epoch + 50 * start + 500 * end + kind;
     sum = sum * 31 + (uint64_t)versions_in_tag(a, a_length, &start) + 50 * start;
-    sum = sum * 31 + (uint64_t)versions_compare(a, a_length, b, b_length, &order);
+    sum = sum * 31 + (uint64_t)versions_compare(VERSIONS_MIXED, a, a_length, b, b_length, &order);
     sum = sum * 31 + (uint64_t)versions_compare_total(a, a_length, b, b_length, &total);
     sum = sum * 31 + (uint64_t)versions_matches("^1.2,<9", 7, a, a_length, &matches);
-    sum = sum * 31 + (uint64_t)versions_sort_key(a, a_length, NULL, 0, &key_length);
+    sum = sum * 31 + (uint64_t)versions_key(VERSIONS_MIXED, a, a_length, NULL, 0, &key_length);
     sum = sum * 31 + (uint64_t)(order + 5) + (uint64_t)(total + 50) + (uint64_t)matches + key_length;
   }
   uint64_t *result = (uint64_t *)block(sizeof(uint64_t));
@@ -753,10 +760,10 @@ static void refused_offsets(const int64_t *offsets, size_t offsets_length, size_
   CHECK(versions_match_all("*", 1, "1.2.31.2", 8, offsets, offsets_length, answers, count) == VERSIONS_BAD_OFFSETS);
   CHECK(versions_match_all("no list", 7, "1.2.31.2", 8, offsets, offsets_length, answers, count) ==
         VERSIONS_BAD_OFFSETS);
-  CHECK(versions_sort_keys("1.2.31.2", 8, offsets, offsets_length, keys, sizeof keys, key_offsets, count + 1) ==
-        VERSIONS_BAD_OFFSETS);
-  CHECK(versions_sort("1.2.31.2", 8, offsets, offsets_length, keys, sizeof keys, key_offsets, count + 1, order,
-                      count) == VERSIONS_BAD_OFFSETS);
+  CHECK(versions_keys(VERSIONS_MIXED, "1.2.31.2", 8, offsets, offsets_length, keys, sizeof keys, key_offsets,
+                      count + 1) == VERSIONS_BAD_OFFSETS);
+  CHECK(versions_sort(VERSIONS_MIXED, "1.2.31.2", 8, offsets, offsets_length, keys, sizeof keys, key_offsets, count + 1,
+                      order, count) == VERSIONS_BAD_OFFSETS);
   for (size_t i = 0; i < sizeof answers; i++) CHECK(answers[i] == 77);
   for (size_t i = 0; i < sizeof keys; i++) CHECK(keys[i] == 77);
   for (size_t i = 0; i < 5; i++) CHECK(key_offsets[i] == 77);
@@ -776,8 +783,8 @@ static void sorted(const char *texts, const int64_t *offsets, size_t count, cons
   uint8_t keys[256];
   int64_t key_offsets[9];
   uint64_t order[9] = {77, 77, 77, 77, 77, 77, 77, 77, 77};
-  CHECK(versions_sort(texts, strlen(texts), offsets, count + 1, keys, sizeof keys, key_offsets, count + 1, order,
-                      count) == VERSIONS_OK);
+  CHECK(versions_sort(VERSIONS_MIXED, texts, strlen(texts), offsets, count + 1, keys, sizeof keys, key_offsets,
+                      count + 1, order, count) == VERSIONS_OK);
   for (size_t i = 0; i < count; i++) CHECK(order[i] == wanted[i]);
   CHECK(order[count] == 77);
 }
@@ -915,15 +922,15 @@ static void no_versions(void) {
   CHECK(versions_kind("1.2\0003", 5) == VERSIONS_NONE);
   CHECK(versions_kind("1.2.\xff", 5) == VERSIONS_NONE);
   CHECK(versions_kind("\xc3\xa9", 2) == VERSIONS_NONE);
-  CHECK(versions_compare(NULL, 0, "1", 1, &order) == VERSIONS_NO_VERSION_A);
-  CHECK(versions_compare("1", 1, NULL, 0, &order) == VERSIONS_NO_VERSION_B);
-  CHECK(versions_compare(NULL, 0, NULL, 0, &order) == VERSIONS_NO_VERSION_AB);
+  CHECK(versions_compare(VERSIONS_MIXED, NULL, 0, "1", 1, &order) == VERSIONS_NO_VERSION_A);
+  CHECK(versions_compare(VERSIONS_MIXED, "1", 1, NULL, 0, &order) == VERSIONS_NO_VERSION_B);
+  CHECK(versions_compare(VERSIONS_MIXED, NULL, 0, NULL, 0, &order) == VERSIONS_NO_VERSION_AB);
   CHECK(versions_compare_total(NULL, 0, "1", 1, &order) == VERSIONS_NO_VERSION_A);
   CHECK(versions_compare_total("1", 1, NULL, 0, &order) == VERSIONS_NO_VERSION_B);
   CHECK(versions_compare_total("\xff", 1, NULL, 0, &order) == VERSIONS_NO_VERSION_AB);
   CHECK(order == 77);
-  CHECK(versions_sort_key(NULL, 0, NULL, 0, &length) == VERSIONS_NO_VERSION);
-  CHECK(versions_sort_key("\xff", 1, bytes, 4, &length) == VERSIONS_NO_VERSION);
+  CHECK(versions_key(VERSIONS_MIXED, NULL, 0, NULL, 0, &length) == VERSIONS_NO_VERSION);
+  CHECK(versions_key(VERSIONS_MIXED, "\xff", 1, bytes, 4, &length) == VERSIONS_NO_VERSION);
   CHECK(versions_parse(NULL, 0, &kind, NULL, 0, &length) == VERSIONS_NO_VERSION);
   CHECK(versions_parse("\xff", 1, &kind, bytes, 4, &length) == VERSIONS_NO_VERSION);
   CHECK(length == 77 && kind == 77 && bytes[0] == 77);
@@ -950,7 +957,7 @@ static void ties(void) {
   for (size_t i = 0; i < sizeof worked / sizeof *worked; i++) {
     const char *a = worked[i].first, *b = worked[i].second;
     int32_t order = 77;
-    CHECK(versions_compare(a, strlen(a), b, strlen(b), &order) == VERSIONS_OK && order == 0);
+    CHECK(versions_compare(VERSIONS_MIXED, a, strlen(a), b, strlen(b), &order) == VERSIONS_OK && order == 0);
     CHECK(versions_compare_total(a, strlen(a), b, strlen(b), &order) == VERSIONS_OK && order == worked[i].total);
     CHECK(versions_compare_total(b, strlen(b), a, strlen(a), &order) == VERSIONS_OK && order == -worked[i].total);
   }
@@ -1424,12 +1431,12 @@ static void worked_conflicts(void) {
 // Of the texts of three bytes, 1_1 has the longest key.
 static void buffer_sizes(void) {
   size_t length = 77;
-  CHECK(versions_sort_key_bound(0) == 5);
-  CHECK(versions_sort_key_bound(3) == 14);
-  CHECK(versions_sort_key("1_1", 3, NULL, 0, &length) == VERSIONS_NO_ROOM && length == 14);
-  CHECK(versions_sort_key_bound((SIZE_MAX - 5) / 3) == (SIZE_MAX - 5) / 3 * 3 + 5);
-  CHECK(versions_sort_key_bound(SIZE_MAX / 3 + 1) == SIZE_MAX);
-  CHECK(versions_sort_key_bound(SIZE_MAX) == SIZE_MAX);
+  CHECK(bound_in(VERSIONS_MIXED, 0) == 5);
+  CHECK(bound_in(VERSIONS_MIXED, 3) == 14);
+  CHECK(versions_key(VERSIONS_MIXED, "1_1", 3, NULL, 0, &length) == VERSIONS_NO_ROOM && length == 14);
+  CHECK(bound_in(VERSIONS_MIXED, (SIZE_MAX - 5) / 3) == (SIZE_MAX - 5) / 3 * 3 + 5);
+  CHECK(bound_in(VERSIONS_MIXED, SIZE_MAX / 3 + 1) == SIZE_MAX);
+  CHECK(bound_in(VERSIONS_MIXED, SIZE_MAX) == SIZE_MAX);
 }
 
 static const int64_t one_offset[] = {0}, apart[] = {3, 8, 8, 11}, last[] = {8};
@@ -1463,12 +1470,13 @@ static void few_texts(void) {
   int64_t key_offsets[1] = {77};
   CHECK(versions_kinds(NULL, 0, one_offset, 1, NULL, 0) == VERSIONS_OK);
   CHECK(versions_match_all("*", 1, NULL, 0, one_offset, 1, NULL, 0) == VERSIONS_OK);
-  CHECK(versions_sort_keys(NULL, 0, one_offset, 1, NULL, 0, key_offsets, 1) == VERSIONS_OK && key_offsets[0] == 0);
+  CHECK(versions_keys(VERSIONS_MIXED, NULL, 0, one_offset, 1, NULL, 0, key_offsets, 1) == VERSIONS_OK &&
+        key_offsets[0] == 0);
   CHECK(versions_in_range_all(NULL, 0, one_offset, 1, NULL, 0, NULL, 0, 7, NULL, 0) == VERSIONS_OK);
   CHECK(versions_kinds("1.2.31.2", 8, last, 1, NULL, 0) == VERSIONS_OK);
   CHECK(versions_kinds(NULL, 0, NULL, 0, NULL, 0) == VERSIONS_BAD_OFFSETS);
   CHECK(versions_match_all("*", 1, NULL, 0, NULL, 0, NULL, 0) == VERSIONS_BAD_OFFSETS);
-  CHECK(versions_sort_keys(NULL, 0, NULL, 0, NULL, 0, NULL, 0) == VERSIONS_BAD_OFFSETS);
+  CHECK(versions_keys(VERSIONS_MIXED, NULL, 0, NULL, 0, NULL, 0, NULL, 0) == VERSIONS_BAD_OFFSETS);
   CHECK(versions_kinds("???1.2.31.2???", 14, apart, 4, answers, 3) == VERSIONS_OK);
   CHECK(answers[0] == VERSIONS_IDEAL && answers[1] == VERSIONS_NONE);
   CHECK(answers[2] == VERSIONS_GENERAL && answers[3] == 77);
@@ -1486,11 +1494,12 @@ static void sorted_places(void) {
   const int64_t nowhere[] = {0, 0, 0, 0};
   int64_t key_offsets[5] = {77, 77, 77, 77, 77};
   uint64_t places[4] = {77, 77, 77, 77};
-  CHECK(versions_sort(NULL, 0, one_offset, 1, NULL, 0, key_offsets, 1, NULL, 0) == VERSIONS_OK);
-  CHECK(versions_sort("1.2.31.2", 8, last, 1, NULL, 0, key_offsets, 1, NULL, 0) == VERSIONS_OK);
-  CHECK(versions_sort(NULL, 0, nowhere, 4, NULL, 0, key_offsets, 4, places, 3) == VERSIONS_OK);
+  CHECK(versions_sort(VERSIONS_MIXED, NULL, 0, one_offset, 1, NULL, 0, key_offsets, 1, NULL, 0) == VERSIONS_OK);
+  CHECK(versions_sort(VERSIONS_MIXED, "1.2.31.2", 8, last, 1, NULL, 0, key_offsets, 1, NULL, 0) == VERSIONS_OK);
+  CHECK(versions_sort(VERSIONS_MIXED, NULL, 0, nowhere, 4, NULL, 0, key_offsets, 4, places, 3) == VERSIONS_OK);
   CHECK(places[0] == 0 && places[1] == 1 && places[2] == 2 && places[3] == 77);
-  CHECK(versions_sort("???1.2.31.2???", 14, apart, 4, NULL, 0, key_offsets, 4, places, 3) == VERSIONS_NO_ROOM);
+  CHECK(versions_sort(VERSIONS_MIXED, "???1.2.31.2???", 14, apart, 4, NULL, 0, key_offsets, 4, places, 3) ==
+        VERSIONS_NO_ROOM);
   CHECK(places[0] == 0 && places[1] == 1 && places[2] == 2 && places[3] == 77);
   const int64_t alone[] = {3, 8};
   const uint64_t the_one[] = {0}, the_last_first[] = {2, 0, 1};
@@ -1513,7 +1522,7 @@ static void refused_lengths(void) {
   for (size_t more = 0; more < 5; more++) {
     for (size_t many = 0; many < 5; many++) {
       if (more == 3 && many == 2) continue;
-      CHECK(versions_sort("1.2.31.2", 8, two, 3, room, sizeof room, key_offsets, more, places, many) ==
+      CHECK(versions_sort(VERSIONS_MIXED, "1.2.31.2", 8, two, 3, room, sizeof room, key_offsets, more, places, many) ==
             VERSIONS_BAD_OFFSETS);
     }
   }
@@ -1680,22 +1689,21 @@ static void too_long(void) {
     CHECK(versions_kind("1", lengths[i]) == -VERSIONS_TOO_LONG);
     CHECK(versions_stability("1", lengths[i]) == -VERSIONS_TOO_LONG);
     CHECK(versions_kind(NULL, lengths[i]) == -VERSIONS_NULL);
-    CHECK(versions_compare("1", lengths[i], "2", 1, &order) == VERSIONS_TOO_LONG && order == 77);
-    CHECK(versions_compare("1", 1, "2", lengths[i], &order) == VERSIONS_TOO_LONG && order == 77);
-    CHECK(versions_sort_key("1", lengths[i], key, sizeof key, &length) == VERSIONS_TOO_LONG && length == 77);
-    CHECK(versions_sort_key("1.2.3", 5, key, lengths[i], &length) == VERSIONS_OK && length == 15);
+    CHECK(versions_compare(VERSIONS_MIXED, "1", lengths[i], "2", 1, &order) == VERSIONS_TOO_LONG && order == 77);
+    CHECK(versions_compare(VERSIONS_MIXED, "1", 1, "2", lengths[i], &order) == VERSIONS_TOO_LONG && order == 77);
+    CHECK(versions_key(VERSIONS_MIXED, "1", lengths[i], key, sizeof key, &length) == VERSIONS_TOO_LONG && length == 77);
+    CHECK(versions_key(VERSIONS_MIXED, "1.2.3", 5, key, lengths[i], &length) == VERSIONS_OK && length == 15);
     length = 77;
   }
 }
 
 // A key in a block of just its length, of a version of a scheme.
 static uint8_t *key_in(uint32_t scheme, const char *text, size_t *key_length) {
-  size_t length = strlen(text), bound = 77;
-  CHECK(versions_scheme_key_bound(scheme, length, &bound) == VERSIONS_OK);
-  CHECK(versions_scheme_key(scheme, text, length, NULL, 0, key_length) == VERSIONS_NO_ROOM && *key_length <= bound);
+  size_t length = strlen(text), bound = bound_in(scheme, length);
+  CHECK(versions_key(scheme, text, length, NULL, 0, key_length) == VERSIONS_NO_ROOM && *key_length <= bound);
   uint8_t *key = (uint8_t *)block(*key_length);
-  CHECK(versions_scheme_key(scheme, text, length, key, *key_length - 1, key_length) == VERSIONS_NO_ROOM);
-  CHECK(versions_scheme_key(scheme, text, length, key, *key_length, key_length) == VERSIONS_OK);
+  CHECK(versions_key(scheme, text, length, key, *key_length - 1, key_length) == VERSIONS_NO_ROOM);
+  CHECK(versions_key(scheme, text, length, key, *key_length, key_length) == VERSIONS_OK);
   return key;
 }
 
@@ -1720,8 +1728,8 @@ static void worked_schemes(void) {
     const char *one = rows[i].one, *other = rows[i].other;
     size_t one_length = strlen(one), other_length = strlen(other), one_size, other_size;
     int32_t order = 77, back = 77;
-    CHECK(versions_scheme_compare(scheme, one, one_length, other, other_length, &order) == VERSIONS_OK);
-    CHECK(versions_scheme_compare(scheme, other, other_length, one, one_length, &back) == VERSIONS_OK);
+    CHECK(versions_compare(scheme, one, one_length, other, other_length, &order) == VERSIONS_OK);
+    CHECK(versions_compare(scheme, other, other_length, one, one_length, &back) == VERSIONS_OK);
     CHECK(order == rows[i].order && back == -order);
     uint8_t *key = key_in(scheme, one, &one_size), *other_key = key_in(scheme, other, &other_size);
     int bytes = memcmp(key, other_key, one_size < other_size ? one_size : other_size);
@@ -1734,7 +1742,7 @@ static void worked_schemes(void) {
     int64_t key_offsets[4];
     uint64_t places[3] = {77, 77, 77};
     size_t size = (size_t)snprintf(texts, sizeof texts, "%s!%s", other, one);
-    CHECK(versions_scheme_sort(scheme, texts, size, offsets, 4, keys, sizeof keys, key_offsets, 4, places, 3) == VERSIONS_OK);
+    CHECK(versions_sort(scheme, texts, size, offsets, 4, keys, sizeof keys, key_offsets, 4, places, 3) == VERSIONS_OK);
     CHECK(places[0] == (order < 0 ? 2 : 0) && places[1] == (order < 0 ? 0 : 2) && places[2] == 1);
     CHECK((size_t)key_offsets[1] == other_size && key_offsets[2] == key_offsets[1]);
   }
@@ -1750,9 +1758,9 @@ static void worked_schemes(void) {
     size_t length = strlen(wrong[i].text), written = 77;
     bool has = true;
     int32_t order = 77;
-    CHECK(versions_scheme_has(wrong[i].scheme, wrong[i].text, length, &has) == VERSIONS_OK && !has);
-    CHECK(versions_scheme_key(wrong[i].scheme, wrong[i].text, length, NULL, 0, &written) == VERSIONS_NO_VERSION);
-    CHECK(versions_scheme_compare(wrong[i].scheme, wrong[i].text, length, "1.0.0", 5, &order) == VERSIONS_NO_VERSION_A);
+    CHECK(versions_has(wrong[i].scheme, wrong[i].text, length, &has) == VERSIONS_OK && !has);
+    CHECK(versions_key(wrong[i].scheme, wrong[i].text, length, NULL, 0, &written) == VERSIONS_NO_VERSION);
+    CHECK(versions_compare(wrong[i].scheme, wrong[i].text, length, "1.0.0", 5, &order) == VERSIONS_NO_VERSION_A);
     CHECK(written == 77 && order == 77);
   }
 
@@ -1769,7 +1777,7 @@ static void worked_schemes(void) {
   }
   size_t written = 77;
   CHECK(versions_scheme_name(0, NULL, 0, &written) == VERSIONS_NO_SCHEME && written == 77);
-  CHECK(versions_scheme_key_bound(7, 1, &written) == VERSIONS_NO_SCHEME && written == 77);
+  CHECK(versions_key_bound(7, 1, &written) == VERSIONS_NO_SCHEME && written == 77);
 
   // A set of a scheme has its number, and goes by its order.
   uint8_t form[256];
@@ -1914,12 +1922,12 @@ static void long_text(const char *piece, size_t times, int kind, size_t key_leng
   text[length - 1] = '1';
   CHECK(versions_kind(text, length) == kind);
   int32_t order = 77, total = 77;
-  CHECK(versions_compare(text, length, text, length, &order) == VERSIONS_OK && order == 0);
+  CHECK(versions_compare(VERSIONS_MIXED, text, length, text, length, &order) == VERSIONS_OK && order == 0);
   CHECK(versions_compare_total(text, length, text, length, &total) == VERSIONS_OK && total == 0);
   check_difference(text, length, text, length, VERSIONS_OK, order, total);
-  CHECK(versions_sort_key(text, length, NULL, 0, &needed) == VERSIONS_NO_ROOM && needed == key_length);
+  CHECK(versions_key(VERSIONS_MIXED, text, length, NULL, 0, &needed) == VERSIONS_NO_ROOM && needed == key_length);
   uint8_t *key = (uint8_t *)block(needed);
-  CHECK(versions_sort_key(text, length, key, needed, &needed) == VERSIONS_OK && needed == key_length);
+  CHECK(versions_key(VERSIONS_MIXED, text, length, key, needed, &needed) == VERSIONS_OK && needed == key_length);
   check_parse(text, length, kind, key, needed);
   check_values(text, length, kind);
   release(key);
@@ -1951,7 +1959,7 @@ static void long_field(const char *before, char byte, size_t times, const char *
 // the bound. Then fields of a million bytes.
 static void long_texts(void) {
   size_t million = 1000000;
-  long_text("1_", million, VERSIONS_COMPLEX, versions_sort_key_bound(2 * million + 1));
+  long_text("1_", million, VERSIONS_COMPLEX, bound_in(VERSIONS_MIXED, 2 * million + 1));
   long_text("1.", million, VERSIONS_GENERAL, 1 + 4 * (million + 1) + 1 + 1);
   long_text("a", 10 * million, VERSIONS_GENERAL, 1 + 1 + 10 * million + 1 + 1 + 3 + 1 + 1);
   long_field("", '9', million, ":1", VERSIONS_COMPLEX);
@@ -1988,8 +1996,8 @@ static void many_texts(size_t (*rank_of)(size_t, size_t)) {
                                       : snprintf(texts + used, 64, "1.0.%zu+%zu", rank, count - place));
     offsets[place + 1] = (int64_t)used;
   }
-  CHECK(versions_sort(texts, room, offsets, count + 1, keys, 3 * room, key_offsets, count + 1, order, count) ==
-        VERSIONS_OK);
+  CHECK(versions_sort(VERSIONS_MIXED, texts, room, offsets, count + 1, keys, 3 * room, key_offsets, count + 1, order,
+                      count) == VERSIONS_OK);
   memset(seen, 0, count);
   for (size_t i = 0; i < count; i++) {
     CHECK(order[i] < count && !seen[order[i]]++);
@@ -2203,7 +2211,7 @@ static void other_bounds(void) {
     for (int which = 0; which < 2; which++) {
       uint8_t key[256];
       size_t length = random_version(text);
-      CHECK(versions_sort_key(text, length, key, sizeof key, &key_length) == VERSIONS_OK);
+      CHECK(versions_key(VERSIONS_MIXED, text, length, key, sizeof key, &key_length) == VERSIONS_OK);
       if (random_below(4) == 0) {
         key_length = random_below(9);
         for (size_t at = 0; at < key_length; at++) key[at] = (uint8_t)random_below(random_below(2) ? 5 : 256);
@@ -2294,7 +2302,7 @@ static void without_memory(const struct lines *lines) {
     CHECK(versions_compare_total(text, length, text, length, &order) == status_of(is_version, is_version));
     CHECK(order == (is_version ? 0 : 77));
     check_difference(text, length, text, length, status_of(is_version, is_version), order, order);
-    CHECK((versions_sort_key(text, length, keys, room, &key_length) == VERSIONS_OK) == is_version);
+    CHECK((versions_key(VERSIONS_MIXED, text, length, keys, room, &key_length) == VERSIONS_OK) == is_version);
     check_parse(text, length, answers[line], is_version ? keys : NULL, key_length);
     for (size_t place = 0; place < 4; place++) {
       CHECK((versions_nth(text, length, place, &number) == VERSIONS_NO_VERSION) == !is_version);
@@ -2302,8 +2310,8 @@ static void without_memory(const struct lines *lines) {
     check_values(text, length, answers[line]);
   }
   check_many(lines);
-  CHECK(versions_sort_keys(lines->texts, lines->length, lines->offsets, count + 1, keys, room, key_offsets,
-                           count + 1) == VERSIONS_OK);
+  CHECK(versions_keys(VERSIONS_MIXED, lines->texts, lines->length, lines->offsets, count + 1, keys, room, key_offsets,
+                      count + 1) == VERSIONS_OK);
   for (size_t i = 0; i < sizeof lists / sizeof *lists; i++) {
     size_t length = strlen(lists[i]);
     int wanted = i + 1 < sizeof lists / sizeof *lists ? VERSIONS_OK : VERSIONS_NO_REQUIREMENTS;
@@ -2332,7 +2340,7 @@ static void without_memory(const struct lines *lines) {
   uint32_t number = 77;
   bool matches = false;
   CHECK(versions_compare_total("1.0.0-a+x", 9, "1.0.0-a+y", 9, &order) == VERSIONS_OK && order == 0);
-  CHECK(versions_compare("1.0_1-a", 7, "1.00_1-a", 8, &order) == VERSIONS_OK && order == 0);
+  CHECK(versions_compare(VERSIONS_MIXED, "1.0_1-a", 7, "1.00_1-a", 8, &order) == VERSIONS_OK && order == 0);
   CHECK(versions_compare_total("1.0_1-a", 7, "1.00_1-a", 8, &order) == VERSIONS_OK && (order == 1 || order == -1));
   CHECK(versions_compare_total("1.00_1-a", 8, "1.0_1-a", 7, &turned) == VERSIONS_OK && turned == -order);
   CHECK(versions_nth("1.2.3-rc.1+x", 12, 2, &number) == VERSIONS_OK && number == 3);

@@ -52,7 +52,7 @@ static void of_one(const char *text, size_t length) {
   answer(versions_kind(text, length));
   answer(versions_stability(text, length));
   for (size_t room = 0; room < 40; room += 13) {
-    int status = versions_sort_key(text, length, buffer, room, &written);
+    int status = versions_key(VERSIONS_MIXED, text, length, buffer, room, &written);
     numbers[0] = written;
     answer_with(status, written);
   }
@@ -80,18 +80,16 @@ static void of_one(const char *text, size_t length) {
     answer_with(status, written);
   }
   answer(versions_wrong_member(text, length, NUMBER(size_t, 0), NUMBER(size_t, 1)));
-  numbers[0] = versions_sort_key_bound(length);
-  answer(0);
   answer(versions_scheme(text, length, NUMBER(uint32_t, 0)));
   // And numbers that no scheme has, on both sides.
   for (uint32_t scheme = 0; scheme <= VERSIONS_GEM + 1; scheme++) {
-    answer(versions_scheme_has(scheme, text, length, NUMBER(bool, 0)));
+    answer(versions_has(scheme, text, length, NUMBER(bool, 0)));
     answer(versions_wrong(scheme, text, length, NUMBER(size_t, 0), NUMBER(uint32_t, 1)));
     status = versions_wrong_text(scheme, text, length, (char *)buffer, ROOM, &written);
     numbers[0] = written;
     answer_with(status, written);
-    answer(versions_scheme_key_bound(scheme, length, NUMBER(size_t, 0)));
-    status = versions_scheme_key(scheme, text, length, buffer, ROOM, &written);
+    answer(versions_key_bound(scheme, length, NUMBER(size_t, 0)));
+    status = versions_key(scheme, text, length, buffer, ROOM, &written);
     numbers[0] = written;
     answer_with(status, written);
     status = versions_scheme_name(scheme, (char *)buffer, ROOM, &written);
@@ -101,11 +99,10 @@ static void of_one(const char *text, size_t length) {
 }
 
 static void of_two(const char *a, size_t a_len, const char *b, size_t b_len) {
-  answer(versions_compare(a, a_len, b, b_len, NUMBER(int32_t, 0)));
   answer(versions_compare_total(a, a_len, b, b_len, NUMBER(int32_t, 0)));
   answer(versions_difference(a, a_len, b, b_len, NUMBER(uint32_t, 0), NUMBER(size_t, 1)));
   for (uint32_t scheme = 0; scheme <= VERSIONS_GEM; scheme++)
-    answer(versions_scheme_compare(scheme, a, a_len, b, b_len, NUMBER(int32_t, 0)));
+    answer(versions_compare(scheme, a, a_len, b, b_len, NUMBER(int32_t, 0)));
 }
 
 static void of_list(const char *list, size_t list_len, const char *text, size_t text_len) {
@@ -180,17 +177,12 @@ static void of_many(size_t first, size_t many, const char *list, size_t list_len
   write_bytes(small, many);
   answer(versions_in_tags(texts, texts_len, from, offsets_len, places, many));
   write_bytes(places, many * sizeof *places);
-  answer(versions_sort_keys(texts, texts_len, from, offsets_len, keys, sizeof keys, places, offsets_len));
-  write_bytes(places, offsets_len * sizeof *places);
-  write_bytes(keys, (size_t)places[many]);
-  answer(versions_sort(texts, texts_len, from, offsets_len, keys, sizeof keys, places, offsets_len, order, many));
-  write_bytes(order, many * sizeof *order);
   for (uint32_t scheme = 0; scheme <= VERSIONS_GEM; scheme++) {
-    answer(versions_scheme_keys(scheme, texts, texts_len, from, offsets_len, keys, sizeof keys, places, offsets_len));
+    answer(versions_keys(scheme, texts, texts_len, from, offsets_len, keys, sizeof keys, places, offsets_len));
     write_bytes(places, offsets_len * sizeof *places);
     write_bytes(keys, (size_t)places[many]);
-    answer(versions_scheme_sort(scheme, texts, texts_len, from, offsets_len, keys, sizeof keys, places, offsets_len,
-                                order, many));
+    answer(versions_sort(scheme, texts, texts_len, from, offsets_len, keys, sizeof keys, places, offsets_len, order,
+                         many));
     write_bytes(order, many * sizeof *order);
   }
   int status = versions_match_all(list, list_len, texts, texts_len, from, offsets_len, small, many);

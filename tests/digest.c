@@ -121,17 +121,14 @@ static void digest_one(size_t place, struct text a, struct text b, struct text l
   uint8_t *out = (uint8_t *)allocated(room), *high = (uint8_t *)allocated(room);
   CLEAR, digest_slots("kind", versions_kind(a.at, a.length), 0, 8);
   CLEAR, digest_slots("stability", versions_stability(a.at, a.length), 0, 8);
-  CLEAR, digest_slots("compare", versions_compare(a.at, a.length, b.at, b.length, I32), 1, 8);
   CLEAR, digest_slots("compare_total", versions_compare_total(a.at, a.length, b.at, b.length, I32), 1, 8);
   CLEAR, digest_slots("difference", versions_difference(a.at, a.length, b.at, b.length, U32(0), SIZE(1)), 2, 8);
-  CLEAR;
-  if (digest_slots("sort_key", versions_sort_key(a.at, a.length, out, room, SIZE(0)), 1, 8))
-    digest("sort_key", out, slots[0]);
   CLEAR;
   if (digest_slots("parse", versions_parse(a.at, a.length, (uint8_t *)&slots[0], out, room, SIZE(1)), 2, 8))
     digest("parse", out, slots[1]);
   // A short buffer, of the room that is needed at most.
-  CLEAR, digest_slots("sort_key", versions_sort_key(a.at, a.length, out, room < ROOM ? room : ROOM, SIZE(0)), 1, 8);
+  CLEAR;
+  digest_slots("key", versions_key(VERSIONS_MIXED, a.at, a.length, out, room < ROOM ? room : ROOM, SIZE(0)), 1, 8);
   CLEAR, digest_slots("matches", versions_matches(list.at, list.length, a.at, a.length, (bool *)&slots[0]), 1, 8);
   CLEAR, digest_slots("wrong_member", versions_wrong_member(list.at, list.length, SIZE(0), SIZE(1)), 2, 8);
   CLEAR, digest_slots("wrong_member", versions_wrong_member(a.at, a.length, SIZE(0), SIZE(1)), 2, 8);
@@ -159,17 +156,17 @@ static void digest_one(size_t place, struct text a, struct text b, struct text l
   digest_sets(VERSIONS_MIXED + (uint32_t)(place % VERSIONS_GEM), a, list);
   CLEAR, digest_slots("scheme", versions_scheme(a.at, a.length, U32(0)), 1, 8);
   for (uint32_t scheme = 0; scheme <= VERSIONS_GEM; scheme++) {
-    CLEAR, digest_slots("scheme_has", versions_scheme_has(scheme, a.at, a.length, (bool *)&slots[0]), 1, 1);
-    CLEAR, digest_slots("scheme_key_bound", versions_scheme_key_bound(scheme, a.length, SIZE(0)), 1, 8);
+    CLEAR, digest_slots("has", versions_has(scheme, a.at, a.length, (bool *)&slots[0]), 1, 1);
+    CLEAR, digest_slots("key_bound", versions_key_bound(scheme, a.length, SIZE(0)), 1, 8);
     CLEAR, digest_slots("wrong", versions_wrong(scheme, a.at, a.length, SIZE(0), U32(1)), 2, 8);
     CLEAR;
     if (digest_slots("wrong_text", versions_wrong_text(scheme, a.at, a.length, (char *)out, room, SIZE(0)), 1, 8))
       digest("wrong_text", out, slots[0]);
     CLEAR;
-    int status = versions_scheme_compare(scheme, a.at, a.length, b.at, b.length, I32);
-    digest_slots("scheme_compare", status, 1, 8);
-    CLEAR, status = versions_scheme_key(scheme, a.at, a.length, out, room, SIZE(0));
-    if (digest_slots("scheme_key", status, 1, 8)) digest("scheme_key", out, slots[0]);
+    int status = versions_compare(scheme, a.at, a.length, b.at, b.length, I32);
+    digest_slots("compare", status, 1, 8);
+    CLEAR, status = versions_key(scheme, a.at, a.length, out, room, SIZE(0));
+    if (digest_slots("key", status, 1, 8)) digest("key", out, slots[0]);
     CLEAR, status = versions_scheme_name(scheme, (char *)out, room, SIZE(0));
     if (digest_slots("scheme_name", status, 1, 8)) digest("scheme_name", out, slots[0]);
   }
@@ -215,19 +212,14 @@ static void digest_all(struct texts lines, struct texts lists) {
   digest("stabilities", keys, n);
   digest_slots("in_tags", versions_in_tags(texts, size, offsets, n + 1, (int64_t *)order, n), 0, 8);
   digest("in_tags", order, 8 * n);
-  digest_slots("sort_keys", versions_sort_keys(texts, size, offsets, n + 1, keys, room, key_offsets, n + 1), 0, 8);
-  digest("sort_keys", key_offsets, 8 * (n + 1));
-  digest("sort_keys", keys, (size_t)key_offsets[n]);
-  digest_slots("sort", versions_sort(texts, size, offsets, n + 1, keys, room, key_offsets, n + 1, order, n), 0, 8);
-  digest("sort", order, 8 * n);
   for (uint32_t scheme = VERSIONS_MIXED; scheme <= VERSIONS_GEM; scheme++) {
-    int its = versions_scheme_keys(scheme, texts, size, offsets, n + 1, keys, room, key_offsets, n + 1);
-    digest_slots("scheme_keys", its, 0, 8);
-    digest("scheme_keys", key_offsets, 8 * (n + 1));
-    digest("scheme_keys", keys, (size_t)key_offsets[n]);
-    its = versions_scheme_sort(scheme, texts, size, offsets, n + 1, keys, room, key_offsets, n + 1, order, n);
-    digest_slots("scheme_sort", its, 0, 8);
-    digest("scheme_sort", order, 8 * n);
+    int its = versions_keys(scheme, texts, size, offsets, n + 1, keys, room, key_offsets, n + 1);
+    digest_slots("keys", its, 0, 8);
+    digest("keys", key_offsets, 8 * (n + 1));
+    digest("keys", keys, (size_t)key_offsets[n]);
+    its = versions_sort(scheme, texts, size, offsets, n + 1, keys, room, key_offsets, n + 1, order, n);
+    digest_slots("sort", its, 0, 8);
+    digest("sort", order, 8 * n);
   }
   for (size_t place = 0; place < lists.count && place < LISTS; place++) {
     struct text list = lists.texts[place];

@@ -67,13 +67,11 @@ export function digest(library, lines, lists) {
     };
     ask("kind", a, 0);
     ask("stability", a, 0);
-    ask("compare", [...a, ...b, SLOTS[0]], 1);
     ask("compare_total", [...a, ...b, SLOTS[0]], 1);
     ask("difference", [...a, ...b, SLOTS[0], SLOTS[1]], 2);
-    written("sort_key", ask("sort_key", [...a, ...key, SLOTS[0]], 1), slot(0));
     written("parse", ask("parse", [...a, SLOTS[0], ...key, SLOTS[1]], 2), slot(1));
     // A short buffer, of the room that is needed at most.
-    ask("sort_key", [...a, BigInt(out), BigInt(Math.min(room, ROOM)), SLOTS[0]], 1);
+    ask("key", [MIXED, ...a, BigInt(out), BigInt(Math.min(room, ROOM)), SLOTS[0]], 1);
     ask("matches", [...wanted, ...a, SLOTS[0]], 1);
     ask("wrong_member", [...wanted, SLOTS[0], SLOTS[1]], 2);
     ask("wrong_member", [...a, SLOTS[0], SLOTS[1]], 2);
@@ -121,12 +119,12 @@ export function digest(library, lines, lists) {
     writes("set_not", its, made, madeRoom);
     ask("scheme", [...a, SLOTS[0]], 1);
     for (let scheme = 0; scheme <= GEM; scheme++) {
-      ask("scheme_has", [scheme, ...a, SLOTS[0]], 1, 1);
-      ask("scheme_key_bound", [scheme, BigInt(line.length), SLOTS[0]], 1);
+      ask("has", [scheme, ...a, SLOTS[0]], 1, 1);
+      ask("key_bound", [scheme, BigInt(line.length), SLOTS[0]], 1);
       ask("wrong", [scheme, ...a, SLOTS[0], SLOTS[1]], 2);
       written("wrong_text", ask("wrong_text", [scheme, ...a, ...key, SLOTS[0]], 1), slot(0));
-      ask("scheme_compare", [scheme, ...a, ...b, SLOTS[0]], 1);
-      written("scheme_key", ask("scheme_key", [scheme, ...a, ...key, SLOTS[0]], 1), slot(0));
+      ask("compare", [scheme, ...a, ...b, SLOTS[0]], 1);
+      written("key", ask("key", [scheme, ...a, ...key, SLOTS[0]], 1), slot(0));
       written("scheme_name", ask("scheme_name", [scheme, ...key, SLOTS[0]], 1), slot(0));
     }
     for (let n = 0; n < 4; n++) {
@@ -173,15 +171,13 @@ export function digest(library, lines, lists) {
   ask("in_tags", [...texts, BigInt(order), BigInt(count)], 0);
   digestAnswers("in_tags", order, 8 * count);
   const allKeys = [...texts, BigInt(keys), BigInt(room), BigInt(keyOffsets), BigInt(count + 1)];
-  const digestSorted = (keysName, sortName, scheme) => {
-    ask(keysName, [...scheme, ...allKeys], 0);
-    digestAnswers(keysName, keyOffsets, 8 * (count + 1));
-    digestAnswers(keysName, keys, library.wordPair(keyOffsets + 8 * count));
-    ask(sortName, [...scheme, ...allKeys, BigInt(order), BigInt(count)], 0);
-    digestAnswers(sortName, order, 8 * count);
-  };
-  digestSorted("sort_keys", "sort", []);
-  for (let scheme = MIXED; scheme <= GEM; scheme++) digestSorted("scheme_keys", "scheme_sort", [scheme]);
+  for (let scheme = MIXED; scheme <= GEM; scheme++) {
+    ask("keys", [scheme, ...allKeys], 0);
+    digestAnswers("keys", keyOffsets, 8 * (count + 1));
+    digestAnswers("keys", keys, library.wordPair(keyOffsets + 8 * count));
+    ask("sort", [scheme, ...allKeys, BigInt(order), BigInt(count)], 0);
+    digestAnswers("sort", order, 8 * count);
+  }
   for (const each of lists.slice(0, 20)) {
     const wanted = write(each, list);
     for (let flags = 0; flags < 2; flags++) ask("newest", [...texts, ...wanted, 4 * flags, flags, SLOTS[0]], 1);

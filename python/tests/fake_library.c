@@ -34,40 +34,30 @@ int versions_scheme(const char *name, size_t name_len, uint32_t *scheme) {
   return name_len == 4 ? VERSIONS_NO_SCHEME : name_len == 3 || name_len == 5 ? VERSIONS_OK : fake_status;
 }
 
-int versions_sort_key(const char *text, size_t text_len, uint8_t *key, size_t room, size_t *key_len) {
+int versions_key(uint32_t scheme, const char *text, size_t text_len, uint8_t *key, size_t room, size_t *key_len) {
   *key_len = 5;
+  if (fake_status == VERSIONS_OK) memset(key, (int)scheme, 5);
   return fake_status;
 }
 
 int versions_parse(const char *text, size_t text_len, uint8_t *kind, uint8_t *key, size_t room, size_t *key_len) {
-  if (fake_status == VERSIONS_OK) *kind = VERSIONS_GENERAL, memset(key, 1, 5);
-  return versions_sort_key(text, text_len, key, room, key_len);
+  if (fake_status == VERSIONS_OK) *kind = VERSIONS_GENERAL;
+  return versions_key(VERSIONS_MIXED, text, text_len, key, room, key_len);
 }
 
-int versions_scheme_key(uint32_t scheme, const char *text, size_t text_len, uint8_t *key, size_t room,
-                        size_t *key_len) {
-  if (fake_status == VERSIONS_OK) memset(key, (int)scheme, 5);
-  return versions_sort_key(text, text_len, key, room, key_len);
-}
-
-int versions_scheme_key_bound(uint32_t scheme, size_t text_len, size_t *bound) {
+int versions_key_bound(uint32_t scheme, size_t text_len, size_t *bound) {
   *bound = fake_key_bound;
   return fake_status == VERSIONS_NO_ROOM ? VERSIONS_OK : fake_status;
 }
 
 /* Each key takes its bound: bytes 8. */
-int versions_sort_keys(const char *texts, size_t texts_len, const int64_t *offsets, size_t offsets_len, uint8_t *keys,
-                       size_t room, int64_t *key_offsets, size_t key_offsets_len) {
+int versions_keys(uint32_t scheme, const char *texts, size_t texts_len, const int64_t *offsets, size_t offsets_len,
+                  uint8_t *keys, size_t room, int64_t *key_offsets, size_t key_offsets_len) {
   size_t place;
   if (fake_status != VERSIONS_OK || room != fake_key_bound * (offsets_len - 1)) return VERSIONS_NO_ROOM;
   memset(keys, 8, room);
   for (place = 0; place < offsets_len; place++) key_offsets[place] = (int64_t)(place * fake_key_bound);
   return VERSIONS_OK;
-}
-
-int versions_scheme_keys(uint32_t scheme, const char *texts, size_t texts_len, const int64_t *offsets,
-                         size_t offsets_len, uint8_t *keys, size_t room, int64_t *key_offsets, size_t key_offsets_len) {
-  return versions_sort_keys(texts, texts_len, offsets, offsets_len, keys, room, key_offsets, key_offsets_len);
 }
 
 int versions_range(const char *list, size_t list_len, uint8_t *low, size_t low_room, size_t *low_len, uint8_t *high,

@@ -46,11 +46,6 @@ static PyObject *sort_key(PyObject *Py_UNUSED(module), PyObject *args, PyObject 
 
 typedef int comparison(uint32_t, const char *, size_t, const char *, size_t, int32_t *);
 
-static int compare_in(uint32_t scheme, const char *a, size_t a_len, const char *b, size_t b_len, int32_t *order) {
-  return scheme == VERSIONS_MIXED ? versions_compare(a, a_len, b, b_len, order)
-                                  : versions_scheme_compare(scheme, a, a_len, b, b_len, order);
-}
-
 static int compare_totally(uint32_t Py_UNUSED(scheme), const char *a, size_t a_len, const char *b, size_t b_len,
                            int32_t *order) {
   return versions_compare_total(a, a_len, b, b_len, order);
@@ -93,7 +88,7 @@ static PyObject *compare(PyObject *Py_UNUSED(module), PyObject *args, PyObject *
   uint32_t scheme = VERSIONS_MIXED;
 
   if (read_with_scheme(args, named, "OO|$O:compare", names, &a, &b, &scheme) < 0) return NULL;
-  return compared(compare_in, scheme, a, b);
+  return compared(versions_compare, scheme, a, b);
 }
 
 static PyObject *compare_total(PyObject *Py_UNUSED(module), PyObject *args, PyObject *named) {
@@ -542,7 +537,7 @@ static int add_room(uint32_t scheme, const struct texts *texts, size_t place, si
 
   /* Offsets that the library will refuse may ask for any room. */
   if (start < 0 || end < start || (uint64_t)end > texts->size) return VERSIONS_BAD_OFFSETS;
-  status = versions_scheme_key_bound(scheme, (size_t)(end - start), &bound);
+  status = versions_key_bound(scheme, (size_t)(end - start), &bound);
   if (status != VERSIONS_OK) return status;
   if (bound > PY_SSIZE_T_MAX - *room) return VERSIONS_NO_MEMORY;
   *room += bound;
@@ -596,7 +591,7 @@ static int append_keys(PyObject *answers, const struct texts *texts, const struc
   return failed;
 }
 
-/* Asks for the keys of all texts in a scheme. The call for mixed alone takes about half of the other's time. */
+/* Asks for the keys of all texts in a scheme. */
 static int ask_keys(uint32_t scheme, const struct texts *texts, struct keys *keys) {
   size_t count = texts->count + 1;
   PyThreadState *thread;
@@ -604,12 +599,8 @@ static int ask_keys(uint32_t scheme, const struct texts *texts, struct keys *key
 
   if (allocate_keys(scheme, texts, keys) < 0) return -1;
   thread = let_go_of(texts);
-  if (scheme == VERSIONS_MIXED)
-    status = versions_sort_keys(texts->bytes, texts->size, texts->offsets, count, keys->bytes, keys->room,
-                                keys->offsets, count);
-  else
-    status = versions_scheme_keys(scheme, texts->bytes, texts->size, texts->offsets, count, keys->bytes, keys->room,
-                                  keys->offsets, count);
+  status = versions_keys(scheme, texts->bytes, texts->size, texts->offsets, count, keys->bytes, keys->room,
+                         keys->offsets, count);
   take_again(thread);
   if (status == VERSIONS_OK) return 0;
   raise_status(status);
@@ -824,12 +815,8 @@ static int ask_sort(struct sort *sort, const struct texts *texts) {
   PyThreadState *thread = let_go_of(texts);
   int status;
 
-  if (sort->scheme == VERSIONS_MIXED)
-    status = versions_sort(texts->bytes, texts->size, texts->offsets, count + 1, keys->bytes, keys->room,
-                           keys->offsets, count + 1, sort->order, count);
-  else
-    status = versions_scheme_sort(sort->scheme, texts->bytes, texts->size, texts->offsets, count + 1, keys->bytes,
-                                  keys->room, keys->offsets, count + 1, sort->order, count);
+  status = versions_sort(sort->scheme, texts->bytes, texts->size, texts->offsets, count + 1, keys->bytes, keys->room,
+                         keys->offsets, count + 1, sort->order, count);
   take_again(thread);
   return status;
 }
@@ -1000,7 +987,7 @@ static PyObject *newer_of(const struct search *search, Py_ssize_t a, Py_ssize_t 
   PyObject *second = PyList_GetItem(search->items, a < b ? b : a);
   int32_t order;
 
-  if (order_of_items(compare_in, VERSIONS_MIXED, first, second, &order) < 0) return NULL;
+  if (order_of_items(versions_compare, VERSIONS_MIXED, first, second, &order) < 0) return NULL;
   return order < 0 ? second : first;
 }
 

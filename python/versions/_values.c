@@ -60,7 +60,7 @@ const char *const kind_names[] = {"none", "ideal", "general", "complex"};
 static int ask_key(uint32_t scheme, const struct text *text, uint8_t *kind, uint8_t *room, size_t *size) {
   PyThreadState *thread = let_go(text->size);
   int status = scheme == VERSIONS_MIXED ? versions_parse(text->bytes, text->size, kind, room, *size, size)
-                                        : versions_scheme_key(scheme, text->bytes, text->size, room, *size, size);
+                                        : versions_key(scheme, text->bytes, text->size, room, *size, size);
 
   take_again(thread);
   return status;

@@ -103,27 +103,181 @@ pub const SET_NO_DIGIT: u32 = 11;
 pub const SET_NOT_DOUBLED: u32 = 12;
 
 extern "C" {
-    pub fn versions_kind(text: *const c_char, text_len: usize) -> c_int;
     pub fn versions_compare(
+        scheme: u32,
         a: *const c_char,
         a_len: usize,
         b: *const c_char,
         b_len: usize,
         order: *mut i32,
     ) -> c_int;
+    pub fn versions_has(scheme: u32, text: *const c_char, text_len: usize, has: *mut u8) -> c_int;
+    pub fn versions_wrong(
+        scheme: u32,
+        text: *const c_char,
+        text_len: usize,
+        place: *mut usize,
+        reason: *mut u32,
+    ) -> c_int;
+    pub fn versions_wrong_text(
+        scheme: u32,
+        text: *const c_char,
+        text_len: usize,
+        why: *mut c_char,
+        room: usize,
+        why_len: *mut usize,
+    ) -> c_int;
+    pub fn versions_key(
+        scheme: u32,
+        text: *const c_char,
+        text_len: usize,
+        key: *mut u8,
+        room: usize,
+        key_len: *mut usize,
+    ) -> c_int;
+    pub fn versions_key_bound(scheme: u32, text_len: usize, bound: *mut usize) -> c_int;
+    pub fn versions_keys(
+        scheme: u32,
+        texts: *const c_char,
+        texts_len: usize,
+        offsets: *const i64,
+        offsets_len: usize,
+        keys: *mut u8,
+        room: usize,
+        key_offsets: *mut i64,
+        key_offsets_len: usize,
+    ) -> c_int;
+    pub fn versions_sort(
+        scheme: u32,
+        texts: *const c_char,
+        texts_len: usize,
+        offsets: *const i64,
+        offsets_len: usize,
+        keys: *mut u8,
+        room: usize,
+        key_offsets: *mut i64,
+        key_offsets_len: usize,
+        order: *mut u64,
+        order_len: usize,
+    ) -> c_int;
+    pub fn versions_scheme(name: *const c_char, name_len: usize, scheme: *mut u32) -> c_int;
+    pub fn versions_scheme_name(
+        scheme: u32,
+        name: *mut c_char,
+        room: usize,
+        name_len: *mut usize,
+    ) -> c_int;
+    pub fn versions_set(
+        scheme: u32,
+        text: *const c_char,
+        text_len: usize,
+        form: *mut u8,
+        room: usize,
+        form_len: *mut usize,
+    ) -> c_int;
+    pub fn versions_set_bound(
+        scheme: u32,
+        text: *const c_char,
+        text_len: usize,
+        bound: *mut usize,
+    ) -> c_int;
+    pub fn versions_set_wrong(
+        scheme: u32,
+        text: *const c_char,
+        text_len: usize,
+        place: *mut usize,
+        reason: *mut u32,
+    ) -> c_int;
+    pub fn versions_set_wrong_text(
+        scheme: u32,
+        text: *const c_char,
+        text_len: usize,
+        why: *mut c_char,
+        room: usize,
+        why_len: *mut usize,
+    ) -> c_int;
+    pub fn versions_set_of_version(
+        scheme: u32,
+        text: *const c_char,
+        text_len: usize,
+        form: *mut u8,
+        room: usize,
+        form_len: *mut usize,
+    ) -> c_int;
+    pub fn versions_set_scheme(form: *const u8, form_len: usize, scheme: *mut u32) -> c_int;
+    pub fn versions_set_has(
+        form: *const u8,
+        form_len: usize,
+        text: *const c_char,
+        text_len: usize,
+        has: *mut u8,
+    ) -> c_int;
+    pub fn versions_set_has_all(
+        form: *const u8,
+        form_len: usize,
+        texts: *const c_char,
+        texts_len: usize,
+        offsets: *const i64,
+        offsets_len: usize,
+        answers: *mut u8,
+        answers_len: usize,
+    ) -> c_int;
+    pub fn versions_set_and(
+        one: *const u8,
+        one_len: usize,
+        other: *const u8,
+        other_len: usize,
+        form: *mut u8,
+        room: usize,
+        form_len: *mut usize,
+    ) -> c_int;
+    pub fn versions_set_or(
+        one: *const u8,
+        one_len: usize,
+        other: *const u8,
+        other_len: usize,
+        form: *mut u8,
+        room: usize,
+        form_len: *mut usize,
+    ) -> c_int;
+    pub fn versions_set_not(
+        set: *const u8,
+        set_len: usize,
+        form: *mut u8,
+        room: usize,
+        form_len: *mut usize,
+    ) -> c_int;
+    pub fn versions_set_part_of(
+        one: *const u8,
+        one_len: usize,
+        other: *const u8,
+        other_len: usize,
+        is_part: *mut u8,
+    ) -> c_int;
+    pub fn versions_set_meets(
+        one: *const u8,
+        one_len: usize,
+        other: *const u8,
+        other_len: usize,
+        meet: *mut u8,
+    ) -> c_int;
+    pub fn versions_set_count(form: *const u8, form_len: usize, count: *mut usize) -> c_int;
+    pub fn versions_set_interval(
+        form: *const u8,
+        form_len: usize,
+        place: usize,
+        low: *mut usize,
+        low_end: *mut usize,
+        high: *mut usize,
+        high_end: *mut usize,
+    ) -> c_int;
+    pub fn versions_kind(text: *const c_char, text_len: usize) -> c_int;
     pub fn versions_compare_total(
         a: *const c_char,
         a_len: usize,
         b: *const c_char,
         b_len: usize,
         order: *mut i32,
-    ) -> c_int;
-    pub fn versions_sort_key(
-        text: *const c_char,
-        text_len: usize,
-        key: *mut u8,
-        room: usize,
-        key_len: *mut usize,
     ) -> c_int;
     pub fn versions_parse(
         text: *const c_char,
@@ -133,7 +287,6 @@ extern "C" {
         room: usize,
         key_len: *mut usize,
     ) -> c_int;
-    pub fn versions_sort_key_bound(text_len: usize) -> usize;
     pub fn versions_matches(
         list: *const c_char,
         list_len: usize,
@@ -268,179 +421,6 @@ extern "C" {
         other_start: *mut usize,
         other_end: *mut usize,
     ) -> c_int;
-    pub fn versions_scheme(name: *const c_char, name_len: usize, scheme: *mut u32) -> c_int;
-    pub fn versions_scheme_name(
-        scheme: u32,
-        name: *mut c_char,
-        room: usize,
-        name_len: *mut usize,
-    ) -> c_int;
-    pub fn versions_scheme_has(
-        scheme: u32,
-        text: *const c_char,
-        text_len: usize,
-        has: *mut u8,
-    ) -> c_int;
-    pub fn versions_wrong(
-        scheme: u32,
-        text: *const c_char,
-        text_len: usize,
-        place: *mut usize,
-        reason: *mut u32,
-    ) -> c_int;
-    pub fn versions_wrong_text(
-        scheme: u32,
-        text: *const c_char,
-        text_len: usize,
-        why: *mut c_char,
-        room: usize,
-        why_len: *mut usize,
-    ) -> c_int;
-    pub fn versions_scheme_compare(
-        scheme: u32,
-        a: *const c_char,
-        a_len: usize,
-        b: *const c_char,
-        b_len: usize,
-        order: *mut i32,
-    ) -> c_int;
-    pub fn versions_scheme_key_bound(scheme: u32, text_len: usize, bound: *mut usize) -> c_int;
-    pub fn versions_scheme_key(
-        scheme: u32,
-        text: *const c_char,
-        text_len: usize,
-        key: *mut u8,
-        room: usize,
-        key_len: *mut usize,
-    ) -> c_int;
-    pub fn versions_scheme_keys(
-        scheme: u32,
-        texts: *const c_char,
-        texts_len: usize,
-        offsets: *const i64,
-        offsets_len: usize,
-        keys: *mut u8,
-        room: usize,
-        key_offsets: *mut i64,
-        key_offsets_len: usize,
-    ) -> c_int;
-    pub fn versions_scheme_sort(
-        scheme: u32,
-        texts: *const c_char,
-        texts_len: usize,
-        offsets: *const i64,
-        offsets_len: usize,
-        keys: *mut u8,
-        room: usize,
-        key_offsets: *mut i64,
-        key_offsets_len: usize,
-        order: *mut u64,
-        order_len: usize,
-    ) -> c_int;
-    pub fn versions_set(
-        scheme: u32,
-        text: *const c_char,
-        text_len: usize,
-        form: *mut u8,
-        room: usize,
-        form_len: *mut usize,
-    ) -> c_int;
-    pub fn versions_set_bound(
-        scheme: u32,
-        text: *const c_char,
-        text_len: usize,
-        bound: *mut usize,
-    ) -> c_int;
-    pub fn versions_set_wrong(
-        scheme: u32,
-        text: *const c_char,
-        text_len: usize,
-        place: *mut usize,
-        reason: *mut u32,
-    ) -> c_int;
-    pub fn versions_set_wrong_text(
-        scheme: u32,
-        text: *const c_char,
-        text_len: usize,
-        why: *mut c_char,
-        room: usize,
-        why_len: *mut usize,
-    ) -> c_int;
-    pub fn versions_set_of_version(
-        scheme: u32,
-        text: *const c_char,
-        text_len: usize,
-        form: *mut u8,
-        room: usize,
-        form_len: *mut usize,
-    ) -> c_int;
-    pub fn versions_set_scheme(form: *const u8, form_len: usize, scheme: *mut u32) -> c_int;
-    pub fn versions_set_has(
-        form: *const u8,
-        form_len: usize,
-        text: *const c_char,
-        text_len: usize,
-        has: *mut u8,
-    ) -> c_int;
-    pub fn versions_set_has_all(
-        form: *const u8,
-        form_len: usize,
-        texts: *const c_char,
-        texts_len: usize,
-        offsets: *const i64,
-        offsets_len: usize,
-        answers: *mut u8,
-        answers_len: usize,
-    ) -> c_int;
-    pub fn versions_set_and(
-        one: *const u8,
-        one_len: usize,
-        other: *const u8,
-        other_len: usize,
-        form: *mut u8,
-        room: usize,
-        form_len: *mut usize,
-    ) -> c_int;
-    pub fn versions_set_or(
-        one: *const u8,
-        one_len: usize,
-        other: *const u8,
-        other_len: usize,
-        form: *mut u8,
-        room: usize,
-        form_len: *mut usize,
-    ) -> c_int;
-    pub fn versions_set_not(
-        set: *const u8,
-        set_len: usize,
-        form: *mut u8,
-        room: usize,
-        form_len: *mut usize,
-    ) -> c_int;
-    pub fn versions_set_part_of(
-        one: *const u8,
-        one_len: usize,
-        other: *const u8,
-        other_len: usize,
-        is_part: *mut u8,
-    ) -> c_int;
-    pub fn versions_set_meets(
-        one: *const u8,
-        one_len: usize,
-        other: *const u8,
-        other_len: usize,
-        meet: *mut u8,
-    ) -> c_int;
-    pub fn versions_set_count(form: *const u8, form_len: usize, count: *mut usize) -> c_int;
-    pub fn versions_set_interval(
-        form: *const u8,
-        form_len: usize,
-        place: usize,
-        low: *mut usize,
-        low_end: *mut usize,
-        high: *mut usize,
-        high_end: *mut usize,
-    ) -> c_int;
     pub fn versions_kinds(
         texts: *const c_char,
         texts_len: usize,
@@ -475,28 +455,6 @@ extern "C" {
         least: u32,
         flags: u32,
         place: *mut usize,
-    ) -> c_int;
-    pub fn versions_sort_keys(
-        texts: *const c_char,
-        texts_len: usize,
-        offsets: *const i64,
-        offsets_len: usize,
-        keys: *mut u8,
-        room: usize,
-        key_offsets: *mut i64,
-        key_offsets_len: usize,
-    ) -> c_int;
-    pub fn versions_sort(
-        texts: *const c_char,
-        texts_len: usize,
-        offsets: *const i64,
-        offsets_len: usize,
-        keys: *mut u8,
-        room: usize,
-        key_offsets: *mut i64,
-        key_offsets_len: usize,
-        order: *mut u64,
-        order_len: usize,
     ) -> c_int;
     pub fn versions_match_all(
         list: *const c_char,

@@ -131,7 +131,7 @@ pub fn kind(text: &str) -> Option<Kind> {
 /// assert_eq!(compare("1.0", "1..2").unwrap_err().text(), "1..2");
 /// ```
 pub fn compare(a: &str, b: &str) -> Result<Ordering, InvalidVersion> {
-    library::compare(a, b).map_err(InvalidVersion::mixed)
+    Scheme::Mixed.compare(a, b)
 }
 
 /// Compares two texts in the total order, as `Ord` of [`Versioning`] does: by precedence, with ties

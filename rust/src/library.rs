@@ -51,11 +51,6 @@ impl Texts {
     fn count(&self) -> usize {
         self.offsets.len() - 1
     }
-
-    /// How many bytes are enough for the sort keys of all texts.
-    fn key_room(&self) -> usize {
-        3 * self.bytes.len() + 5 * self.count()
-    }
 }
 
 /// The kind of a text; `None` where it is not a version.
@@ -64,15 +59,7 @@ pub fn kind(text: &str) -> Option<Kind> {
     kind_of(unsafe { versions_kind(start(text), text.len()) })
 }
 
-/// How two versions compare by precedence; the error is the first text that is not a version.
-pub fn compare<'t>(a: &'t str, b: &'t str) -> Result<Ordering, &'t str> {
-    let mut order = 0;
-    // SAFETY: each pointer has the length of its text, which is only read; `order` is written.
-    let status = unsafe { versions_compare(start(a), a.len(), start(b), b.len(), &mut order) };
-    ordering("versions_compare", status, order, a, b)
-}
-
-/// The same in the total order.
+/// How two versions compare in the total order; the error is the first text that is not a version.
 pub fn compare_total<'t>(a: &'t str, b: &'t str) -> Result<Ordering, &'t str> {
     let mut order = 0;
     // SAFETY: each pointer has the length of its text, which is only read; `order` is written.
@@ -663,65 +650,6 @@ pub fn newest(texts: &Texts, list: &str, least: Stability, are_tags: bool) -> Op
         OK => unexpected("versions_newest", "place", place),
         NO_VERSION => None,
         _ => unexpected("versions_newest", "status", status),
-    }
-}
-
-/// The sort keys of the texts, one after another, and their offsets, one more than texts.
-pub fn sort_keys(texts: &Texts) -> (Vec<u8>, Vec<i64>) {
-    let Texts { bytes, offsets } = texts;
-    let mut keys = vec![0; texts.key_room()];
-    let mut key_offsets = vec![0; offsets.len()];
-    // SAFETY: each pointer has the length of its array. Texts and offsets are only read, and the
-    // library refuses offsets that leave the texts. The others are written, and overlap with
-    // nothing.
-    let status = unsafe {
-        versions_sort_keys(
-            start(bytes),
-            bytes.len(),
-            offsets.as_ptr(),
-            offsets.len(),
-            keys.as_mut_ptr(),
-            keys.len(),
-            key_offsets.as_mut_ptr(),
-            key_offsets.len(),
-        )
-    };
-    match status {
-        OK => {
-            keys.truncate(key_offsets[texts.count()] as usize);
-            keys.shrink_to_fit();
-            (keys, key_offsets)
-        }
-        _ => unexpected("versions_sort_keys", "status", status),
-    }
-}
-
-/// The places of the texts in the total order, texts that are not versions last.
-pub fn order(texts: &Texts) -> Vec<usize> {
-    let Texts { bytes, offsets } = texts;
-    let mut keys = vec![0; texts.key_room()];
-    let mut key_offsets = vec![0; offsets.len()];
-    let mut order = vec![0; texts.count()];
-    // SAFETY: each pointer has the length of its array. Texts and offsets are only read, and the
-    // library refuses offsets that leave the texts. The others are written, and overlap with
-    // nothing.
-    let status = unsafe {
-        versions_sort(
-            start(bytes),
-            bytes.len(),
-            offsets.as_ptr(),
-            offsets.len(),
-            keys.as_mut_ptr(),
-            keys.len(),
-            key_offsets.as_mut_ptr(),
-            key_offsets.len(),
-            order.as_mut_ptr(),
-            order.len(),
-        )
-    };
-    match status {
-        OK => order.into_iter().map(|place| place as usize).collect(),
-        _ => unexpected("versions_sort", "status", status),
     }
 }
 

@@ -1,5 +1,5 @@
 use crate::library::{self, Texts};
-use crate::{Kind, Requirement, Stability};
+use crate::{Kind, Requirement, Scheme, Stability};
 
 /// Returns the kind of each text, as [`kind`](crate::kind()) returns it, in one call of the library.
 ///
@@ -29,7 +29,7 @@ pub fn kinds<T: AsRef<str>>(texts: &[T]) -> Vec<Option<Kind>> {
 /// assert_eq!(keys.get(1), None);
 /// ```
 pub fn sort_keys<T: AsRef<str>>(texts: &[T]) -> SortKeys {
-    SortKeys::new(library::sort_keys(&Texts::new(texts)))
+    Scheme::Mixed.sort_keys(texts)
 }
 
 /// Returns whether a requirement matches each text, in one call of the library; `None` for a text
@@ -145,7 +145,7 @@ pub fn newest_tag<'t, T: AsRef<str>>(
 /// assert_eq!(proved_versions::order(&["1.10", "1..2", "1.9", "1.10rc1"]), [2, 3, 0, 1]);
 /// ```
 pub fn order<T: AsRef<str>>(texts: &[T]) -> Vec<usize> {
-    library::order(&Texts::new(texts))
+    Scheme::Mixed.order(texts)
 }
 
 /// Sorts texts into the order of their versions, as [`order`] has it: stable, and texts that are

@@ -26,7 +26,7 @@ use std::fmt;
 use std::hash::Hash;
 use std::str::FromStr;
 
-use crate::library::{self, schemes, Texts};
+use crate::library::{schemes, Texts};
 use crate::many::permute;
 use crate::{InvalidName, InvalidVersion, Key, SortKeys, VersionOf, Versioning};
 
@@ -164,11 +164,7 @@ impl Scheme {
     /// assert_eq!(Scheme::Deb.order(&["1.0", "1_0", "1.0-0", "1.0~"]), [3, 0, 2, 1]);
     /// ```
     pub fn order<T: AsRef<str>>(self, texts: &[T]) -> Vec<usize> {
-        let texts = Texts::new(texts);
-        match self {
-            Scheme::Mixed => library::order(&texts),
-            _ => schemes::order(self, &texts),
-        }
+        schemes::order(self, &Texts::new(texts))
     }
 
     /// Sorts texts into the order that [`order`](Scheme::order) has. Allocates what that does. The

@@ -120,7 +120,7 @@ fn statuses() {
             panic(|| match_all(&exact, &["v99"])),
         ),
         ("versions_kinds", panic(|| kinds(&["v99"]))),
-        ("versions_sort_keys", panic(|| sort_keys(&["v99"]))),
+        ("versions_keys", panic(|| sort_keys(&["v99"]))),
         ("versions_sort", panic(|| sort(&mut ["v99"]))),
     ];
     for (call, text) in said {
@@ -226,7 +226,7 @@ fn statuses_of_other_calls() {
         );
         assert_eq!(
             panic(|| sort_keys(&[text])),
-            unexpected("versions_sort_keys", status)
+            unexpected("versions_keys", status)
         );
         assert_eq!(
             panic(|| order(&[text])),
@@ -434,28 +434,19 @@ fn statuses_of_schemes_and_sets() {
     let any = |text| VersionSet::new_in(text, Scheme::Rpm).unwrap();
     let said = [
         ("versions_scheme", panic(|| "v99".parse::<Scheme>())),
-        ("versions_scheme_has", panic(|| deb.is_version("v99"))),
+        ("versions_has", panic(|| deb.is_version("v99"))),
+        ("versions_compare", panic(|| deb.compare("v99", "v99"))),
         (
-            "versions_scheme_compare",
-            panic(|| deb.compare("v99", "v99")),
-        ),
-        (
-            "versions_scheme_compare",
+            "versions_compare",
             panic(|| VersionOf::new("v99", Deb).unwrap() == "v99"),
         ),
-        ("versions_scheme_key_bound", panic(|| deb.sort_key(&long))),
-        (
-            "versions_scheme_key_bound",
-            panic(|| deb.sort_keys(&[&long])),
-        ),
-        ("versions_scheme_key_bound", panic(|| deb.order(&[&long]))),
-        ("versions_scheme_key", panic(|| deb.sort_key("x99"))),
-        (
-            "versions_scheme_key",
-            panic(|| VersionOf::new("x99", Deb).is_ok()),
-        ),
-        ("versions_scheme_keys", panic(|| deb.sort_keys(&["v99"]))),
-        ("versions_scheme_sort", panic(|| deb.sort(&mut ["v99"]))),
+        ("versions_key_bound", panic(|| deb.sort_key(&long))),
+        ("versions_key_bound", panic(|| deb.sort_keys(&[&long]))),
+        ("versions_key_bound", panic(|| deb.order(&[&long]))),
+        ("versions_key", panic(|| deb.sort_key("x99"))),
+        ("versions_key", panic(|| VersionOf::new("x99", Deb).is_ok())),
+        ("versions_keys", panic(|| deb.sort_keys(&["v99"]))),
+        ("versions_sort", panic(|| deb.sort(&mut ["v99"]))),
         ("versions_sort", panic(|| Scheme::Mixed.order(&["v99"]))),
         (
             "versions_set_bound",
@@ -527,22 +518,13 @@ fn statuses_of_schemes_and_sets() {
                 "versions_set_bound",
                 panic(|| VersionSet::new(format!("b{number}")).is_ok()),
             ),
+            ("versions_has", panic(|| Scheme::Gem.is_version(&text))),
             (
-                "versions_scheme_has",
-                panic(|| Scheme::Gem.is_version(&text)),
-            ),
-            (
-                "versions_scheme_compare",
+                "versions_compare",
                 panic(|| Scheme::Gem.compare(&text, "v0")),
             ),
-            (
-                "versions_scheme_keys",
-                panic(|| Scheme::Gem.sort_keys(&[&text])),
-            ),
-            (
-                "versions_scheme_sort",
-                panic(|| Scheme::Gem.order(&[&text])),
-            ),
+            ("versions_keys", panic(|| Scheme::Gem.sort_keys(&[&text]))),
+            ("versions_sort", panic(|| Scheme::Gem.order(&[&text]))),
         ];
         for (call, said) in forms {
             assert_eq!(said, unexpected(call, &status));
@@ -551,7 +533,7 @@ fn statuses_of_schemes_and_sets() {
             let said = panic(|| made().contains_text("v0"));
             assert_eq!(said, unexpected("versions_set_has", &status));
             let said = panic(|| Scheme::Gem.sort_key(&format!("x{number}")));
-            assert_eq!(said, unexpected("versions_scheme_key", &status));
+            assert_eq!(said, unexpected("versions_key", &status));
         }
         if number != 18 {
             let said = panic(|| VersionSet::new(format!("x{number}")).is_ok());
@@ -581,7 +563,7 @@ fn statuses_of_schemes_and_sets() {
 fn answers_of_schemes_and_sets() {
     let (deb, made) = (Scheme::Deb, set("s0"));
     let said = [
-        ("versions_scheme_has", panic(|| deb.is_version("v0"))),
+        ("versions_has", panic(|| deb.is_version("v0"))),
         ("versions_set_has", panic(|| made.contains_text("v0"))),
         (
             "versions_set_has",
@@ -603,15 +585,15 @@ fn answers_of_schemes_and_sets() {
     );
     assert_eq!(
         panic(|| deb.compare("v0", "v0")),
-        unexpected("versions_scheme_compare", "order 7")
+        unexpected("versions_compare", "order 7")
     );
     let long = |letter: &str| letter.to_string() + &"0".repeat(1000);
     for (text, room) in [("l0".to_string(), 128), (long("l"), 1002)] {
         let what = format!("length {}", room + 1);
         let said = panic(|| deb.sort_key(&text));
-        assert_eq!(said, unexpected("versions_scheme_key", &what));
+        assert_eq!(said, unexpected("versions_key", &what));
         let said = panic(|| VersionOf::new(&text, Deb).is_ok());
-        assert_eq!(said, unexpected("versions_scheme_key", &what));
+        assert_eq!(said, unexpected("versions_key", &what));
     }
     let said = [
         ("versions_set", panic(|| VersionSet::new("l0").is_ok()), 3),

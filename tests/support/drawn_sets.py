@@ -46,9 +46,8 @@ class C(Library):
         offsets = (ctypes.c_int64 * (count + 1))(0, *itertools.accumulate(map(len, encoded)))
         ends, order, sizes = (ctypes.c_int64 * (count + 1))(), (ctypes.c_uint64 * count)(), (count + 1, count)
         lengths = [ctypes.c_size_t(size) for size in sizes]
-        name, words = ("sort", ()) if scheme == 1 else ("scheme_sort", (scheme,))
-        words += (joined, offsets, lengths[0], self.buffer, ctypes.c_size_t(room), ends, lengths[0], order, lengths[1])
-        assert self.call(name, *words) == OK, name
+        written = (self.buffer, ctypes.c_size_t(room), ends, lengths[0], order, lengths[1])
+        assert self.call("sort", scheme, joined, offsets, lengths[0], *written) == OK, scheme
         keys = [ctypes.string_at(self.buffer, ends[count])[start:end] for start, end in zip(ends, ends[1:])]
         return keys, [*order]
 
@@ -152,7 +151,7 @@ class Drawing:
                     for version in versions],
             "none": self.draw.choice(self.others),
             "order": self.model.compare(a, b),
-            "keys": [c.made("scheme_key", self.number, coded(version)).hex() for version in (a, b)],
+            "keys": [c.made("key", self.number, coded(version)).hex() for version in (a, b)],
         }
 
     def many(self):

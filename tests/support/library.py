@@ -3,6 +3,7 @@ import ctypes
 from pathlib import Path
 
 OK = 0
+MIXED = 1
 KINDS = (None, "ideal", "general", "complex")
 
 
@@ -42,7 +43,7 @@ class Library:
 
     def compare(self, a, b):
         order = ctypes.c_int32()
-        assert self.call("compare", coded(a), coded(b), ctypes.byref(order)) == OK, (a, b)
+        assert self.call("compare", MIXED, coded(a), coded(b), ctypes.byref(order)) == OK, (a, b)
         return order.value
 
     def intervals(self, form):

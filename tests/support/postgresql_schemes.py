@@ -36,7 +36,7 @@ class C(Library):
         self.scheme = scheme
 
     def key(self, text):
-        return self.made("scheme_key", self.scheme, text.encode())
+        return self.made("key", self.scheme, text.encode())
 
     def form(self, text):
         return self.made("set", self.scheme, text.encode())

@@ -33,12 +33,6 @@ static int number_of_all(const char *texts, size_t texts_len, const int64_t *off
   return offsets[offsets_len - 1] == (int64_t)texts_len ? number(texts, texts_len) : 77;
 }
 
-/* The same for a call that has room for the keys; 76 where that isn't the room that is always enough. */
-static int number_by_keys(const char *texts, size_t texts_len, const int64_t *offsets, size_t offsets_len,
-                          size_t room) {
-  return room == 3 * texts_len + 5 * (offsets_len - 1) ? number_of_all(texts, texts_len, offsets, offsets_len) : 76;
-}
-
 /*
  * A place by the letter after the number: `a` past the text, `b` an end before the start, `c` nothing, `d` the places
  * from 3 to 4, and otherwise far past the text.
@@ -61,13 +55,9 @@ int versions_parse(const char *text, size_t text_len, uint8_t *kind, uint8_t *ke
   return first == 'v' || first == 'i' ? VERSIONS_OK : number(text, text_len);
 }
 
-int versions_compare(const char *a, size_t a_len, const char *b, size_t b_len, int32_t *order) {
+int versions_compare_total(const char *a, size_t a_len, const char *b, size_t b_len, int32_t *order) {
   *order = 7;
   return number(a, a_len);
-}
-
-int versions_compare_total(const char *a, size_t a_len, const char *b, size_t b_len, int32_t *order) {
-  return versions_compare(a, a_len, b, b_len, order);
 }
 
 int versions_matches(const char *list, size_t list_len, const char *text, size_t text_len, bool *matches) {
@@ -186,18 +176,6 @@ int versions_newest(const char *texts, size_t texts_len, const int64_t *offsets,
   return number_of_all(texts, texts_len, offsets, offsets_len);
 }
 
-int versions_sort_keys(const char *texts, size_t texts_len, const int64_t *offsets, size_t offsets_len, uint8_t *keys,
-                       size_t room, int64_t *key_offsets, size_t key_offsets_len) {
-  for (size_t i = 0; i < key_offsets_len; i++) key_offsets[i] = -1 - (int64_t)i;
-  return number_by_keys(texts, texts_len, offsets, offsets_len, room);
-}
-
-int versions_sort(const char *texts, size_t texts_len, const int64_t *offsets, size_t offsets_len, uint8_t *keys,
-                  size_t room, int64_t *key_offsets, size_t key_offsets_len, uint64_t *order, size_t order_len) {
-  for (size_t i = 0; i < order_len; i++) order[i] = order_len + i;
-  return number_by_keys(texts, texts_len, offsets, offsets_len, room);
-}
-
 int versions_match_all(const char *list, size_t list_len, const char *texts, size_t texts_len, const int64_t *offsets,
                        size_t offsets_len, uint8_t *matches, size_t matches_len) {
   memset(matches, 9, matches_len);
@@ -215,23 +193,23 @@ int versions_in_range_all(const char *texts, size_t texts_len, const int64_t *of
  * Schemes
  */
 
-int versions_scheme_has(uint32_t scheme, const char *text, size_t text_len, bool *has) {
+int versions_has(uint32_t scheme, const char *text, size_t text_len, bool *has) {
   *(unsigned char *)has = 9;
   return number(text, text_len);
 }
 
-int versions_scheme_compare(uint32_t scheme, const char *a, size_t a_len, const char *b, size_t b_len, int32_t *order) {
-  return versions_compare(a, a_len, b, b_len, order);
+int versions_compare(uint32_t scheme, const char *a, size_t a_len, const char *b, size_t b_len, int32_t *order) {
+  return versions_compare_total(a, a_len, b, b_len, order);
 }
 
 /* A text of 99 bytes has the status 99. */
-int versions_scheme_key_bound(uint32_t scheme, size_t text_len, size_t *bound) {
+int versions_key_bound(uint32_t scheme, size_t text_len, size_t *bound) {
   *bound = text_len + 1;
   return text_len == 99 ? 99 : VERSIONS_OK;
 }
 
 /* `l0` has a key longer than the room. */
-int versions_scheme_key(uint32_t scheme, const char *text, size_t text_len, uint8_t *key, size_t room,
+int versions_key(uint32_t scheme, const char *text, size_t text_len, uint8_t *key, size_t room,
                         size_t *key_len) {
   char first = letter(text, text_len);
   if (room < text_len + 1) return 76;
@@ -240,23 +218,23 @@ int versions_scheme_key(uint32_t scheme, const char *text, size_t text_len, uint
   return first == 'v' || first == 'i' ? VERSIONS_OK : number(text, text_len);
 }
 
-/* The number in the texts; 76 where there isn't the room of versions_scheme_key_bound for each. */
-static int number_by_scheme_keys(const char *texts, size_t texts_len, const int64_t *offsets, size_t offsets_len,
+/* The number in the texts; 76 where there isn't the room of versions_key_bound for each. */
+static int number_by_keys(const char *texts, size_t texts_len, const int64_t *offsets, size_t offsets_len,
                                  size_t room) {
   return room == texts_len + offsets_len - 1 ? number_of_all(texts, texts_len, offsets, offsets_len) : 76;
 }
 
-int versions_scheme_keys(uint32_t scheme, const char *texts, size_t texts_len, const int64_t *offsets,
+int versions_keys(uint32_t scheme, const char *texts, size_t texts_len, const int64_t *offsets,
                          size_t offsets_len, uint8_t *keys, size_t room, int64_t *key_offsets, size_t key_offsets_len) {
   for (size_t i = 0; i < key_offsets_len; i++) key_offsets[i] = -1 - (int64_t)i;
-  return number_by_scheme_keys(texts, texts_len, offsets, offsets_len, room);
+  return number_by_keys(texts, texts_len, offsets, offsets_len, room);
 }
 
-int versions_scheme_sort(uint32_t scheme, const char *texts, size_t texts_len, const int64_t *offsets,
+int versions_sort(uint32_t scheme, const char *texts, size_t texts_len, const int64_t *offsets,
                          size_t offsets_len, uint8_t *keys, size_t room, int64_t *key_offsets, size_t key_offsets_len,
                          uint64_t *order, size_t order_len) {
   for (size_t i = 0; i < order_len; i++) order[i] = order_len + i;
-  return number_by_scheme_keys(texts, texts_len, offsets, offsets_len, room);
+  return number_by_keys(texts, texts_len, offsets, offsets_len, room);
 }
 
 /*

@@ -1,16 +1,16 @@
 -- Sort keys in the caller's buffer.
 use Rattle.std.specs.Prelude.{◌≡◌, ℕ, zero, suc, ◌-◌, ◌^◌, min, ℤ, List, [], ◌++◌, length, Option, Some, None}
-use Rattle.std.specs.Option.{option_map, unwrap_or}
-use Rattle.version_rules.specs.key.Key.{key_of}
-use Rattle.version_rules.specs.key.KeyBytes.{key_bytes}
-use Rattle.version_rules.specs.grammar.Versioning.{versioning_of}
+use Rattle.std.specs.Option.{unwrap_or}
+use Rattle.version_schemes.specs.Scheme.{rules}
+use Rattle.version_schemes.specs.declared.scheme.Scheme.TheVariants.{Mixed}
 use Rattle.versions_c.specs.Offsets.{AreOffsets, text_at}
+use Rattle.versions_c.specs.Schemes.{key_by}
 use Rattle.versions_c.specs.Written.{room_status}
 use Rattle.versions_c.specs.declared.status.TheConstants.{NO_VERSION}
 
--- the key of a text's version
+-- the key of the version of mixed that a text is
 abbrev pub spelled_key : List ℕ → Option (List ℕ)
-spelled_key text = option_map (λ v. key_bytes (key_of v)) (versioning_of text)
+spelled_key text = key_by (rules Mixed).read_as text
 
 -- the keys of the first texts, one after another, and nothing for a text that has none
 abbrev pub keys_before : (List ℕ → Option (List ℕ)) → List ℕ → List ℕ → ℕ → List ℕ

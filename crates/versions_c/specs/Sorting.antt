@@ -13,11 +13,15 @@ use Rattle.version_rules.specs.order.Orders.{versioning_cmp}
 use Rattle.version_rules.specs.grammar.Versioning.{versioning_of}
 use Rattle.version_rules.specs.declared.kind.Kind.{Kind}
 use Rattle.version_rules.specs.declared.kind.Kind.TheVariants.{Ideal}
+use Rattle.version_schemes.specs.Scheme.{rules}
+use Rattle.version_schemes.specs.declared.scheme.Scheme.{Scheme}
+use Rattle.version_schemes.specs.declared.scheme.Scheme.TheVariants.{Mixed}
 use Rattle.version_texts.specs.key.KeyTies.{kind_on, marked_number, texts_tie}
 use Rattle.versions_c.specs.Offsets.{AreOffsets, text_at}
+use Rattle.versions_c.specs.Schemes.{key_by}
 
--- two places: by the versions of their texts, a text that is not a version last, and ties as
--- numbers
+-- two places: by the versions of mixed that their texts are, a text that is not a version last, and
+-- ties as numbers
 abbrev pub place_cmp : List ℕ → List ℕ → ℕ → ℕ → Ordering
 place_cmp texts offsets =
     then_cmp (on (λ i. versioning_of (text_at texts offsets i)) (none_last_cmp versioning_cmp))
@@ -27,10 +31,6 @@ place_cmp texts offsets =
 pub record AreSorted (cmp : ℕ → ℕ → Ordering) (count : ℕ) (order : List ℕ) : Type 0 where
   pub places : IsPermutation (range_with_len 0 count) order
   pub ascending : (k : ℕ) → k + 1 < length order → cmp (slice_index order k) (slice_index order (k + 1)) ≡ Less
-
--- the places of all texts in order
-abbrev pub AreInOrder : List ℕ → List ℕ → List ℕ → Type 0
-AreInOrder texts offsets = AreSorted (place_cmp texts offsets) (length offsets - 1)
 
 -- offsets of texts in a buffer, with a place for each, and as many offsets for their keys
 pub record AreSortOffsets (offsets : List ℕ) (buffer key_offsets places : ℕ) : Type 0 where
@@ -75,3 +75,14 @@ key_place_cmp key_of texts offsets =
 -- two places by the keys that lie there, and then as numbers
 abbrev pub lying_cmp : List ℕ → List ℕ → ℕ → ℕ → Ordering
 lying_cmp keys key_offsets = then_cmp (on (λ i. text_at keys key_offsets i) keys_cmp) nat_cmp
+
+-- ---- by the order of a scheme
+
+-- two places: in mixed by versions, whose order breaks the ties of precedence, and in others by keys
+abbrev pub place_cmp_in : Scheme → List ℕ → List ℕ → ℕ → ℕ → Ordering
+place_cmp_in Mixed = place_cmp
+place_cmp_in scheme = key_place_cmp (key_by (rules scheme).read_as)
+
+-- the places of all texts in order
+abbrev pub AreInOrder : Scheme → List ℕ → List ℕ → List ℕ → Type 0
+AreInOrder scheme texts offsets = AreSorted (place_cmp_in scheme texts offsets) (length offsets - 1)

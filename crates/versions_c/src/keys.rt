@@ -1,53 +1,108 @@
 //! The sort keys of versions, in the caller's buffer.
 
-ghost use Rattle.std.specs.Prelude.{◌≡◌, ◌≢◌, ◌↔◌, ◌+◌, ◌^◌, ◌<◌, ◌≤◌, ◌++◌, drop, length, slice_index, IfSome, IsTrue, List, Some, ℕ};
-ghost use Rattle.version_rules.specs.key.Key.{key_of};
-ghost use Rattle.version_rules.specs.key.KeyBytes.{key_bytes};
-ghost use Rattle.version_rules.specs.grammar.Versioning.{versioning_of, PlainVersioning};
-ghost use Rattle.version_texts.specs.key.KeyRoom.{room_for};
+ghost use Rattle.std.specs.Prelude.{◌≡◌, ◌≢◌, ◌↔◌, ◌+◌, ◌<◌, ◌≤◌, ◌++◌, drop, length, slice_index, IfSome, IsTrue, List, None, ℕ};
+ghost use Rattle.version_rules.specs.grammar.Versioning.{versioning_of};
+ghost use Rattle.version_schemes.specs.Scheme.{numbered, rules};
 ghost use Rattle.version_texts.specs.key.Sinks.{put_at, saturated};
+ghost use Rattle.version_texts.specs.keyed.Keyed.{AreWithin};
 ghost use Rattle.versions_c.specs.Keys.{all_keys, key_status, keys_before, saturated_signed, spelled_key, AreKeyOffsets};
 ghost use Rattle.versions_c.specs.Written.{room_status};
 ghost use Rattle.versions_c.specs.Kinds.{kind_of};
 ghost use Rattle.versions_c.specs.Offsets.{AreOffsets};
+ghost use Rattle.versions_c.specs.Schemes.{key_by};
 ghost use Rattle.versions_c.specs.Sorting.{IsMarked};
 
 use crate::kinds::kind_number;
 use crate::offsets::{LARGEST, are_offsets, text_at};
-use crate::status::{BAD_OFFSETS, NO_ROOM, NO_VERSION, OK};
+use crate::status::{BAD_OFFSETS, NO_ROOM, NO_SCHEME, NO_VERSION, OK};
 use version_rules::Kind;
-use version_texts::{VersioningRef, mark_kind, room_for};
+use version_schemes::{Scheme, by_scheme, write_key};
+use version_texts::{Keyed, VersioningRef, mark_kind};
 
-/// Returns a size that is enough for the key of any text of a length.
+/// The number of the scheme mixed.
+pub const MIXED: u32 = 1;
+
+/// Writes a size that is enough for the key of any text of a length in a scheme.
 #[unsafe(no_mangle)]
-pub extern "C" fn versions_sort_key_bound(text_len: usize) -> usize
-    ensures room { result ≡ saturated (room_for text_len) }
+pub extern "C" fn versions_key_bound(scheme: u32, text_len: usize, bound: &mut usize) -> i32
+    ensures bound { IfSome (numbered scheme)
+        (λ scheme. (result ≡ OK) × (bound.new ≡ saturated ((rules scheme).most text_len))) }
 
-    // No text of that length has a longer key.
-    ensures enough { (text : List ℕ) (v : PlainVersioning) → length text ≡ text_len
-        → versioning_of text ≡ Some v → length (key_bytes (key_of v)) ≤ room_for text_len }
+    // No text that is not longer has a longer key.
+    ensures enough { IfSome (numbered scheme) (λ scheme. (text : List ℕ) → length text ≤ text_len
+        → IfSome (key_by (rules scheme).read_as text) (λ bytes. length bytes ≤ (rules scheme).most text_len)) }
+    ensures no_scheme { numbered scheme ≡ None → (result ≡ NO_SCHEME) × (bound.new ≡ bound.old) }
 {
-    room_for(text_len)
+    let Some(scheme) = Scheme::of_number(scheme) else {
+        return NO_SCHEME;
+    };
+    *bound = key_room_in(scheme, text_len);
+    OK
 }
 
-/// Writes the sort key of a version.
+// Returns how many bytes the key of a text of a length has at most in a scheme.
+fn key_room_in(scheme: Scheme, text_len: usize) -> usize
+    ensures room { result ≡ saturated ((rules scheme).most text_len) }
+    ensures enough { AreWithin (rules scheme).read_as (rules scheme).most }
+{
+    by_scheme!(scheme, key_room(text_len))
+}
+
+// Returns how many bytes the key of a text of a length has at most.
+fn key_room<'t, V: Keyed<'t>>(text_len: usize) -> usize
+    ensures room { result ≡ saturated (V.most text_len) }
+    ensures enough { AreWithin V.read_as V.most }
+{
+    V::key_room(text_len)
+}
+
+/// Writes the sort key of a version of a scheme.
 #[unsafe(no_mangle)]
-pub extern "C" fn versions_sort_key(text: &[u8], key: &mut [u8], key_len: &mut usize) -> i32
-    ensures status { result ≡ key_status (spelled_key text.now) (length key.old) }
-    ensures key { result ≡ OK → IfSome (spelled_key text.now)
-        (λ bytes. key.new ≡ bytes ++ drop (length bytes) key.old) }
+pub extern "C" fn versions_key(scheme: u32, text: &[u8], key: &mut [u8], key_len: &mut usize) -> i32
+    ensures status { IfSome (numbered scheme)
+        (λ scheme. result ≡ key_status (key_by (rules scheme).read_as text.now) (length key.old)) }
+    ensures key { IfSome (numbered scheme) (λ scheme. result ≡ OK → IfSome (key_by (rules scheme).read_as text.now)
+        (λ bytes. key.new ≡ bytes ++ drop (length bytes) key.old)) }
+    ensures no_scheme { numbered scheme ≡ None → result ≡ NO_SCHEME }
     ensures kept { result ≢ OK → key.new ≡ key.old }
 
     // Its length is reported even if it does not fit.
-    ensures length { IfSome (spelled_key text.now)
-        (λ bytes. key_len.new ≡ saturated (length bytes)) }
-    ensures no_length { result ≡ NO_VERSION → key_len.new ≡ key_len.old }
+    ensures length { IfSome (numbered scheme) (λ scheme. IfSome (key_by (rules scheme).read_as text.now)
+        (λ bytes. key_len.new ≡ saturated (length bytes))) }
+    ensures no_length { result ≢ OK → result ≢ NO_ROOM → key_len.new ≡ key_len.old }
 {
-    let mut kind = 0;
-    versions_parse(text, &mut kind, key, key_len)
+    // That of mixed takes fewer instructions in its own way.
+    if scheme == MIXED {
+        let mut kind = 0;
+        return versions_parse(text, &mut kind, key, key_len);
+    }
+    let Some(scheme) = Scheme::of_number(scheme) else {
+        return NO_SCHEME;
+    };
+    by_scheme!(scheme, put_key(text, key, key_len))
 }
 
-/// Writes the kind and the sort key of a version.
+// Writes the sort key of a version. Never inlined, so that the call for mixed needs no room on the stack for the others.
+#[inline(never)]
+fn put_key<'t, V: Keyed<'t>>(text: &'t [u8], key: &mut [u8], key_len: &mut usize) -> i32
+    ensures status { result ≡ key_status (key_by V.read_as text.now) (length key.old) }
+    ensures key { result ≡ OK → IfSome (key_by V.read_as text.now)
+        (λ bytes. key.new ≡ bytes ++ drop (length bytes) key.old) }
+    ensures kept { result ≢ OK → key.new ≡ key.old }
+    ensures length { IfSome (key_by V.read_as text.now) (λ bytes. key_len.new ≡ saturated (length bytes)) }
+    ensures no_length { result ≢ OK → result ≢ NO_ROOM → key_len.new ≡ key_len.old }
+{
+    let Some(end) = write_key::<V>(text, key, 0) else {
+        return NO_VERSION;
+    };
+    *key_len = end;
+    if end > key.len() {
+        return NO_ROOM;
+    }
+    OK
+}
+
+/// Writes the kind and the sort key of a version of mixed.
 #[unsafe(no_mangle)]
 pub extern "C" fn versions_parse(
     text: &[u8],
@@ -63,7 +118,7 @@ pub extern "C" fn versions_parse(
     // Its length is reported even if it does not fit.
     ensures length { IfSome (spelled_key text.now)
         (λ bytes. key_len.new ≡ saturated (length bytes)) }
-    ensures no_length { result ≡ NO_VERSION → key_len.new ≡ key_len.old }
+    ensures no_length { result ≢ OK → result ≢ NO_ROOM → key_len.new ≡ key_len.old }
     ensures kind { result ≡ OK → kind.new ≡ kind_of (versioning_of text.now) }
     ensures kept_kind { result ≢ OK → kind.new ≡ kind.old }
 {
@@ -78,33 +133,61 @@ pub extern "C" fn versions_parse(
     OK
 }
 
-/// Writes the sort key of each version.
+/// Writes the sort key of each version of a scheme.
 #[unsafe(no_mangle)]
-pub extern "C" fn versions_sort_keys(
+pub extern "C" fn versions_keys(
+    scheme: u32,
+    texts: &[u8],
+    offsets: &[u64],
+    keys: &mut [u8],
+    key_offsets: &mut [u64],
+) -> i32
+    ensures status { IfSome (numbered scheme)
+        (λ scheme. AreKeyOffsets offsets.now (length texts.now) (length key_offsets.old)
+        → result ≡ room_status (all_keys (key_by (rules scheme).read_as) texts.now offsets.now) (length keys.old)) }
+    ensures keys { IfSome (numbered scheme) (λ scheme. result ≡ OK → keys.new
+        ≡ all_keys (key_by (rules scheme).read_as) texts.now offsets.now
+        ++ drop (length (all_keys (key_by (rules scheme).read_as) texts.now offsets.now)) keys.old) }
+
+    // Their offsets are reported even if they do not fit.
+    ensures offsets { IfSome (numbered scheme)
+        (λ scheme. AreKeyOffsets offsets.now (length texts.now) (length key_offsets.old)
+        → (i : ℕ) → i < length offsets.now → slice_index key_offsets.new i
+        ≡ saturated_signed (length (keys_before (key_by (rules scheme).read_as) texts.now offsets.now i))) }
+
+    // Otherwise nothing is written.
+    ensures bad { IfSome (numbered scheme)
+        (λ scheme. ¬ (AreKeyOffsets offsets.now (length texts.now) (length key_offsets.old)) → result ≡ BAD_OFFSETS) }
+    ensures no_scheme { numbered scheme ≡ None → result ≡ NO_SCHEME }
+    ensures kept { result ≢ OK → result ≢ NO_ROOM → keys.new ≡ keys.old }
+    ensures kept_offsets { result ≢ OK → result ≢ NO_ROOM → key_offsets.new ≡ key_offsets.old }
+{
+    let Some(scheme) = Scheme::of_number(scheme) else {
+        return NO_SCHEME;
+    };
+    put_keys_in(scheme, texts, offsets, keys, key_offsets)
+}
+
+/// Writes the sort key of each version of a scheme.
+pub(crate) fn put_keys_in(
+    scheme: Scheme,
     texts: &[u8],
     offsets: &[u64],
     keys: &mut [u8],
     key_offsets: &mut [u64],
 ) -> i32
     ensures status { AreKeyOffsets offsets.now (length texts.now) (length key_offsets.old)
-        → result ≡ room_status (all_keys spelled_key texts.now offsets.now) (length keys.old) }
+        → result ≡ room_status (all_keys (key_by (rules scheme).read_as) texts.now offsets.now) (length keys.old) }
     ensures keys { result ≡ OK → keys.new
-        ≡ all_keys spelled_key texts.now offsets.now
-        ++ drop (length (all_keys spelled_key texts.now offsets.now)) keys.old }
-
-    // Their offsets are reported even if they do not fit.
+        ≡ all_keys (key_by (rules scheme).read_as) texts.now offsets.now
+        ++ drop (length (all_keys (key_by (rules scheme).read_as) texts.now offsets.now)) keys.old }
     ensures offsets { AreKeyOffsets offsets.now (length texts.now) (length key_offsets.old)
         → (i : ℕ) → i < length offsets.now
         → slice_index key_offsets.new i
-        ≡ saturated_signed (length (keys_before spelled_key texts.now offsets.now i)) }
-
-    // Otherwise nothing is written.
-    ensures bad { ¬ (AreKeyOffsets offsets.now (length texts.now) (length key_offsets.old))
-        → result ≡ BAD_OFFSETS }
-    ensures kept { ¬ (AreKeyOffsets offsets.now (length texts.now) (length key_offsets.old))
-        → keys.new ≡ keys.old }
-    ensures kept_offsets { ¬ (AreKeyOffsets offsets.now (length texts.now)
-        (length key_offsets.old)) → key_offsets.new ≡ key_offsets.old }
+        ≡ saturated_signed (length (keys_before (key_by (rules scheme).read_as) texts.now offsets.now i)) }
+    ensures bad { ¬ (AreKeyOffsets offsets.now (length texts.now) (length key_offsets.old)) → result ≡ BAD_OFFSETS }
+    ensures kept { result ≢ OK → result ≢ NO_ROOM → keys.new ≡ keys.old }
+    ensures kept_offsets { result ≢ OK → result ≢ NO_ROOM → key_offsets.new ≡ key_offsets.old }
 {
     let Some(count) = offsets.len().checked_sub(1) else {
         return BAD_OFFSETS;
@@ -112,15 +195,69 @@ pub extern "C" fn versions_sort_keys(
     if key_offsets.len() != offsets.len() || !are_offsets(offsets, texts.len(), count) {
         return BAD_OFFSETS;
     }
-    if put_keys(texts, offsets, count, keys, key_offsets, &mut []) {
+    let room = keys.len();
+    if put_each_in(scheme, texts, offsets, count, keys, key_offsets) <= room {
         OK
     } else {
         NO_ROOM
     }
 }
 
-/// Writes the keys of all texts, if they fit, and their offsets, and returns whether they fit. Writes the places of the
-/// first texts, with the kinds of the texts marked on them, as many as there is room for.
+// Writes the keys of all texts in a scheme, if they fit, and their offsets, and returns the place after them. Those of
+// mixed take fewer instructions in their own way.
+fn put_each_in(
+    scheme: Scheme,
+    texts: &[u8],
+    offsets: &[u64],
+    count: usize,
+    keys: &mut [u8],
+    key_offsets: &mut [u64],
+) -> usize
+    requires offsets { AreOffsets offsets.now (length texts.now) count }
+    requires room { length key_offsets.old ≡ count + 1 }
+    ensures end { result
+        ≡ saturated (length (keys_before (key_by (rules scheme).read_as) texts.now offsets.now count)) }
+    ensures keys { length (keys_before (key_by (rules scheme).read_as) texts.now offsets.now count) ≤ length keys.old
+        → keys.new ≡ put_at keys.old 0 (keys_before (key_by (rules scheme).read_as) texts.now offsets.now count) }
+    ensures key_offsets { (i : ℕ) → i ≤ count
+        → slice_index key_offsets.new i
+        ≡ saturated_signed (length (keys_before (key_by (rules scheme).read_as) texts.now offsets.now i)) }
+{
+    if scheme == Scheme::Mixed {
+        return put_all(texts, offsets, count, keys, key_offsets, &mut []);
+    }
+    by_scheme!(scheme, put_each(texts, offsets, count, keys, key_offsets))
+}
+
+// Writes the keys of all texts, if they fit, and their offsets, and returns the place after them.
+fn put_each<'t, V: Keyed<'t>>(
+    texts: &'t [u8],
+    offsets: &[u64],
+    count: usize,
+    keys: &mut [u8],
+    key_offsets: &mut [u64],
+) -> usize
+    requires offsets { AreOffsets offsets.now (length texts.now) count }
+    requires room { length key_offsets.old ≡ count + 1 }
+    ensures end { result ≡ saturated (length (keys_before (key_by V.read_as) texts.now offsets.now count)) }
+    ensures keys { length (keys_before (key_by V.read_as) texts.now offsets.now count) ≤ length keys.old
+        → keys.new ≡ put_at keys.old 0 (keys_before (key_by V.read_as) texts.now offsets.now count) }
+    ensures key_offsets { (i : ℕ) → i ≤ count
+        → slice_index key_offsets.new i
+        ≡ saturated_signed (length (keys_before (key_by V.read_as) texts.now offsets.now i)) }
+{
+    let mut end: usize = 0;
+    key_offsets[0] = 0;
+    for place in 0..count {
+        let text = text_at(texts, offsets, count, place);
+        end = write_key::<V>(text, keys, end).unwrap_or(end);
+        key_offsets[place + 1] = (end as u64).min(LARGEST);
+    }
+    end
+}
+
+/// Writes the keys of all texts in mixed, if they fit, and their offsets, and returns whether they fit. Writes the places
+/// of the first texts, with the kinds of the texts marked on them, as many as there is room for.
 pub fn put_keys(
     texts: &[u8],
     offsets: &[u64],

@@ -1,23 +1,110 @@
 //! Many texts, sorted by their versions.
 
-ghost use Rattle.std.specs.Prelude.{◌≡◌, ◌≢◌, ◌↔◌, ℕ, ◌<◌, ◌≤◌, ◌+◌, ◌++◌, drop, false, length, map, slice_index, IsTrue};
+ghost use Rattle.std.specs.Prelude.{◌≡◌, ◌≢◌, ◌↔◌, ℕ, ◌<◌, ◌≤◌, ◌+◌, ◌++◌, drop, false, length, map, slice_index, IfSome, IsTrue, None};
 ghost use Rattle.std.specs.List.{range_with_len};
 ghost use Rattle.std.specs.List.Sorted.{IsPermutation, IsSorted};
+ghost use Rattle.version_schemes.specs.Scheme.{numbered, rules};
+ghost use Rattle.version_schemes.specs.declared.scheme.Scheme.TheVariants.{Mixed};
 ghost use Rattle.versions_c.specs.Keys.{all_keys, keys_before, saturated_signed, spelled_key};
 ghost use Rattle.versions_c.specs.Written.{room_status};
 ghost use Rattle.versions_c.specs.Offsets.{text_at, AreOffsets};
+ghost use Rattle.versions_c.specs.Schemes.{key_by};
 ghost use Rattle.version_texts.specs.key.KeyTies.{marked_number};
 ghost use Rattle.versions_c.specs.Sorting.{keyed_cmp, keys_cmp, lying_cmp, tied_cmp, AreInOrder, AreSortOffsets, IsMarked};
 
-use crate::keys::{is_always_room, put_keys};
+use crate::keys::{is_always_room, put_keys, put_keys_in};
 use crate::offsets::{are_offsets, text_at};
-use crate::status::{BAD_OFFSETS, NO_ROOM, OK};
+use crate::status::{BAD_OFFSETS, NO_ROOM, NO_SCHEME, OK};
 use std::cmp::Ordering;
+use version_schemes::Scheme;
 use version_texts::{compare_bytes, compare_key_ties, marked_kind, marked_number};
 
-/// Writes the places of all texts, sorted by their versions.
+/// Writes the places of all texts, sorted by the order of a scheme.
 #[unsafe(no_mangle)]
 pub extern "C" fn versions_sort(
+    scheme: u32,
+    texts: &[u8],
+    offsets: &[u64],
+    keys: &mut [u8],
+    key_offsets: &mut [u64],
+    order: &mut [u64],
+) -> i32
+    ensures status { IfSome (numbered scheme)
+        (λ scheme. AreSortOffsets offsets.now (length texts.now) (length key_offsets.old) (length order.old)
+        → result ≡ room_status (all_keys (key_by (rules scheme).read_as) texts.now offsets.now) (length keys.old)) }
+    ensures order { IfSome (numbered scheme)
+        (λ scheme. result ≡ OK → AreInOrder scheme texts.now offsets.now order.new) }
+    ensures kept_order { result ≢ OK → order.new ≡ order.old }
+
+    // The keys are those of `versions_keys`. Their offsets are reported even if they do not fit.
+    ensures keys { IfSome (numbered scheme) (λ scheme. result ≡ OK → keys.new
+        ≡ all_keys (key_by (rules scheme).read_as) texts.now offsets.now
+        ++ drop (length (all_keys (key_by (rules scheme).read_as) texts.now offsets.now)) keys.old) }
+    ensures offsets { IfSome (numbered scheme)
+        (λ scheme. AreSortOffsets offsets.now (length texts.now) (length key_offsets.old) (length order.old)
+        → (i : ℕ) → i < length offsets.now → slice_index key_offsets.new i
+        ≡ saturated_signed (length (keys_before (key_by (rules scheme).read_as) texts.now offsets.now i))) }
+
+    // Otherwise nothing is written.
+    ensures bad { IfSome (numbered scheme)
+        (λ scheme. ¬ (AreSortOffsets offsets.now (length texts.now) (length key_offsets.old) (length order.old))
+        → result ≡ BAD_OFFSETS) }
+    ensures no_scheme { numbered scheme ≡ None → result ≡ NO_SCHEME }
+    ensures kept { result ≢ OK → result ≢ NO_ROOM → keys.new ≡ keys.old }
+    ensures kept_offsets { result ≢ OK → result ≢ NO_ROOM → key_offsets.new ≡ key_offsets.old }
+{
+    let Some(scheme) = Scheme::of_number(scheme) else {
+        return NO_SCHEME;
+    };
+    put_order(scheme, texts, offsets, keys, key_offsets, order)
+}
+
+// Writes the places of all texts, sorted by the order of a scheme.
+fn put_order(
+    scheme: Scheme,
+    texts: &[u8],
+    offsets: &[u64],
+    keys: &mut [u8],
+    key_offsets: &mut [u64],
+    order: &mut [u64],
+) -> i32
+    ensures status { AreSortOffsets offsets.now (length texts.now) (length key_offsets.old) (length order.old)
+        → result ≡ room_status (all_keys (key_by (rules scheme).read_as) texts.now offsets.now) (length keys.old) }
+    ensures order { result ≡ OK → AreInOrder scheme texts.now offsets.now order.new }
+    ensures kept_order { result ≢ OK → order.new ≡ order.old }
+    ensures keys { result ≡ OK → keys.new
+        ≡ all_keys (key_by (rules scheme).read_as) texts.now offsets.now
+        ++ drop (length (all_keys (key_by (rules scheme).read_as) texts.now offsets.now)) keys.old }
+    ensures offsets { AreSortOffsets offsets.now (length texts.now) (length key_offsets.old) (length order.old)
+        → (i : ℕ) → i < length offsets.now → slice_index key_offsets.new i
+        ≡ saturated_signed (length (keys_before (key_by (rules scheme).read_as) texts.now offsets.now i)) }
+    ensures bad { ¬ (AreSortOffsets offsets.now (length texts.now) (length key_offsets.old) (length order.old))
+        → result ≡ BAD_OFFSETS }
+    ensures kept { result ≢ OK → result ≢ NO_ROOM → keys.new ≡ keys.old }
+    ensures kept_offsets { result ≢ OK → result ≢ NO_ROOM → key_offsets.new ≡ key_offsets.old }
+{
+    if scheme == Scheme::Mixed {
+        return put_mixed_order(texts, offsets, keys, key_offsets, order);
+    }
+    let count = order.len();
+    if key_offsets.len() != offsets.len() || !are_offsets(offsets, texts.len(), count) {
+        return BAD_OFFSETS;
+    }
+    let status = put_keys_in(scheme, texts, offsets, keys, key_offsets);
+    if status != OK {
+        return status;
+    }
+    let keys = Pieces {
+        bytes: keys,
+        offsets: key_offsets,
+        count,
+    };
+    sort_places(&keys, order);
+    OK
+}
+
+// Writes the places of all texts, sorted by their versions in mixed, by `Ord`.
+fn put_mixed_order(
     texts: &[u8],
     offsets: &[u64],
     keys: &mut [u8],
@@ -27,10 +114,8 @@ pub extern "C" fn versions_sort(
     ensures status { AreSortOffsets offsets.now (length texts.now)
         (length key_offsets.old) (length order.old)
         → result ≡ room_status (all_keys spelled_key texts.now offsets.now) (length keys.old) }
-    ensures order { result ≡ OK → AreInOrder texts.now offsets.now order.new }
+    ensures order { result ≡ OK → AreInOrder Mixed texts.now offsets.now order.new }
     ensures kept_order { result ≢ OK → order.new ≡ order.old }
-
-    // The keys are those of `versions_sort_keys`. Their offsets are reported even if they do not fit.
     ensures keys { result ≡ OK → keys.new
         ≡ all_keys spelled_key texts.now offsets.now
         ++ drop (length (all_keys spelled_key texts.now offsets.now)) keys.old }
@@ -39,8 +124,6 @@ pub extern "C" fn versions_sort(
         → (i : ℕ) → i < length offsets.now
         → slice_index key_offsets.new i
         ≡ saturated_signed (length (keys_before spelled_key texts.now offsets.now i)) }
-
-    // Otherwise nothing is written.
     ensures bad { ¬ (AreSortOffsets offsets.now (length texts.now)
         (length key_offsets.old) (length order.old)) → result ≡ BAD_OFFSETS }
     ensures kept { ¬ (AreSortOffsets offsets.now (length texts.now)
@@ -103,12 +186,12 @@ fn put_places(
     put_keys(texts, offsets, count, keys, key_offsets, order)
 }
 
-/// Many pieces in one buffer, each from one offset up to the next.
+// Many pieces in one buffer, each from one offset up to the next.
 #[derive(Clone, Copy)]
-pub(crate) struct Pieces<'a> {
-    pub(crate) bytes: &'a [u8],
-    pub(crate) offsets: &'a [u64],
-    pub(crate) count: usize,
+struct Pieces<'a> {
+    bytes: &'a [u8],
+    offsets: &'a [u64],
+    count: usize,
     ghost fit: { AreOffsets offsets.now (length bytes.now) count },
 }
 
@@ -177,8 +260,8 @@ fn compare_empty_last(a: &[u8], b: &[u8]) -> Ordering
     compare_bytes(a, b)
 }
 
-/// Writes the places of pieces in their order: empty ones come last, and places of those that are the same rise.
-pub(crate) fn sort_places(keys: &Pieces<'_>, order: &mut [u64])
+// Writes the places of pieces in their order: empty ones come last, and places of those that are the same rise.
+fn sort_places(keys: &Pieces<'_>, order: &mut [u64])
     ensures places { IsPermutation (range_with_len 0 (length order.old)) order.new }
     ensures sorted { IsSorted (lying_cmp keys.now.bytes.now keys.now.offsets.now) order.new }
 {

@@ -42,11 +42,10 @@ pub fn is_version(scheme: Scheme, text: &str) -> bool {
     let mut answer = 0;
     // SAFETY: the pointer and the length are those of `text`, which is only read; `answer` is
     // written.
-    let status =
-        unsafe { versions_scheme_has(number(scheme), start(text), text.len(), &mut answer) };
+    let status = unsafe { versions_has(number(scheme), start(text), text.len(), &mut answer) };
     match status {
-        OK => bool_of("versions_scheme_has", answer),
-        _ => unexpected("versions_scheme_has", "status", status),
+        OK => bool_of("versions_has", answer),
+        _ => unexpected("versions_has", "status", status),
     }
 }
 
@@ -97,7 +96,7 @@ pub fn compare<'t>(scheme: Scheme, a: &'t str, b: &'t str) -> Result<Ordering, &
     let mut order = 0;
     // SAFETY: each pointer has the length of its text, which is only read; `order` is written.
     let status = unsafe {
-        versions_scheme_compare(
+        versions_compare(
             number(scheme),
             start(a),
             a.len(),
@@ -106,17 +105,17 @@ pub fn compare<'t>(scheme: Scheme, a: &'t str, b: &'t str) -> Result<Ordering, &
             &mut order,
         )
     };
-    ordering("versions_scheme_compare", status, order, a, b)
+    ordering("versions_compare", status, order, a, b)
 }
 
 /// How many bytes are enough for the sort key of a text of a length.
 fn key_bound(scheme: Scheme, length: usize) -> usize {
     let mut bound = 0;
     // SAFETY: `bound` is written.
-    let status = unsafe { versions_scheme_key_bound(number(scheme), length, &mut bound) };
+    let status = unsafe { versions_key_bound(number(scheme), length, &mut bound) };
     match status {
         OK => bound,
-        _ => unexpected("versions_scheme_key_bound", "status", status),
+        _ => unexpected("versions_key_bound", "status", status),
     }
 }
 
@@ -141,7 +140,7 @@ fn key_into(scheme: Scheme, text: &str, room: &mut [u8]) -> Option<usize> {
     // SAFETY: the pointer and the length are those of `text`, which is only read. `room` and
     // `length` are written, and overlap with nothing, as they are borrowed mutably.
     let status = unsafe {
-        versions_scheme_key(
+        versions_key(
             number(scheme),
             start(text),
             text.len(),
@@ -151,18 +150,17 @@ fn key_into(scheme: Scheme, text: &str, room: &mut [u8]) -> Option<usize> {
         )
     };
     match status {
-        OK => Some(fitting("versions_scheme_key", length, room.len())),
+        OK => Some(fitting("versions_key", length, room.len())),
         NO_VERSION => None,
-        _ => unexpected("versions_scheme_key", "status", status),
+        _ => unexpected("versions_key", "status", status),
     }
 }
 
-/// How many bytes are enough for the sort keys of all texts.
+/// How many bytes are enough for the sort keys of all texts: the sum of what is for each, which is
+/// linear.
 fn key_room(scheme: Scheme, texts: &Texts) -> usize {
-    let lengths = texts.offsets.windows(2).map(|ends| ends[1] - ends[0]);
-    lengths
-        .map(|length| key_bound(scheme, length as usize))
-        .sum()
+    let least = key_bound(scheme, 0);
+    key_bound(scheme, texts.bytes.len()) - least + texts.count() * least
 }
 
 /// The sort keys of the texts, one after another, and their offsets, one more than texts.
@@ -174,7 +172,7 @@ pub fn keys(scheme: Scheme, texts: &Texts) -> (Vec<u8>, Vec<i64>) {
     // library refuses offsets that leave the texts. The others are written, and overlap with
     // nothing.
     let status = unsafe {
-        versions_scheme_keys(
+        versions_keys(
             number(scheme),
             start(bytes),
             bytes.len(),
@@ -192,7 +190,7 @@ pub fn keys(scheme: Scheme, texts: &Texts) -> (Vec<u8>, Vec<i64>) {
             keys.shrink_to_fit();
             (keys, key_offsets)
         }
-        _ => unexpected("versions_scheme_keys", "status", status),
+        _ => unexpected("versions_keys", "status", status),
     }
 }
 
@@ -206,7 +204,7 @@ pub fn order(scheme: Scheme, texts: &Texts) -> Vec<usize> {
     // library refuses offsets that leave the texts. The others are written, and overlap with
     // nothing.
     let status = unsafe {
-        versions_scheme_sort(
+        versions_sort(
             number(scheme),
             start(bytes),
             bytes.len(),
@@ -222,6 +220,6 @@ pub fn order(scheme: Scheme, texts: &Texts) -> Vec<usize> {
     };
     match status {
         OK => order.into_iter().map(|place| place as usize).collect(),
-        _ => unexpected("versions_scheme_sort", "status", status),
+        _ => unexpected("versions_sort", "status", status),
     }
 }

@@ -1,11 +1,22 @@
--- Keys of texts of a scheme, written into a buffer.
-use Rattle.std.proofs.Common.{◌≡◌, ◌∙◌, ◌+◌, ◌<◌, ◌≤◌, ◌^◌, ◌++◌, ℕ, List, Option, None, Some, IfSome, ap, arith, drop, length, refl, sym}
+-- Texts of a scheme: how they compare, and their keys, written into a buffer.
+use Rattle.std.proofs.Common.{◌≡◌, ◌∙◌, ◌+◌, ◌<◌, ◌≤◌, ◌^◌, ◌++◌, ◌∷◌, [], ℕ, List, Option, None, Some, IfSome, ap, arith, drop, length, length-append, refl, subst, sym}
 use Rattle.std.specs.Option.{option_map, unwrap_or}
+use Rattle.std.specs.Prelude.{option_and_then}
+use Rattle.std.specs.declared.cmp.Ordering.{Ordering}
+use Rattle.version_rules.specs.declared.ends.End.TheVariants.{AfterKey}
+use Rattle.version_rules.specs.grammar.Versioning.{versioning_of}
+use Rattle.version_rules.specs.key.Key.{key_of}
+use Rattle.version_rules.specs.key.KeyBytes.{key_bytes}
+use Rattle.version_rules.specs.order.Lists.{bytes_cmp}
+use Rattle.version_schemes.proofs.lemmas.Orders.{map_twice, orders_by_keys}
+use Rattle.version_schemes.specs.Scheme.{rules, texts_order}
+use Rattle.version_schemes.specs.declared.scheme.Scheme.{Scheme}
 use Rattle.version_texts.proofs.lemmas.key.Sinks.{put_fits}
 use Rattle.version_texts.specs.key.Sinks.{saturated, IsWritten}
-use Rattle.version_texts.specs.keyed.Keyed.{PlainKeyed}
+use Rattle.version_texts.specs.keyed.Keyed.{AreWithin, PlainKeyed}
+use Rattle.version_texts.specs.keyed.Mixed.{mixed}
 use Rattle.versions_c.proofs.lemmas.Keys.Putting.{ArePut, no_more_key, one_more_key}
-use Rattle.versions_c.specs.Keys.{keys_before}
+use Rattle.versions_c.specs.Keys.{keys_before, spelled_key}
 use Rattle.versions_c.specs.Offsets.{text_at}
 use Rattle.versions_c.specs.Schemes.{key_by}
 
@@ -42,3 +53,32 @@ read_put read_as texts offsets room i text keys new_keys end found small is ends
         let spells : Some v.key ≡ key_by read_as text = sym (ap (option_map (λ v. v.key)) e) in
         rw some (one_more_key (key_by read_as) texts offsets room i text v.key keys new_keys end
         (saturated (end + length v.key)) small is spells put refl (rw e at written) long)
+
+-- no key is longer than a key of a text of this length may be
+pub key_fits : (read_as : List ℕ → Option PlainKeyed) (most : ℕ → ℕ) → AreWithin read_as most → (text : List ℕ) (n : ℕ)
+    → length text ≤ n → IfSome (key_by read_as text) (λ bytes. length bytes ≤ most n)
+key_fits read_as most within text n short = by (read_as text) refl
+  where
+    by : (read : Option PlainKeyed) → read_as text ≡ read
+        → IfSome (option_map (λ v. v.key) read) (λ bytes. length bytes ≤ most n)
+    by None e = tt
+    by (Some v) e = omega (arith, within text v AfterKey n e short, length-append v.key (0 ∷ []))
+
+-- the key in mixed is that of the version which a text spells
+pub key_is_spelled : (text : List ℕ) → option_map (λ v. key_bytes (key_of v)) (versioning_of text) ≡ spelled_key text
+key_is_spelled text = map_twice (λ (v : PlainKeyed). v.key) mixed (versioning_of text)
+
+-- what holds of how two keys compare holds of how their texts do, by the words of the scheme
+pub by_words : (scheme : Scheme) (one other : List ℕ) (P : Ordering → Type 0)
+    → IfSome ((rules scheme).read_as one)
+    (λ v. IfSome ((rules scheme).read_as other) (λ w. P (bytes_cmp v.key w.key)))
+    → IfSome (texts_order scheme one other) P
+by_words scheme one other P holds =
+    subst (λ found. IfSome found P) (sym (orders_by_keys scheme one other))
+    (by ((rules scheme).read_as one) ((rules scheme).read_as other) holds)
+  where
+    by : (a b : Option PlainKeyed) → IfSome a (λ v. IfSome b (λ w. P (bytes_cmp v.key w.key)))
+        → IfSome (option_and_then (λ v. option_map (λ w. bytes_cmp v.key w.key) b) a) P
+    by None b holds = tt
+    by (Some v) None holds = tt
+    by (Some v) (Some w) holds = holds

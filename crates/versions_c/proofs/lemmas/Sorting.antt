@@ -33,6 +33,7 @@ use Rattle.versions_c.specs.Offsets.{AreOffsets, text_at}
 use Rattle.version_rules.specs.grammar.Kind.{versioning_kind}
 use Rattle.version_rules.specs.declared.kind.Kind.{Kind}
 use Rattle.version_rules.specs.declared.kind.Kind.TheVariants.{Ideal}
+use Rattle.version_schemes.specs.declared.scheme.Scheme.TheVariants.{Mixed}
 use Rattle.version_texts.specs.key.KeyTies.{marked_number, texts_tie}
 use Rattle.version_texts.proofs.lemmas.key.KeyTies.{texts_alike, texts_tie_total}
 use Rattle.versions_c.specs.Sorting.{AreInOrder, IsMarked, keyed_cmp, keys_cmp, marked_tie, place_cmp}
@@ -269,7 +270,7 @@ pub in_order : (texts offsets keys key_offsets marks sorted_marks : List ℕ) (n
     → text_at keys key_offsets i ≡ key_or_nothing (versioning_of (text_at texts offsets i)))
     → IsPermutation marks sorted_marks
     → IsSorted (keyed_cmp texts offsets keys key_offsets) sorted_marks
-    → AreInOrder texts offsets (map marked_number sorted_marks)
+    → AreInOrder Mixed texts offsets (map marked_number sorted_marks)
 in_order texts offsets keys key_offsets marks sorted_marks n many long each lies permutes sorted =
     let count : length offsets - 1 ≡ n = omega (arith, many) in
     let cmp = keyed_cmp texts offsets keys key_offsets in

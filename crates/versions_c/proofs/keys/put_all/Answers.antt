@@ -1,8 +1,7 @@
 use Rattle.std.proofs.Common.{◌≡◌, ◌∙◌, ◌+◌, ◌<◌, ℕ, List, ap, sym, refl, length, arith}
 use Rattle.std.proofs.lemmas.List.{length-set}
-use Rattle.std.specs.Option.{option_map, option_map_or}
-use Rattle.version_rules.specs.key.Key.{key_of}
-use Rattle.version_rules.specs.key.KeyBytes.{key_bytes}
+use Rattle.std.specs.Option.{option_map_or}
+use Rattle.version_texts.specs.keyed.Mixed.{mixed}
 use Rattle.version_texts.specs.versioning_ref.VersioningRef.{plain_versioning_ref}
 use Rattle.version_texts.specs.key.Sinks.{put_nothing}
 use Rattle.versions_c.specs.Keys.{keys_before, spelled_key}
@@ -10,6 +9,7 @@ use Rattle.versions_c.specs.Offsets.{text_at}
 use Rattle.version_rules.specs.grammar.Kind.{versioning_kind}
 use Rattle.version_rules.specs.grammar.Versioning.{versioning_of}
 use Rattle.version_rules.specs.declared.kind.Kind.TheVariants.{Ideal}
+use Rattle.versions_c.proofs.lemmas.Keys.{key_of_read}
 use Rattle.versions_c.proofs.lemmas.Keys.Putting.{ArePut, first_told, next_marked, next_told, no_more_key, one_more_key}
 use Rattle.versions_c.proofs.keys.put_all.Goals.{else-place-places, in-Some, in_default, then-place-places}
 use Rattle.versions_c.proofs.keys.put_all.Goals as goal
@@ -36,16 +36,16 @@ loop-place-preserved c =
     elim c.match-from_bytes.branch [
       | in-Some w ↦
           one_more_key spelled_key texts offsets c.args.keys.now i c.text_at.result.now
-          (key_bytes (key_of (plain_versioning_ref w.in-Some.version))) c.loop-place.keys
+          (mixed (plain_versioning_ref w.in-Some.version)).key c.loop-place.keys
           c.match-from_bytes.keys c.loop-place.end c.match-from_bytes.end
           (omega arith) c.text_at.ensures
-          (ap (option_map (λ v. key_bytes (key_of v))) w.in-Some.ensures) before.put
+          (ap key_of_read w.in-Some.ensures) before.put
           (w.end-is ∙ w.write_key-end.ensures.end) (rw w.keys-is w.write_key-end.ensures.bytes)
           c.loop-place.auto.keys
       | in_default w ↦
           no_more_key spelled_key texts offsets c.args.keys.now i c.text_at.result.now c.match-from_bytes.keys
           c.match-from_bytes.end c.text_at.ensures
-          (ap (option_map (λ v. key_bytes (key_of v))) w.in_default.ensures)
+          (ap key_of_read w.in_default.ensures)
           (rw (w.end-is, w.keys-is) before.put)
     ] in
     let spelled =

@@ -1,11 +1,10 @@
 -- A room that is enough for the keys of any texts with some offsets.
 use Rattle.std.proofs.Common.{◌≡◌, ◌+◌, ◌-◌, ◌*◌, ◌≤◌, ℕ, zero, suc, List, [], length, drop, get_or, Option, Some, None, refl, ap, arith, length-append}
 use Rattle.std.proofs.lemmas.List.{length-take}
-use Rattle.std.specs.Option.{option_map, unwrap_or}
-use Rattle.version_rules.specs.key.Key.{key_of}
-use Rattle.version_rules.specs.key.KeyBytes.{key_bytes}
+use Rattle.std.specs.Option.{unwrap_or}
 use Rattle.version_rules.specs.grammar.Versioning.{PlainVersioning, versioning_of}
 use Rattle.version_texts.specs.key.KeyRoom.{room_for}
+use Rattle.versions_c.proofs.lemmas.Keys.{key_of_read}
 use Rattle.versions_c.specs.Keys.{keys_before, spelled_key}
 use Rattle.versions_c.specs.Offsets.{AreOffsets, text_at}
 use Rattle.version_texts.proofs.lemmas.key.KeyRoom.{enough_room}
@@ -14,8 +13,7 @@ key_within : (text : List ℕ) → length (unwrap_or (spelled_key text) []) ≤ 
 key_within text = by (versioning_of text) refl
   where
     by : (spelled : Option PlainVersioning) → versioning_of text ≡ spelled
-        → length (unwrap_or (option_map (λ v. key_bytes (key_of v)) spelled) [])
-        ≤ room_for (length text)
+        → length (unwrap_or (key_of_read spelled) []) ≤ room_for (length text)
     by None e = omega arith
     by (Some v) e = enough_room text v e
 

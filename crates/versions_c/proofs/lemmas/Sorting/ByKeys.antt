@@ -15,9 +15,13 @@ use Rattle.std.specs.declared.cmp.Ordering.{Ordering}
 use Rattle.std.specs.declared.cmp.Ordering.TheVariants.{Equal}
 use Rattle.version_rules.specs.laws.Order.{then_second}
 use Rattle.version_rules.specs.order.Lists.{bytes_cmp, none_last_cmp}
+use Rattle.version_schemes.specs.Scheme.{rules}
+use Rattle.version_schemes.specs.declared.scheme.Scheme.{Scheme}
+use Rattle.version_schemes.specs.declared.scheme.Scheme.TheVariants.{Deb, Gem, Mixed, Pypi, Rpm, SemVer}
 use Rattle.versions_c.proofs.lemmas.Sorting.{below, keys_total, places_differ}
 use Rattle.versions_c.specs.Offsets.{text_at}
-use Rattle.versions_c.specs.Sorting.{AreSorted, key_place_cmp, keys_cmp, lying_cmp}
+use Rattle.versions_c.specs.Schemes.{key_by}
+use Rattle.versions_c.specs.Sorting.{AreSorted, key_place_cmp, keys_cmp, lying_cmp, place_cmp_in}
 
 lying_total : (keys key_offsets : List ℕ) → IsTotalOrder (lying_cmp keys key_offsets)
 lying_total keys key_offsets = then_total (on_total (λ i. text_at keys key_offsets i) keys_total) nat_cmp_total
@@ -68,3 +72,12 @@ in_key_order key_of texts offsets keys key_offsets sorted_places n lies some per
           ∙ (λ t. ordering_then (keys_cmp ((sym i_lies) t) ((sym j_lies) t)) (nat_cmp i j))
           ∙ below (cmp i j) not_above other;
     }
+
+-- in all schemes but mixed places are ordered by keys alone
+pub by_keys_alone : (scheme : Scheme) → ¬ (scheme ≡ Mixed) → place_cmp_in scheme ≡ key_place_cmp (key_by (rules scheme).read_as)
+by_keys_alone Mixed other = absurd (other refl)
+by_keys_alone Deb other = refl
+by_keys_alone Rpm other = refl
+by_keys_alone Pypi other = refl
+by_keys_alone SemVer other = refl
+by_keys_alone Gem other = refl

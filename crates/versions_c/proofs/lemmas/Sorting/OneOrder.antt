@@ -1,10 +1,11 @@
 -- The places of texts have one order.
-use Rattle.std.proofs.Common.{◌≡◌, ◌∙◌, ℕ, suc, ◌+◌, ◌-◌, ◌<◌, List, [], ◌∷◌, length, get_or, refl, sym, ap, arith, add-one}
+use Rattle.std.proofs.Common.{◌≡◌, ◌∙◌, ℕ, suc, ◌+◌, ◌-◌, ◌<◌, List, [], ◌∷◌, Option, length, get_or, refl, sym, ap, arith, add-one}
 use Rattle.std.proofs.lemmas.Cmp.{by_ranked, on_total, ranked, then_total, tied_itself}
 use Rattle.std.proofs.lemmas.List.Elements.{All-cons, All-contains, All-nil, All-weaker}
 use Rattle.std.proofs.lemmas.List.Sorted.{Contains-permutation, IsPermutation-sym}
 use Rattle.std.proofs.lemmas.Map.Made.{Contains-tail}
 use Rattle.std.specs.Cmp.{IsTotalOrder, nat_cmp_total}
+use Rattle.std.specs.Cmp.Lexicographic.{nat_list_cmp_total}
 use Rattle.std.specs.List.{All, Contains, range_with_len}
 use Rattle.std.specs.Ordering.{nat_cmp}
 use Rattle.std.specs.declared.cmp.Ordering.{Ordering}
@@ -12,13 +13,27 @@ use Rattle.std.specs.declared.cmp.Ordering.TheVariants.{Less}
 use Rattle.version_rules.specs.laws.Order.{none_last_total}
 use Rattle.version_rules.specs.laws.Orders.{versioning_cmp_total}
 use Rattle.version_rules.specs.grammar.Versioning.{versioning_of}
+use Rattle.version_schemes.specs.Scheme.{rules}
+use Rattle.version_schemes.specs.declared.scheme.Scheme.{Scheme}
+use Rattle.version_schemes.specs.declared.scheme.Scheme.TheVariants.{Deb, Gem, Mixed, Pypi, Rpm, SemVer}
 use Rattle.versions_c.specs.Offsets.{text_at}
-use Rattle.versions_c.specs.Sorting.{AreInOrder, place_cmp}
+use Rattle.versions_c.specs.Schemes.{key_by}
+use Rattle.versions_c.specs.Sorting.{AreInOrder, key_place_cmp, place_cmp_in}
 
-place_total : (texts offsets : List ℕ) → IsTotalOrder (place_cmp texts offsets)
-place_total texts offsets =
+key_place_total : (key_of : List ℕ → Option (List ℕ)) (texts offsets : List ℕ)
+    → IsTotalOrder (key_place_cmp key_of texts offsets)
+key_place_total key_of texts offsets =
+    then_total (on_total (λ i. key_of (text_at texts offsets i)) (none_last_total nat_list_cmp_total)) nat_cmp_total
+
+place_total : (scheme : Scheme) (texts offsets : List ℕ) → IsTotalOrder (place_cmp_in scheme texts offsets)
+place_total Mixed texts offsets =
     then_total (on_total (λ i. versioning_of (text_at texts offsets i))
     (none_last_total versioning_cmp_total)) nat_cmp_total
+place_total Deb texts offsets = key_place_total (key_by (rules Deb).read_as) texts offsets
+place_total Rpm texts offsets = key_place_total (key_by (rules Rpm).read_as) texts offsets
+place_total Pypi texts offsets = key_place_total (key_by (rules Pypi).read_as) texts offsets
+place_total SemVer texts offsets = key_place_total (key_by (rules SemVer).read_as) texts offsets
+place_total Gem texts offsets = key_place_total (key_by (rules Gem).read_as) texts offsets
 
 module _ (R : ℕ → ℕ → Ordering) (total : IsTotalOrder R) where
   -- each element is below all elements after it
@@ -84,11 +99,11 @@ module _ (R : ℕ → ℕ → Ordering) (total : IsTotalOrder R) where
       ap (λ h. h ∷ xs) e ∙ ap (λ (l : List ℕ). y ∷ l) others)
       (λ _ more. absurd (apart (λ e. omega (arith, more, e))))
 
-pub one_order : (texts offsets order other : List ℕ) → AreInOrder texts offsets order
-    → AreInOrder texts offsets other → other ≡ order
-one_order texts offsets order other one two =
-    let R = place_cmp texts offsets in
-    let total = place_total texts offsets in
+pub one_order : (scheme : Scheme) (texts offsets order other : List ℕ) → AreInOrder scheme texts offsets order
+    → AreInOrder scheme texts offsets other → other ≡ order
+one_order scheme texts offsets order other one two =
+    let R = place_cmp_in scheme texts offsets in
+    let total = place_total scheme texts offsets in
     let places = range_with_len 0 (length offsets - 1) in
     same R total other order (ascends R total other two.ascending)
     (ascends R total order one.ascending)

@@ -1,6 +1,6 @@
 use Rattle.std.proofs.Common.{arith}
 use Rattle.versions_c.proofs.lemmas.Schemes.{fitting_read}
-use Rattle.versions_c.proofs.schemes.put_key.Goals as goal
+use Rattle.versions_c.proofs.keys.put_key.Goals as goal
 
 pub returns-clause-key : goal.returns-clause-key
 returns-clause-key g c = λ ok.

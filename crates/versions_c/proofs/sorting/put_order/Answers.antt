@@ -1,17 +1,19 @@
-use Rattle.std.proofs.Common.{◌≡◌, ◌∙◌, ◌-◌, ◌≤◌, ◌++◌, Option, None, Some, IfSome, [], ap, arith, drop, length}
+use Rattle.std.proofs.Common.{rules as facts, ◌≡◌, ◌∙◌, ◌-◌, ◌≤◌, ◌++◌, Option, None, Some, IfSome, [], ap, arith, drop, length, subst, sym}
 use Rattle.std.proofs.lemmas.Bool.Decides.{nat_tests}
 use Rattle.std.specs.Option.{option_map}
 use Rattle.version_schemes.proofs.lemmas.Some.{keys_some}
 use Rattle.version_schemes.specs.Scheme.{rules as rules_of}
+use Rattle.version_schemes.specs.declared.scheme.Scheme.TheVariants.{Mixed}
 use Rattle.version_texts.specs.keyed.Keyed.{PlainKeyed}
 use Rattle.versions_c.proofs.lemmas.Sorting.{are_key_offsets, key_lies}
-use Rattle.versions_c.proofs.lemmas.Sorting.ByKeys.{in_key_order}
+use Rattle.versions_c.proofs.lemmas.Sorting.ByKeys.{by_keys_alone, in_key_order}
 use Rattle.versions_c.specs.Keys.{all_keys, keys_before, AreKeyOffsets}
 use Rattle.versions_c.specs.Offsets.{AreOffsets}
 use Rattle.versions_c.specs.Schemes.{key_by}
+use Rattle.versions_c.specs.Sorting.{AreSorted}
 use Rattle.versions_c.specs.Written.{room_status}
 use Rattle.versions_c.specs.declared.status.TheConstants.{OK}
-use Rattle.versions_c.proofs.schemes.put_order.Goals as goal
+use Rattle.versions_c.proofs.sorting.put_order.Goals as goal
 
 some_key : (read : Option PlainKeyed) → IfSome read (λ v. ¬ (v.key ≡ []))
     → IfSome (option_map (λ v. v.key) read) (λ key. ¬ (key ≡ []))
@@ -68,7 +70,10 @@ returns-clause-order c = λ ok.
     last in
     let lies = key_lies key_of texts offsets c.put_keys_in-status.new.keys c.put_keys_in-status.new.key_offsets _ count
     written (omega (arith, whole, same)) (λ i below. told i (omega (arith, below, are.one_more))) in
-    in_key_order key_of texts offsets c.put_keys_in-status.new.keys c.put_keys_in-status.new.key_offsets
+    let by_keys = in_key_order key_of texts offsets c.put_keys_in-status.new.keys c.put_keys_in-status.new.key_offsets
     c.sort_places.new.order count lies
     (λ text. some_key ((rules_of c.args.scheme).read_as text) (keys_some c.args.scheme text))
-    c.sort_places.ensures.places c.sort_places.ensures.sorted
+    c.sort_places.ensures.places c.sort_places.ensures.sorted in
+    let other : ¬ (c.args.scheme ≡ Mixed) = search facts in
+    subst (λ cmp. AreSorted (cmp texts offsets) (length offsets - 1) c.sort_places.new.order)
+    (sym (by_keys_alone c.args.scheme other)) (rw last by_keys)

@@ -5,7 +5,7 @@ use Rattle.versions_c.proofs.lemmas.Keys.Putting.{ArePut, first_told, next_told}
 use Rattle.versions_c.proofs.lemmas.Schemes.{read_put}
 use Rattle.versions_c.specs.Keys.{keys_before}
 use Rattle.versions_c.specs.Schemes.{key_by}
-use Rattle.versions_c.proofs.schemes.put_each.Goals as goal
+use Rattle.versions_c.proofs.keys.put_each.Goals as goal
 
 pub loop-place-init : goal.loop-place-init
 loop-place-init g c = record {

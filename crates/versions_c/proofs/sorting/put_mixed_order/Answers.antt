@@ -1,8 +1,10 @@
-use Rattle.std.proofs.Common.{◌≤◌, length, arith}
+use Rattle.std.proofs.Common.{◌<◌, ◌≤◌, ◌∙◌, ℕ, [], ap, arith, length, sym}
+use Rattle.std.specs.Option.{unwrap_or}
 use Rattle.versions_c.specs.Keys.{keys_before, spelled_key}
-use Rattle.versions_c.specs.Offsets.{AreOffsets}
+use Rattle.versions_c.specs.Offsets.{AreOffsets, text_at}
+use Rattle.versions_c.proofs.lemmas.Schemes.{key_is_spelled}
 use Rattle.versions_c.proofs.lemmas.Sorting.{are_key_offsets, in_order, key_lies}
-use Rattle.versions_c.proofs.sorting.versions_sort.Goals as goal
+use Rattle.versions_c.proofs.sorting.put_mixed_order.Goals as goal
 
 pub invariant_of-keys : goal.invariant_of-keys
 invariant_of-keys c =
@@ -34,9 +36,10 @@ returns-clause-order c = λ ok.
     c.are_offsets.ensures.0 c.if-not-are_offsets.false in
     let fits : length (keys_before spelled_key texts offsets count) ≤ length c.args.keys.now =
     c.put_places.ensures.room.0 c.if-not-put_places.false in
-    let lies = key_lies spelled_key texts offsets c.put_places.new.keys c.put_places.new.key_offsets _ count
-    (c.put_places.ensures.keys c.if-not-put_places.false)
-    (omega (arith, fits)) c.put_places.ensures.key_offsets in
+    let lies = λ (i : ℕ) (below : i < count). key_lies spelled_key texts offsets c.put_places.new.keys
+    c.put_places.new.key_offsets _ count (c.put_places.ensures.keys c.if-not-put_places.false)
+    (omega (arith, fits)) c.put_places.ensures.key_offsets i below
+    ∙ ap (λ key. unwrap_or key []) (sym (key_is_spelled (text_at texts offsets i))) in
     rw c.remove_marks.ensures
     (in_order texts offsets c.put_places.new.keys c.put_places.new.key_offsets
     c.put_places.new.order c.sort.new.order count are.one_more c.put_places.auto.order

@@ -4,7 +4,7 @@ use Rattle.version_rules.specs.key.Codes.{Writes}
 use Rattle.version_rules.specs.order.Lists.{bytes_cmp}
 use Rattle.version_schemes.proofs.lemmas.Orders.{order_by_keys}
 use Rattle.versions_c.specs.Order.{order_code}
-use Rattle.versions_c.proofs.schemes.compare.Goals as goal
+use Rattle.versions_c.proofs.order.compare.Goals as goal
 
 pub returns-clause-order : goal.returns-clause-order
 returns-clause-order g c =
