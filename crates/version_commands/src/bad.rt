@@ -172,7 +172,11 @@ fn front(alloc: Global, text: &[u8]) -> Result<String, AllocError>
 }
 
 /// Returns the scheme of a line: that of all, or the one that a column names.
-pub fn scheme_at(place: &VersionPlace<'_>, schemes: Option<Column<'_>>, line: &[u8]) -> Option<Scheme>
+pub fn scheme_at(
+    place: &VersionPlace<'_>,
+    schemes: Option<Column<'_>>,
+    line: &[u8],
+) -> Option<Scheme>
     ensures { result ≡ scheme_at place.now schemes.entry line.now }
 {
     match schemes {

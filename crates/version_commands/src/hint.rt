@@ -393,12 +393,7 @@ pub fn tell_of_why<F: Files>(
 }
 
 // The same by the set that the question's word is.
-fn tell_of_asked<F: Files>(
-    question: Question<'_>,
-    options: &EachOptions<'_>,
-    set: &Set,
-    files: &F,
-)
+fn tell_of_asked<F: Files>(question: Question<'_>, options: &EachOptions<'_>, set: &Set, files: &F)
     requires set { HasSet question (Some set.now) }
     requires hints { MayTell (IsOfEach question options.now) F.may_hint }
 {

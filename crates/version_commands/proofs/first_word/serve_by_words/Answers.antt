@@ -75,7 +75,7 @@ serve_lines-requires-in-None g c =
     let finds = g.F.Files.finds c.args.files.now in
     let stays = subst (λ found. IfNone found (StaysWord finds c.args.arrangement c.args.options.now)) c.in-None.is
     c.in_ok-name.ensures.word in
-    record { hints = λ hint so. c.requires.hints hint (inl (stays, so)); }
+    record { hints = λ hint so. c.requires.hints hint (inl (stays, so)) }
 
 -- where no name is that of standard input, it isn't read, though none is named
 none_standard : (names : List (List ℕ)) → reads_standard (names_read names) ≡ false → list_any is_standard names ≡ false

@@ -18,6 +18,8 @@ returns-in-Release-clause-some c is =
 
 pub returns-in-Pre-clause-some : goal.returns-in-Pre-clause-some
 returns-in-Pre-clause-some c is =
-    let (next, so) = some-has c.next_pre.result (sym c.is_some-in-Pre.ensures ∙ is) c.next_pre.ensures.some in
-    (plain_next_pre next, rw c.in-Pre.is (subst (λ (word : Option (List ℕ)).
-    IsNextPre (plain_versioning_ref c.args.version.now) word (plain_next_pre next)) c.bytes_of.ensures so))
+    let (next, so) = some-has c.next_pre.result (sym c.is_some-in-Pre.ensures ∙ is) c.next_pre.ensures.some in (
+      plain_next_pre next,
+      rw c.in-Pre.is (subst (λ (word : Option (List ℕ)).
+          IsNextPre (plain_versioning_ref c.args.version.now) word (plain_next_pre next)) c.bytes_of.ensures so),
+    )

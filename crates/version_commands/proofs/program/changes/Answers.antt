@@ -115,12 +115,17 @@ tell_of_repeated-requires g c =
     let (first, one, old_is, old_closed) = c.in_ok-old.ensures.input in
     let (second, other, new_is, new_closed) = c.in_ok-new.ensures.input in
     record {
-      hints = λ some. c.requires.hints (Repeated lists.old c.repeated-repeated_old.result)
-          (end, first, second, (between, one, (end, other, refl)), inl (
-            refl,
-            some,
-            c.repeated-repeated_old.ensures ∙ ap (repeated lists) (c.as_slice-3.ensures.value ∙ old_is),
-          ));
+      hints = λ some. c.requires.hints (Repeated lists.old c.repeated-repeated_old.result) (
+        end,
+        first,
+        second,
+        (between, one, (end, other, refl)),
+        inl (
+          refl,
+          some,
+          c.repeated-repeated_old.ensures ∙ ap (repeated lists) (c.as_slice-3.ensures.value ∙ old_is),
+        ),
+      );
     }
 
 pub tell_of_repeated-requires-2 : goal.tell_of_repeated-requires-2
@@ -131,10 +136,15 @@ tell_of_repeated-requires-2 g c =
     let (first, one, old_is, old_closed) = c.in_ok-old.ensures.input in
     let (second, other, new_is, new_closed) = c.in_ok-new.ensures.input in
     record {
-      hints = λ some. c.requires.hints (Repeated lists.new c.repeated-repeated_new.result)
-          (end, first, second, (between, one, (end, other, refl)), inr (
-            refl,
-            some,
-            c.repeated-repeated_new.ensures ∙ ap (repeated lists) (c.as_slice-4.ensures.value ∙ new_is),
-          ));
+      hints = λ some. c.requires.hints (Repeated lists.new c.repeated-repeated_new.result) (
+        end,
+        first,
+        second,
+        (between, one, (end, other, refl)),
+        inr (
+          refl,
+          some,
+          c.repeated-repeated_new.ensures ∙ ap (repeated lists) (c.as_slice-4.ensures.value ∙ new_is),
+        ),
+      );
     }
