@@ -18,7 +18,7 @@ use Rattle.version_commands.specs.declared.options.Arrangement.TheVariants as ar
 use Rattle.version_commands.specs.declared.options.ColumnNames.{ColumnNames}
 use Rattle.version_commands.specs.declared.options.LineOptions.{LineOptions}
 use Rattle.version_commands.specs.declared.options.Naming.{Naming}
-use Rattle.version_commands.specs.declared.options.Naming.TheVariants.{Bare, Tag, Prefix}
+use Rattle.version_commands.specs.declared.options.Naming.TheVariants.{Bare, Tag}
 use Rattle.version_commands.specs.declared.options.Operator.{Operator}
 use Rattle.version_commands.specs.declared.options.Step.{Step}
 use Rattle.version_commands.specs.declared.options.VersionPlace.{VersionPlace}
@@ -26,7 +26,7 @@ use Rattle.version_lines.specs.Lines.{lines_of}
 use Rattle.version_lines.specs.declared.lines.LineEnd.{LineEnd}
 use Rattle.version_lines.specs.declared.column.Column.{Column}
 use Rattle.version_lines.specs.declared.column.Separators.{Separators}
-use Rattle.version_lines.specs.declared.column.Separators.TheVariants.{Blanks, Bytes, Csv}
+use Rattle.version_lines.specs.declared.column.Separators.TheVariants.{Bytes}
 use Rattle.version_rules.specs.grammar.Front.{◌>>=◌}
 use Rattle.version_rules.specs.grammar.Versioning.{PlainVersioning, versioning_of}
 use Rattle.version_schemes.specs.any.Order.{PlainAny, any_of, any_precedence}

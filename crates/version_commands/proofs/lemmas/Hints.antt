@@ -1,18 +1,17 @@
 -- Hints that are so of a part of a run are so of the whole.
-use Rattle.std.proofs.Common.{◌≡◌, ◌∙◌, ◌⊎◌, inl, inr, ◌+◌, ◌-◌, ℕ, Bool, true, false, List, [], ◌∷◌, ◌++◌, Bor, length, length-append, map, Option, None, Some, is_some, IfErr, IfSome, Result, Ok, Err, arith, refl, ap, sym, subst}
+use Rattle.std.proofs.Common.{◌≡◌, inl, inr, ◌+◌, ◌-◌, ℕ, Bool, true, false, List, [], ◌∷◌, Bor, length, Option, None, Some, is_some, IfSome, arith, refl, sym, subst}
 use Rattle.std.specs.List.{flat_map}
-use Rattle.std.specs.Option.{option_map, option_map_or}
+use Rattle.std.specs.Option.{option_map}
 use Rattle.version_commands.proofs.lemmas.Header.{ordered-alike}
 use Rattle.version_commands.proofs.lemmas.Ordered.{lines-alike}
 use Rattle.version_commands.specs.Cause.{ComesOf, ComesOfArranging}
 use Rattle.version_commands.specs.Choice.{is_kept}
 use Rattle.version_commands.specs.FirstWord.{Finding, HoldsByWords}
-use Rattle.version_commands.specs.Ends.{takes_no_more, Ends, StopsBy}
 use Rattle.version_commands.specs.Hints.{first_of, IfTags, IsOfArranging, IsOfBody, IsOfEach, IsOfInput, IsOfLines, IsOfRun, TagsMatter}
 use Rattle.version_commands.specs.Inputs.{joined, Reading}
-use Rattle.version_commands.specs.Lists.{Row, first_rows, row_of, rows_of, rows_of_line}
+use Rattle.version_commands.specs.Lists.{rows_of, rows_of_line}
 use Rattle.version_commands.specs.Ordered.{arranged_in, arrangement_in, body_of, options_in, ordered_by}
-use Rattle.version_commands.specs.Picked.{bad_lines, is_bad}
+use Rattle.version_commands.specs.Picked.{bad_lines}
 use Rattle.version_commands.specs.Place.{reads_of}
 use Rattle.version_commands.specs.declared.choice.Chooser.{Chooser}
 use Rattle.version_commands.specs.declared.faults.Fault.{Fault}
@@ -124,14 +123,6 @@ if-tags makes (NoFile word) so = absurd so
 if-tags makes WholeLines so = absurd so
 if-tags makes (Repeated name count) so = absurd so
 if-tags makes (NothingKept returns) so = absurd so
-
--- an input that can't be read is the cause of its fault
-pub cause-of-read : {T : Type 0} (IsOutput : List ℕ → Type 0) (Comes : Fault → Type 0) (old new : Option (List ℕ))
-    (result : Result T Fault) → Ends IsOutput Comes old new result
-    → IfErr result (λ fault. (name : Bor (List ℕ)) → fault ≡ Read name → Comes (Read name))
-cause-of-read IsOutput Comes old new (Ok value) ends = tt
-cause-of-read IsOutput Comes old new (Err fault) ends =
-    λ name is. (subst (λ (f : Fault). StopsBy (takes_no_more f) IsOutput (Comes f) old new) is ends).1
 
 -- what a value has, where there is one
 pub some-has : {A : Type 0} {P : A → Type 0} (found : Option A) → is_some found ≡ true → IfSome found P

@@ -1,4 +1,4 @@
-use Rattle.std.proofs.Common.{◌≡◌, ◌∷◌, ◌||◌, ℕ, Bool, false, Bor, List, [], map, ap, inl, inr, refl, None, Some, IfNone, IfSome, subst, ◌∙◌, sym}
+use Rattle.std.proofs.Common.{◌≡◌, ◌∷◌, ℕ, false, Bor, List, [], map, ap, inl, inr, refl, None, Some, IfNone, IfSome, subst, ◌∙◌, sym}
 use Rattle.std.specs.List.{list_any}
 use Rattle.std.specs.Option.{option_map_or}
 use Rattle.version_commands.specs.FirstWord.{word_for_file, Finding, HoldsByWords, IsThere, StaysWord}

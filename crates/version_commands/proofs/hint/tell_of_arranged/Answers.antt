@@ -1,4 +1,4 @@
-use Rattle.std.proofs.Common.{◌≡◌, ◌∙◌, List, ℕ, Option, rules, inl, inr, subst, sym}
+use Rattle.std.proofs.Common.{◌∙◌, List, ℕ, Option, rules, inl, inr, subst, sym}
 use Rattle.version_commands.specs.Hints.{IsOfNewest}
 use Rattle.version_commands.specs.declared.files.Hint.TheVariants.{Tags}
 use Rattle.version_commands.proofs.hint.tell_of_arranged.Goals.{then-stand_otherwise, else-stand_otherwise}

@@ -1,4 +1,4 @@
-use Rattle.std.proofs.Common.{◌≡◌, ◌∙◌, Bool, Bor, true, List, ℕ, Option, Some, IsSomeAnd, ap, rules, subst}
+use Rattle.std.proofs.Common.{◌≡◌, ◌∙◌, Bor, true, List, ℕ, ap, rules, subst}
 use Rattle.std.specs.List.{list_any}
 use Rattle.version_commands.proofs.lemmas.Hints.{if-tags, tags-of-each}
 use Rattle.version_commands.specs.Choice.{is_of}

@@ -1,4 +1,4 @@
-use Rattle.std.proofs.Common.{Bor, List, ℕ, ap, arith, length, map}
+use Rattle.std.proofs.Common.{Bor, List, ℕ, ap, arith, length}
 use Rattle.std.proofs.lemmas.List.{length-map}
 use Rattle.version_commands.specs.Lists.{rows_of}
 use Rattle.version_commands.proofs.lemmas.Hints.{rows-left}

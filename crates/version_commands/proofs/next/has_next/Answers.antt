@@ -1,4 +1,4 @@
-use Rattle.std.proofs.Common.{◌≡◌, ◌∙◌, Bool, true, List, ℕ, Option, None, Some, IfSome, is_some, subst, sym}
+use Rattle.std.proofs.Common.{◌∙◌, List, ℕ, Option, subst, sym}
 use Rattle.version_commands.proofs.lemmas.Hints.{some-has}
 use Rattle.version_tasks.specs.NextPre.{IsNextPre}
 use Rattle.version_tasks.specs.NextPreRef.{plain_next_pre}
