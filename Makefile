@@ -21,8 +21,8 @@ TARGET ?= x86_64-linux-gnu
 # What is built for another machine lies in a folder of its own.
 of_target := $(addprefix /,$(filter-out x86_64-linux-gnu,$(TARGET)))
 
-# sources CRATE ..: the files of crates
-sources = $(shell find $(addprefix crates/,$(1)) -name out -prune -o -type f -print)
+# sources CRATE: the files of a crate and of those that it stands on
+sources = $(shell find $(addprefix crates/,$(shell c/crates $(1))) -name out -prune -o -type f -print)
 
 ifneq ($(wildcard built/vers),)
 C_LIBRARY ?= built
@@ -40,8 +40,8 @@ ifndef C_LIBRARY
 C_LIBRARY := c/out$(of_target)
 header := c/versions.h
 built := $(C_LIBRARY)/versions.pc
-$(built): crates.txt c/build c/target c/pkg-config-file c/declarations.py c/versions.3.in c/versions.c c/versions.h \
-  $(call sources,version_rules version_texts version_sets version_schemes version_viable version_tasks versions_c)
+$(built): crates.txt c/build c/crates c/target c/pkg-config-file c/declarations.py c/versions.3.in c/versions.c c/versions.h \
+  $(call sources,versions_c)
 	c/build --target $(TARGET) $(C_LIBRARY)
 else
 header := $$C_LIBRARY/versions.h
@@ -50,14 +50,12 @@ endif
 ifndef VERS
 VERS := c/out$(of_target)/vers
 built += $(VERS)
-$(VERS): crates.txt c/program c/target $(call sources,version_rules version_texts version_sets version_schemes version_tasks version_lines \
-  version_commands vers_words vers)
+$(VERS): crates.txt c/program c/target c/crates $(call sources,vers)
 	c/program --target $(TARGET) vers $(VERS)
 endif
 
 # The program for people.
-of_versions = crates.txt c/program c/target $(call sources,version_rules version_texts version_sets version_schemes version_tasks version_lines \
-  version_commands version_words versions_program)
+of_versions = crates.txt c/program c/target c/crates $(call sources,versions_program)
 ifndef VERSIONS
 VERSIONS := c/out$(of_target)/versions
 built += $(VERSIONS)

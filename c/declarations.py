@@ -8,6 +8,7 @@ FORM is one of these:
   statuses    the texts of the statuses, for c/versions.c
   symbols     debian/libversions0.symbols
   rust        rust/src/declarations.rs
+  each_scheme rust/src/each_scheme.rs
   manual      the manual page versions(3), within c/versions.3.in
 What isn't written as the rest of the header is an error.
 """
@@ -18,7 +19,7 @@ from typing import NamedTuple
 
 HERE = Path(__file__).resolve().parent
 FIRST = "0.1.0"  # the first version of the library that has a call, if its comment doesn't end with one: `Since 0.2.0.`
-# The types of C, and those of Rust. A `bool *` is a `*mut u8` there, which may get any byte.
+# The types of C, and those of Rust.
 TYPES = {
     "const char *": "*const c_char", "char *": "*mut c_char", "const uint8_t *": "*const u8", "uint8_t *": "*mut u8",
     "const int64_t *": "*const i64", "int64_t *": "*mut i64", "uint64_t *": "*mut u64", "int32_t *": "*mut i32",
@@ -147,22 +148,76 @@ def symbols(header):
 
 
 def rust(header):
-    """In the layout of rustfmt."""
+    """The numbers and the calls, with a safe function for each call."""
     made = [
-        "//! What `versions.h` declares, as `c/declarations.py rust` writes it. A `bool *` of C is a",
-        "//! `*mut u8`, which may get any byte without undefined behavior.", "#![allow(dead_code)]", "",
-        "use std::os::raw::{c_char, c_int};",
+        "//! What `versions.h` declares, as `c/declarations.py rust` writes it. All unsafe code of the crate is here.", "//!",
+        "//! Of each call of the library there is a safe function, without `versions_` in its name. It takes an array and its",
+        "//! length as one slice or text, and returns what the call writes to single values, with its status.",
+        "#![allow(dead_code)]", "", "use std::os::raw::{c_char, c_int};", "", "use crate::library::Called;",
     ]
     for heading, numbers in header.numbers.items():
         kind = "c_int" if heading in RETURNED else "u32"
         made += ["", *(f"pub const {name.removeprefix('VERSIONS_')}: {kind} = {value};" for name, value, _ in numbers)]
     made += ["", 'extern "C" {']
     for call in header.calls.values():
-        parameters = [f"{name}: {TYPES[kind]}" for kind, name in call.parameters]
-        opening, end = f"    pub fn {call.name}(", f") -> {TYPES[call.result]};"
-        line = opening + ", ".join(parameters) + end
-        made += [line] if len(line) <= 100 else [opening, *(f"        {each}," for each in parameters), "    " + end]
-    return [*made, "}"]
+        parameters = ", ".join(f"{name}: {TYPES[kind]}" for kind, name in call.parameters)
+        made.append(f"    fn {call.name}({parameters}) -> {TYPES[call.result]};")
+    made += [
+        "}", "", "// SAFETY of the calls below: each pointer to an array is passed with the length of that array, and each other",
+        "// pointer is to one value. What is written overlaps with nothing, as it is borrowed mutably. The library refuses",
+        "// offsets that leave their texts.",
+    ]
+    for call in header.proved():
+        made += ["", *safe(call)]
+    return made
+
+
+def each_scheme(header):
+    """A macro of Rust with a row for each scheme."""
+    (schemes,) = (numbers for heading, numbers in header.numbers.items() if heading.startswith("The schemes"))
+    made = [
+        "//! The schemes that `versions.h` declares, as `c/declarations.py each_scheme` writes them.", "",
+        "/// Passes to a macro of each scheme its type, its number, its name, and what it is.", "macro_rules! each_scheme {",
+        "    ($then:ident) => {", "        $then! {",
+    ]
+    for number, _, meaning in schemes:
+        name, said = meaning.split(": ", 1)
+        made.append(f'            {name.capitalize()} {number.removeprefix("VERSIONS_")} "{name}" "`{name}`: {said}."')
+    return [*made, "        }", "    };", "}"]
+
+
+def safe(call):
+    """The safe function of a call. A `bool *` of C is a `u8`, which may get any byte without undefined behavior."""
+    taken, passed, written = [], [], []
+    kinds = [kind for kind, _ in call.parameters]
+    for (kind, name), before, after in zip(call.parameters, ["", *kinds], [*kinds[1:], ""]):
+        if kind == "size_t" and before.endswith("*"):
+            continue
+        if kind.endswith("*") and after == "size_t":
+            constant, element = TYPES[kind].startswith("*const"), TYPES[kind].split()[1].replace("c_char", "u8")
+            is_text = kind == "const char *"
+            taken.append(f"{name}: {'&str' if is_text else f'&[{element}]' if constant else f'&mut [{element}]'}")
+            pointer = f"{name}.as_ptr()" if constant else f"{name}.as_mut_ptr()"
+            passed += [pointer + ".cast()" * ("char" in kind), f"{name}.len()"]
+        elif kind.endswith("*"):
+            written.append((name, TYPES[kind].split()[1]))
+            passed.append(f"&mut {name}")
+        else:
+            taken.append(f"{name}: {TYPES[kind]}")
+            passed.append(name)
+    names, types = [name for name, _ in written], [kind for _, kind in written]
+    one = (lambda words: words[0]) if len(written) == 1 else (lambda words: f"({', '.join(words)})")
+    asked = f"unsafe {{ {call.name}({', '.join(passed)}) }}"
+    yield "#[inline]"
+    if not any(kind.endswith("*") and not kind.startswith("const ") for kind in kinds):
+        yield from (f"pub fn {call.name[9:]}({', '.join(taken)}) -> c_int {{", f"    {asked}", "}")
+        return
+    yield f"pub fn {call.name[9:]}({', '.join(taken)}) -> Called<{one(types)}> {{"
+    if written:
+        yield f"    let {one([f'mut {name}' for name in names])} = {one(['0'] * len(names))};"
+    yield f"    let status = {asked};"
+    yield f'    Called {{ call: "{call.name}", status, value: {one(names)} }}'
+    yield "}"
 
 
 def manual(header):
@@ -198,7 +253,7 @@ def roff(text, parameters=()):
     return re.sub(passed, lambda found: rf"\fI{found[0].strip('`')}\fR", text)
 
 
-FORMS = {form.__name__: form for form in (calls, prototypes, functions, statuses, symbols, rust, manual)}
+FORMS = {form.__name__: form for form in (calls, prototypes, functions, statuses, symbols, rust, each_scheme, manual)}
 
 if __name__ == "__main__":
     if len(sys.argv) != 2 or sys.argv[1] not in FORMS:

@@ -79,7 +79,7 @@ CREATE FUNCTION version_next_pre(text, word text) RETURNS text
 CREATE FUNCTION version_why_not(requirement text, version text) RETURNS text
   AS 'MODULE_PATHNAME', 'version_why_not_text' LANGUAGE C IMMUTABLE STRICT PARALLEL SAFE COST 10;
 
--- Whether a text is a version of a scheme: 'mixed', 'deb', 'rpm', 'pypi', 'semver' or 'gem'. Another name is an error.
+-- Whether a text is a version of a scheme, such as 'deb'. A name of no scheme is an error that lists all.
 CREATE FUNCTION is_version(text, scheme text) RETURNS boolean
   AS 'MODULE_PATHNAME', 'is_version_in_scheme' LANGUAGE C IMMUTABLE STRICT PARALLEL SAFE COST 10;
 

@@ -167,13 +167,15 @@ static bytea *whole_once(FunctionCallInfo fcinfo, Datum value) {
 
 /*
  * Schemes. A type of versions has one: its functions are written for every scheme, and a macro defines them for each
- * type.
+ * type. Each type has a row here, and is named in versions--0.1.0.sql.
  */
+#define EACH_TYPE(row)                                                                                         \
+  row(version, VERSIONS_MIXED) row(deb_version, VERSIONS_DEB) row(rpm_version, VERSIONS_RPM)                   \
+  row(pypi_version, VERSIONS_PYPI) row(semver_version, VERSIONS_SEMVER) row(gem_version, VERSIONS_GEM)
 
 /* The type of the versions of each scheme, at the scheme's number. */
-static const char *const type_names[] = {
-    NULL, "version", "deb_version", "rpm_version", "pypi_version", "semver_version", "gem_version",
-};
+#define TYPE_NAME(type, scheme) [scheme] = #type,
+static const char *const type_names[] = {EACH_TYPE(TYPE_NAME)};
 
 static bool parses(uint32 scheme, Span span) {
   bool parses = false;
@@ -1723,12 +1725,7 @@ static Datum key_of_argument(FunctionCallInfo fcinfo, uint32 scheme) {
     return has_value(scheme, set_of_text(fcinfo, scheme, PG_GETARG_DATUM(1)), PG_GETARG_DATUM(0));               \
   }
 
-TYPE_FUNCTIONS(version, VERSIONS_MIXED)
-TYPE_FUNCTIONS(deb_version, VERSIONS_DEB)
-TYPE_FUNCTIONS(rpm_version, VERSIONS_RPM)
-TYPE_FUNCTIONS(pypi_version, VERSIONS_PYPI)
-TYPE_FUNCTIONS(semver_version, VERSIONS_SEMVER)
-TYPE_FUNCTIONS(gem_version, VERSIONS_GEM)
+EACH_TYPE(TYPE_FUNCTIONS)
 
 /*
  * The planner: a version that matches a requirement, or is in a set, is not below the low bound of that, and is below

@@ -23,7 +23,10 @@
 #include <sys/mman.h>
 #include <unistd.h>
 
+#include "schemes.h"  // what tests/support/schemes.py writes
 #include "support/check.h"
+
+#define COUNT(list) (sizeof(list) / sizeof *(list))
 
 // Memory that ends at a page that may be neither read nor written. So an access one byte too far ends the program, even
 // in the library, which the sanitizers do not see into. The address and the length of the mapping are stored before it.
@@ -1698,8 +1701,8 @@ static void too_long(void) {
 }
 
 // A key in a block of just its length, of a version of a scheme.
-static uint8_t *key_in(uint32_t scheme, const char *text, size_t *key_length) {
-  size_t length = strlen(text), bound = bound_in(scheme, length);
+static uint8_t *key_in(uint32_t scheme, const char *text, size_t length, size_t *key_length) {
+  size_t bound = bound_in(scheme, length);
   CHECK(versions_key(scheme, text, length, NULL, 0, key_length) == VERSIONS_NO_ROOM && *key_length <= bound);
   uint8_t *key = (uint8_t *)block(*key_length);
   CHECK(versions_key(scheme, text, length, key, *key_length - 1, key_length) == VERSIONS_NO_ROOM);
@@ -1709,29 +1712,16 @@ static uint8_t *key_in(uint32_t scheme, const char *text, size_t *key_length) {
 
 // Each call about schemes, on rows worked out by hand: two versions, and how they compare; and texts that are none.
 static void worked_schemes(void) {
-  static const struct {
-    uint32_t scheme;
-    const char *one, *other;
-    int order;
-  } rows[] = {
-      {VERSIONS_MIXED, "1.0rc1", "1.0", -1},      {VERSIONS_MIXED, "1.0.0+a", "1.0.0+b", 0},
-      {VERSIONS_DEB, "1.0~rc1", "1.0", -1},       {VERSIONS_DEB, "1.0a", "1.0+", -1},
-      {VERSIONS_DEB, "1.0", "1.0-0", 0},          {VERSIONS_DEB, "1:0", "9", 1},
-      {VERSIONS_RPM, "1.0^git1", "1.0", 1},       {VERSIONS_RPM, "1.0", "1.0-0", -1},
-      {VERSIONS_RPM, "1a", "1.a", 0},             {VERSIONS_PYPI, "1.0.dev1", "1.0a1", -1},
-      {VERSIONS_PYPI, "1.0", "v1", 0},            {VERSIONS_PYPI, "1+2", "1+10", -1},
-      {VERSIONS_SEMVER, "1.0.0-2", "1.0.0-11", -1}, {VERSIONS_SEMVER, "1.0.0+a", "1.0.0+b", 0},
-      {VERSIONS_GEM, "1.0.a", "1", -1},           {VERSIONS_GEM, "1.0", "1", 0},
-  };
-  for (size_t i = 0; i < sizeof rows / sizeof *rows; i++) {
-    uint32_t scheme = rows[i].scheme;
-    const char *one = rows[i].one, *other = rows[i].other;
-    size_t one_length = strlen(one), other_length = strlen(other), one_size, other_size;
+  for (size_t i = 0; i < COUNT(scheme_pairs); i++) {
+    uint32_t scheme = scheme_pairs[i].scheme;
+    const char *one = scheme_pairs[i].one, *other = scheme_pairs[i].other;
+    size_t one_length = scheme_pairs[i].one_length, other_length = scheme_pairs[i].other_length, one_size, other_size;
     int32_t order = 77, back = 77;
     CHECK(versions_compare(scheme, one, one_length, other, other_length, &order) == VERSIONS_OK);
     CHECK(versions_compare(scheme, other, other_length, one, one_length, &back) == VERSIONS_OK);
-    CHECK(order == rows[i].order && back == -order);
-    uint8_t *key = key_in(scheme, one, &one_size), *other_key = key_in(scheme, other, &other_size);
+    CHECK(order == scheme_pairs[i].order && back == -order);
+    uint8_t *key = key_in(scheme, one, one_length, &one_size);
+    uint8_t *other_key = key_in(scheme, other, other_length, &other_size);
     int bytes = memcmp(key, other_key, one_size < other_size ? one_size : other_size);
     CHECK((bytes > 0) - (bytes < 0) == order && (order != 0 || one_size == other_size));
     release(key), release(other_key);
@@ -1743,41 +1733,43 @@ static void worked_schemes(void) {
     uint64_t places[3] = {77, 77, 77};
     size_t size = (size_t)snprintf(texts, sizeof texts, "%s!%s", other, one);
     CHECK(versions_sort(scheme, texts, size, offsets, 4, keys, sizeof keys, key_offsets, 4, places, 3) == VERSIONS_OK);
-    CHECK(places[0] == (order < 0 ? 2 : 0) && places[1] == (order < 0 ? 0 : 2) && places[2] == 1);
+    // In mixed a sort breaks ties.
+    bool breaks = scheme == VERSIONS_MIXED && order == 0;
+    CHECK(breaks || (places[0] == (order < 0 ? 2 : 0) && places[1] == (order < 0 ? 0 : 2)));
+    CHECK(places[0] + places[1] == 2 && places[0] != 1 && places[2] == 1);
     CHECK((size_t)key_offsets[1] == other_size && key_offsets[2] == key_offsets[1]);
   }
-
-  static const struct {
-    uint32_t scheme;
-    const char *text;
-  } wrong[] = {
-      {VERSIONS_DEB, "a1"}, {VERSIONS_DEB, "1-"}, {VERSIONS_DEB, "1:a:1"}, {VERSIONS_RPM, "1-2-3"},
-      {VERSIONS_PYPI, "1..0"}, {VERSIONS_SEMVER, "1.0"}, {VERSIONS_GEM, ""}, {VERSIONS_MIXED, "1..2"},
-  };
-  for (size_t i = 0; i < sizeof wrong / sizeof *wrong; i++) {
-    size_t length = strlen(wrong[i].text), written = 77;
+  for (size_t i = 0; i < COUNT(scheme_no_versions); i++) {
+    uint32_t scheme = scheme_no_versions[i].scheme;
+    const char *text = scheme_no_versions[i].text;
+    size_t length = scheme_no_versions[i].length, written = 77;
     bool has = true;
     int32_t order = 77;
-    CHECK(versions_has(wrong[i].scheme, wrong[i].text, length, &has) == VERSIONS_OK && !has);
-    CHECK(versions_key(wrong[i].scheme, wrong[i].text, length, NULL, 0, &written) == VERSIONS_NO_VERSION);
-    CHECK(versions_compare(wrong[i].scheme, wrong[i].text, length, "1.0.0", 5, &order) == VERSIONS_NO_VERSION_A);
+    CHECK(versions_has(scheme, text, length, &has) == VERSIONS_OK && !has);
+    CHECK(versions_key(scheme, text, length, NULL, 0, &written) == VERSIONS_NO_VERSION);
+    CHECK(versions_compare(scheme, text, length, "1.0.0", 5, &order) == VERSIONS_NO_VERSION_A);
     CHECK(written == 77 && order == 77);
   }
-
-  static const char *const names[] = {"mixed", "deb", "rpm", "pypi", "semver", "gem"};
-  for (uint32_t scheme = 1; scheme <= 6; scheme++) {
-    size_t length = strlen(names[scheme - 1]), written = 77;
-    uint32_t found = 77;
-    char name[8];
-    CHECK(versions_scheme(names[scheme - 1], length, &found) == VERSIONS_OK && found == scheme);
-    CHECK(versions_scheme(names[scheme - 1], length - 1, &found) == VERSIONS_NO_SCHEME && found == scheme);
+  uint32_t last = 0;
+  for (size_t i = 0; i < COUNT(scheme_names); i++) {
+    uint32_t scheme = scheme_names[i].scheme, found = 77;
+    const char *its = scheme_names[i].text;
+    size_t length = scheme_names[i].length, written = 77;
+    char name[16];
+    CHECK(versions_scheme(its, length, &found) == VERSIONS_OK && found == scheme);
+    // The first names of schemes are those that calls answer.
+    if (scheme == last) continue;
     CHECK(versions_scheme_name(scheme, name, sizeof name, &written) == VERSIONS_OK && written == length);
-    CHECK(memcmp(name, names[scheme - 1], length) == 0);
+    CHECK(memcmp(name, its, length) == 0 && scheme == last + 1);
     CHECK(versions_scheme_name(scheme, NULL, 0, &written) == VERSIONS_NO_ROOM && written == length);
+    found = 77;
+    CHECK(versions_scheme(its, length - 1, &found) == VERSIONS_NO_SCHEME && found == 77);
+    last = scheme;
   }
   size_t written = 77;
   CHECK(versions_scheme_name(0, NULL, 0, &written) == VERSIONS_NO_SCHEME && written == 77);
-  CHECK(versions_key_bound(7, 1, &written) == VERSIONS_NO_SCHEME && written == 77);
+  CHECK(versions_scheme_name(last + 1, NULL, 0, &written) == VERSIONS_NO_SCHEME && written == 77);
+  CHECK(versions_key_bound(last + 1, 1, &written) == VERSIONS_NO_SCHEME && written == 77);
 
   // A set of a scheme has its number, and goes by its order.
   uint8_t form[256];
@@ -1804,12 +1796,8 @@ static void worked_schemes(void) {
   CHECK(place == 2 && reason == VERSIONS_SET_NOT_DOUBLED);
 }
 
-// Why texts are no versions, on rows worked out by hand: each reason, in each scheme, and on long texts.
-static void worked_flaws(void) {
-  enum {
-    EMPTY = 1, HYPHEN, PLUS, DOT, COLON, UNDERSCORE, TILDE, EXCLAMATION, UNFINISHED, BLANK, CONTROL, NOT_ASCII, PART, ZERO,
-    OTHER, LATE_COLON
-  };
+// Checks up to where a text could become a version of a scheme, and why no further. The texts are in blocks of their own.
+static void check_flaw(uint32_t scheme, const char *its, size_t length, size_t wanted_place, uint32_t wanted_reason) {
   static const char *const words[] = {
       "", "nothing", "nothing after the hyphen", "nothing after the plus", "nothing after the dot",
       "nothing after the colon", "nothing after the underscore", "nothing after the tilde",
@@ -1817,101 +1805,60 @@ static void worked_flaws(void) {
       "a character past ASCII", "an empty part", "a number with a leading zero", "a character that can't stand there",
       "a colon after the hyphen",
   };
-  static const struct {
-    uint32_t scheme;
-    const char *text;
-    size_t place;
-    uint32_t reason;
-  } rows[] = {
-      {VERSIONS_MIXED, "", 0, EMPTY},           {VERSIONS_MIXED, "1.2.3-", 6, HYPHEN},
-      {VERSIONS_MIXED, "1.2.3+", 6, PLUS},      {VERSIONS_MIXED, "1.", 2, DOT},
-      {VERSIONS_MIXED, "1:", 2, COLON},         {VERSIONS_MIXED, "1_", 2, UNDERSCORE},
-      {VERSIONS_MIXED, "1~", 2, TILDE},         {VERSIONS_MIXED, "1..2", 2, PART},
-      {VERSIONS_MIXED, "-1", 0, PART},          {VERSIONS_MIXED, "1.0+~b", 4, PART},
-      {VERSIONS_MIXED, "1.2.3 ", 5, BLANK},     {VERSIONS_MIXED, " 1", 0, BLANK},
-      {VERSIONS_MIXED, "1\t2", 1, BLANK},       {VERSIONS_MIXED, "1\n", 1, CONTROL},
-      {VERSIONS_MIXED, "1\x7f", 1, CONTROL},    {VERSIONS_MIXED, "1\x1f", 1, CONTROL},
-      {VERSIONS_MIXED, "1.2\xc3\xa9", 3, NOT_ASCII}, {VERSIONS_MIXED, "\xff", 0, NOT_ASCII},
-      {VERSIONS_MIXED, "1\x80", 1, NOT_ASCII},  {VERSIONS_MIXED, "1.2.3-a_!", 8, OTHER},
-      {VERSIONS_MIXED, "1!2", 1, OTHER},        {VERSIONS_MIXED, "^1", 0, OTHER},
-      {VERSIONS_DEB, "", 0, EMPTY},             {VERSIONS_DEB, "1:", 2, COLON},
-      {VERSIONS_DEB, "1.0-", 4, HYPHEN},        {VERSIONS_DEB, "a1", 0, OTHER},
-      {VERSIONS_DEB, "1_0", 1, OTHER},          {VERSIONS_DEB, "1.0:1", 3, OTHER},
-      {VERSIONS_DEB, "2147483648:1", 10, OTHER}, {VERSIONS_DEB, ".1", 0, OTHER},
-      {VERSIONS_DEB, "-1", 0, PART},            {VERSIONS_DEB, "1.0 ", 3, BLANK},
-      {VERSIONS_DEB, "1:1-2:3", 7, LATE_COLON}, {VERSIONS_DEB, "1-2:3", 3, LATE_COLON},
-      {VERSIONS_DEB, "1:1-2:", 6, COLON},       {VERSIONS_DEB, "1:1-2:3_", 7, OTHER},
-      {VERSIONS_DEB, "1-02:3", 4, LATE_COLON},  {VERSIONS_RPM, "1-2:3", 3, LATE_COLON},
-      {VERSIONS_RPM, "", 0, EMPTY},             {VERSIONS_RPM, "1-", 2, HYPHEN},
-      {VERSIONS_RPM, "1:", 2, COLON},           {VERSIONS_RPM, "1-2-3", 3, OTHER},
-      {VERSIONS_RPM, "a:1", 1, OTHER},          {VERSIONS_RPM, "1--2", 2, PART},
-      {VERSIONS_RPM, "4294967296:1", 10, OTHER}, {VERSIONS_RPM, "1/0", 1, OTHER},
-      {VERSIONS_PYPI, "", 0, EMPTY},            {VERSIONS_PYPI, "1!", 2, EXCLAMATION},
-      {VERSIONS_PYPI, "1.0+", 4, PLUS},         {VERSIONS_PYPI, "1.0_", 4, UNDERSCORE},
-      {VERSIONS_PYPI, "v", 1, UNFINISHED},      {VERSIONS_PYPI, " ", 1, UNFINISHED},
-      {VERSIONS_PYPI, "1.0x", 3, OTHER},        {VERSIONS_PYPI, "1..0", 2, PART},
-      {VERSIONS_PYPI, "1!!0", 2, PART},         {VERSIONS_PYPI, "1 2", 2, OTHER},
-      {VERSIONS_PYPI, "1.0.po\xc5\xbft1", 6, NOT_ASCII},
-      {VERSIONS_SEMVER, "", 0, EMPTY},          {VERSIONS_SEMVER, "1.2", 3, UNFINISHED},
-      {VERSIONS_SEMVER, "1.2.", 4, DOT},        {VERSIONS_SEMVER, "1.2.3-", 6, HYPHEN},
-      {VERSIONS_SEMVER, "1.2.3+", 6, PLUS},     {VERSIONS_SEMVER, "01.0.0", 1, ZERO},
-      {VERSIONS_SEMVER, "1.00.0", 3, ZERO},     {VERSIONS_SEMVER, "1.0.0-01", 8, ZERO},
-      {VERSIONS_SEMVER, "1.0.0-01.5", 8, ZERO}, {VERSIONS_SEMVER, "1.0.0-a.00+1", 10, ZERO},
-      {VERSIONS_SEMVER, "1.0.0-01!", 8, OTHER}, {VERSIONS_SEMVER, "1.0.0+01+b", 8, OTHER},
-      {VERSIONS_SEMVER, "1.0.0-01.a", 8, ZERO}, {VERSIONS_SEMVER, "1.0.0-a..b", 8, PART},
-      {VERSIONS_SEMVER, "v1.0.0", 0, OTHER},    {VERSIONS_SEMVER, "1.0.0+a+b", 7, OTHER},
-      {VERSIONS_GEM, "", 0, EMPTY},             {VERSIONS_GEM, "1.", 2, DOT},
-      {VERSIONS_GEM, "1-", 2, HYPHEN},          {VERSIONS_GEM, "1..0", 2, PART},
-      {VERSIONS_GEM, "a", 0, OTHER},            {VERSIONS_GEM, "1a.0", 1, OTHER},
-      {VERSIONS_GEM, " ", 1, UNFINISHED},       {VERSIONS_GEM, "1. 0", 2, BLANK},
-  };
-  for (size_t i = 0; i < sizeof rows / sizeof *rows; i++) {
-    uint32_t scheme = rows[i].scheme, reason = 77;
-    size_t length = strlen(rows[i].text), place = 77, written = 77, wanted = strlen(words[rows[i].reason]);
-    char *text = (char *)block(length);
-    memcpy(text, rows[i].text, length);
-    CHECK(versions_wrong(scheme, text, length, &place, &reason) == VERSIONS_OK);
-    CHECK(place == rows[i].place && reason == rows[i].reason);
-    char *why = (char *)block(wanted);
-    memset(why, '?', wanted);
-    CHECK(versions_wrong_text(scheme, text, length, why, wanted - 1, &written) == VERSIONS_NO_ROOM);
-    CHECK(written == wanted && why[0] == '?');
-    written = 77;
-    CHECK(versions_wrong_text(scheme, text, length, why, wanted, &written) == VERSIONS_OK);
-    CHECK(written == wanted && memcmp(why, words[rows[i].reason], wanted) == 0);
-    CHECK(versions_wrong_text(scheme, text, length, NULL, 0, &written) == VERSIONS_NO_ROOM && written == wanted);
-    release(why), release(text);
-  }
-
-  // A byte 0 is a control character, as the others.
-  size_t place = 77, written = 77;
   uint32_t reason = 77;
-  char why[1] = {'?'};
-  CHECK(versions_wrong(VERSIONS_MIXED, "1.0\0", 4, &place, &reason) == VERSIONS_OK && place == 3 && reason == CONTROL);
+  size_t place = 77, written = 77, wanted = strlen(words[wanted_reason]);
+  char *text = (char *)block(length), *why = (char *)block(wanted);
+  memcpy(text, its, length);
+  CHECK(versions_wrong(scheme, text, length, &place, &reason) == VERSIONS_OK);
+  CHECK(place == wanted_place && reason == wanted_reason);
+  memset(why, '?', wanted);
+  CHECK(versions_wrong_text(scheme, text, length, why, wanted - 1, &written) == VERSIONS_NO_ROOM);
+  CHECK(written == wanted && why[0] == '?');
+  written = 77;
+  CHECK(versions_wrong_text(scheme, text, length, why, wanted, &written) == VERSIONS_OK);
+  CHECK(written == wanted && memcmp(why, words[wanted_reason], wanted) == 0);
+  CHECK(versions_wrong_text(scheme, text, length, NULL, 0, &written) == VERSIONS_NO_ROOM && written == wanted);
+  release(why), release(text);
+}
+
+// Why texts are no versions, on rows worked out by hand, and on long texts of each scheme.
+static void worked_flaws(void) {
+  for (size_t i = 0; i < COUNT(scheme_flaws); i++) {
+    check_flaw(scheme_flaws[i].scheme, scheme_flaws[i].text, scheme_flaws[i].length, scheme_flaws[i].place,
+               scheme_flaws[i].reason);
+  }
+  check_flaw(VERSIONS_MIXED, "\xff", 1, 0, VERSIONS_WRONG_NOT_ASCII);
+  check_flaw(VERSIONS_MIXED, "1\x80", 2, 1, VERSIONS_WRONG_NOT_ASCII);
+
   // Of a version, and in no scheme, nothing is written.
-  place = 77, reason = 77;
-  static const char *const right[] = {"1.0.0", "1.0-1", "1.0-1", "1.0-1", "1.0.0", "1.0-1"};
-  for (uint32_t scheme = 0; scheme <= 7; scheme++) {
-    const char *text = scheme % 7 == 0 ? "" : right[scheme - 1];
-    int status = scheme % 7 == 0 ? VERSIONS_NO_SCHEME : VERSIONS_IS_VERSION;
+  size_t place = 77, written = 77;
+  uint32_t reason = 77, schemes = COUNT(scheme_fronts);
+  char why[1] = {'?'};
+  for (size_t i = 0; i <= COUNT(scheme_pairs) + 1; i++) {
+    bool is_version = i < COUNT(scheme_pairs);
+    uint32_t scheme = is_version ? scheme_pairs[i].scheme : i == COUNT(scheme_pairs) ? 0 : schemes + 1;
+    const char *text = is_version ? scheme_pairs[i].one : "";
+    int status = is_version ? VERSIONS_IS_VERSION : VERSIONS_NO_SCHEME;
     CHECK(versions_wrong(scheme, text, strlen(text), &place, &reason) == status);
     CHECK(versions_wrong_text(scheme, text, strlen(text), why, 1, &written) == status);
     CHECK(place == 77 && reason == 77 && written == 77 && why[0] == '?');
   }
 
   // A million parts, and a blank or nothing after the last dot.
-  size_t length = 2000001;
-  char *text = (char *)block(length);
-  for (size_t i = 0; i < length; i++) text[i] = i % 2 ? '.' : '1';
-  text[length - 1] = ' ';
-  for (uint32_t scheme = VERSIONS_MIXED; scheme <= VERSIONS_GEM; scheme++) {
-    CHECK(versions_wrong(scheme, text, length, &place, &reason) == VERSIONS_OK);
-    if (scheme != VERSIONS_SEMVER) CHECK(place == length - 1 && reason == BLANK);
-    else CHECK(place == 5 && reason == OTHER);
+  for (uint32_t i = 0; i < schemes; i++) {
+    size_t front = scheme_fronts[i].length, length = front + 2000001;
+    char *text = (char *)block(length);
+    memcpy(text, scheme_fronts[i].text, front);
+    for (size_t at = front; at < length; at++) text[at] = (at - front) % 2 ? '.' : '1';
+    text[length - 1] = ' ';
+    CHECK(versions_wrong(scheme_fronts[i].scheme, text, length, &place, &reason) == VERSIONS_OK);
+    CHECK(place == length - 1 && reason == VERSIONS_WRONG_BLANK);
+    if (scheme_fronts[i].scheme == VERSIONS_MIXED) {
+      CHECK(versions_wrong(VERSIONS_MIXED, text, length - 1, &place, &reason) == VERSIONS_OK);
+      CHECK(place == length - 1 && reason == VERSIONS_WRONG_AFTER_DOT);
+    }
+    release(text);
   }
-  CHECK(versions_wrong(VERSIONS_GEM, text, length - 1, &place, &reason) == VERSIONS_OK);
-  CHECK(place == length - 1 && reason == DOT);
-  release(text);
 }
 
 // Makes every call on a long text: a piece many times, and one more byte.

@@ -1,5 +1,6 @@
-// Loads the extension for SQLite, calls its functions on the lines of standard input, and writes what they return:
-//   rows EXTENSION
+// Loads the extension for SQLite, calls its functions on the lines of standard input, by each of the schemes too, and
+// writes what they return:
+//   rows EXTENSION [SCHEME ..]
 // tests/processors compares that on two processors.
 // This is not an extension: it calls SQLite directly.
 #define SQLITE_CORE 1
@@ -11,7 +12,7 @@
 
 #define LONGEST 16384
 
-// ?1 is a line, ?2 the one before it, and ?3 a requirement, which may be a set too.
+// ?1 is a line, ?2 the one before it, ?3 a requirement, which may be a set too, and ?4 a scheme.
 static const char *const of_each_line[] = {
   "INSERT INTO lines VALUES (?1)",
   "SELECT is_version(?1), version_key(?1), version_kind(?1), version_nth(?1, 0), version_nth(?1, 3), version_epoch(?1),"
@@ -21,10 +22,9 @@ static const char *const of_each_line[] = {
   "SELECT version_compare(?2, ?1), version_compare_total(?2, ?1), version_difference(?2, ?1)",
   "SELECT version_matches(?3, ?1), version_why_not(?3, ?1), version_low(?3), version_high(?3)",
   "SELECT version_in_set(?3, ?1)",
-  "SELECT version_in_set(?3, ?1, 'deb')",
-  "SELECT version_key(?1, 'rpm'), version_key(?1, 'pypi'), version_key(?1, 'semver'), version_key(?1, 'gem'),"
-  " version_compare(?2, ?1, 'deb'), version_compare(?2, ?1, 'gem')",
 };
+static const char of_each_scheme[] =
+  "SELECT version_key(?1, ?4), version_compare(?2, ?1, ?4), is_version(?1, ?4), version_in_set(?3, ?1, ?4)";
 static const char *const of_all_lines[] = {
   "SELECT version_max(line), version_min(line), versions_version() FROM lines",
   "SELECT rowid FROM lines ORDER BY version_key(line), rowid",
@@ -66,14 +66,15 @@ static void run(sqlite3 *db, sqlite3_stmt *statement) {
 int main(int count, char **words) {
   static char line[LONGEST], before[LONGEST], list[LONGEST + 2];
   static const char *const operators[] = {"=", ">", ">=", "<", "<=", "~", "^", ""};
-  sqlite3_stmt *each[COUNT(of_each_line)];
+  sqlite3_stmt *each[COUNT(of_each_line)], *by_scheme;
   sqlite3 *db;
   size_t lines = 0;
-  if (count != 2 || sqlite3_open(":memory:", &db) != SQLITE_OK) return 2;
+  if (count < 2 || sqlite3_open(":memory:", &db) != SQLITE_OK) return 2;
   if (sqlite3_enable_load_extension(db, 1) != SQLITE_OK) stop(db);
   if (sqlite3_load_extension(db, words[1], NULL, NULL) != SQLITE_OK) stop(db);
   if (sqlite3_exec(db, "CREATE TABLE lines (line TEXT)", NULL, NULL, NULL) != SQLITE_OK) stop(db);
   for (size_t i = 0; i < COUNT(each); i++) each[i] = prepared(db, of_each_line[i]);
+  by_scheme = prepared(db, of_each_scheme);
   while (fgets(line, sizeof line, stdin) != NULL) {
     line[strcspn(line, "\n")] = 0;
     snprintf(list, sizeof list, "%s%s", operators[lines++ % 8], before);
@@ -83,9 +84,17 @@ int main(int count, char **words) {
       if (i > 2) sqlite3_bind_text(each[i], 3, list, -1, SQLITE_STATIC);
       run(db, each[i]);
     }
+    sqlite3_bind_text(by_scheme, 1, line, -1, SQLITE_STATIC);
+    sqlite3_bind_text(by_scheme, 2, before, -1, SQLITE_STATIC);
+    sqlite3_bind_text(by_scheme, 3, list, -1, SQLITE_STATIC);
+    for (int scheme = 2; scheme < count; scheme++) {
+      sqlite3_bind_text(by_scheme, 4, words[scheme], -1, SQLITE_STATIC);
+      run(db, by_scheme);
+    }
     strcpy(before, line);
   }
   for (size_t i = 0; i < COUNT(each); i++) sqlite3_finalize(each[i]);
+  sqlite3_finalize(by_scheme);
   for (size_t i = 0; i < COUNT(of_all_lines); i++) {
     sqlite3_stmt *statement = prepared(db, of_all_lines[i]);
     run(db, statement);

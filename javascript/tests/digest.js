@@ -30,10 +30,13 @@ class Digest {
 const PREFIX = 2;
 const ROOM = 64;
 const MIXED = 1; // VERSIONS_MIXED
-const GEM = 6; // VERSIONS_GEM, the last scheme
+const NO_ROOM = 7; // VERSIONS_NO_ROOM
 
 export function digest(library, lines, lists) {
   const { FIRST, SLOTS, START, reserve, slot } = library;
+  reserve(FIRST);
+  let last = 0; // the number of the last scheme, by the names of all
+  while (Number(library.call.versions_scheme_name(last + 1, 0n, 0n, SLOTS[0])) === NO_ROOM) last++;
   const digests = new Map();
   const of = (name) => digests.get(name) ?? digests.set(name, new Digest()).get(name);
   const write = (bytes, at) => {
@@ -89,7 +92,7 @@ export function digest(library, lines, lists) {
     }
     written("inexact", ask("inexact", [...wanted, ...key, SLOTS[0]], 1), slot(0));
     // The list as a set of a scheme, the set of a version, and what is made of both.
-    const by = MIXED + (place % GEM);
+    const by = MIXED + (place % last);
     ask("set_bound", [by, ...wanted, SLOTS[0]], 1);
     const form = out + 2 * room;
     const formRoom = slot(0);
@@ -118,7 +121,7 @@ export function digest(library, lines, lists) {
     writes("set_or", [...set, ...its], made, madeRoom);
     writes("set_not", its, made, madeRoom);
     ask("scheme", [...a, SLOTS[0]], 1);
-    for (let scheme = 0; scheme <= GEM; scheme++) {
+    for (let scheme = 0; scheme <= last; scheme++) {
       ask("has", [scheme, ...a, SLOTS[0]], 1, 1);
       ask("key_bound", [scheme, BigInt(line.length), SLOTS[0]], 1);
       ask("wrong", [scheme, ...a, SLOTS[0], SLOTS[1]], 2);
@@ -171,7 +174,7 @@ export function digest(library, lines, lists) {
   ask("in_tags", [...texts, BigInt(order), BigInt(count)], 0);
   digestAnswers("in_tags", order, 8 * count);
   const allKeys = [...texts, BigInt(keys), BigInt(room), BigInt(keyOffsets), BigInt(count + 1)];
-  for (let scheme = MIXED; scheme <= GEM; scheme++) {
+  for (let scheme = MIXED; scheme <= last; scheme++) {
     ask("keys", [scheme, ...allKeys], 0);
     digestAnswers("keys", keyOffsets, 8 * (count + 1));
     digestAnswers("keys", keys, library.wordPair(keyOffsets + 8 * count));

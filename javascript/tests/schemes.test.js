@@ -1,11 +1,11 @@
-// `scheme`: the orders of other systems, in the calls, of Version and of VersionSet. Beside docs/SCHEMES.md the tables
-// are those of python/tests.
+// `scheme`: the orders of other systems, in the calls, of Version and of VersionSet. The rows of each scheme are those of
+// tests/support/schemes.py.
 import assert from "node:assert/strict";
 import { inspect } from "node:util";
 import { readFileSync } from "node:fs";
 import { test } from "node:test";
 import {
-  chooser, compareBytes, folder, refusesScheme, refusesSet, refusesType, refusesVersion, versions,
+  chooser, compareBytes, folder, refusesScheme, refusesSet, refusesType, refusesVersion, rowsOf, versions,
 } from "./support.js";
 
 const {
@@ -54,13 +54,8 @@ const CALLS = {
 };
 const shown = (value) => inspect(value);
 
-// Each scheme of the page, and what else it is called there.
-const [, TABLE] = readFileSync(new URL("../../docs/SCHEMES.md", import.meta.url), "utf8").split("| scheme | also called |");
-const NAMES = new Map(
-  [...TABLE.split("\n\n")[0].matchAll(/^\| `(\w+)` \| ([^|]*)\|/gm)].map(([, scheme, cell]) => [
-    scheme, [...cell.matchAll(/`(.*?)`/g)].map((found) => found[1]),
-  ]),
-);
+// Each scheme, and what else it is called.
+const NAMES = new Map(rowsOf("scheme").map(([scheme, , ...others]) => [scheme, others]));
 
 test("the names of all schemes", () => {
   assert.ok(Object.isFrozen(SCHEMES));
@@ -143,31 +138,11 @@ test("order and keys", () => {
 });
 
 test("why a text is no version", () => {
-  const other = "a character that can't stand there";
-  const rows = [
-    ["mixed", "", 0, "nothing"],
-    ["mixed", "1.2.3-", 6, "nothing after the hyphen"],
-    ["mixed", "1.2.3+", 6, "nothing after the plus"],
-    ["mixed", "1.", 2, "nothing after the dot"],
-    ["mixed", "1:", 2, "nothing after the colon"],
-    ["mixed", "1_", 2, "nothing after the underscore"],
-    ["mixed", "1~", 2, "nothing after the tilde"],
-    ["pypi", "1!", 2, "nothing after the exclamation mark"],
-    ["semver", "1.2", 3, "an end too early"],
-    ["mixed", "1.2.3 ", 5, "a blank"],
-    ["mixed", "1\0", 1, "a control character"],
-    ["deb", "1.2\u00e9", 3, "a character past ASCII"],
-    ["rpm", "1\u{1f600}2", 1, "a character past ASCII"],
-    ["gem", "1.0\ud800", 3, "a character past ASCII"],
-    ["mixed", "1..2", 2, "an empty part"],
-    ["semver", "01.0.0", 1, "a number with a leading zero"],
-    ["mixed", "1.2.3-a_!", 8, other],
-    ["deb", "1_0", 1, other],
-    ["rpm", "1-2-3", 3, other],
-    ["pypi", "1.0x", 3, other],
-    ["gem", "a", 0, other],
-    ...SCHEMES.filter((scheme) => scheme !== "semver").map((scheme) => [scheme, `${"1.".repeat(1e6)} `, 2e6, "a blank"]),
-  ];
+  const rows = rowsOf("flaw").map(([scheme, text, place, reason]) => [scheme, text, Number(place), reason]);
+  for (const [scheme, front] of rowsOf("front")) {
+    rows.push([scheme, `${front}${"1.".repeat(1e6)} `, front.length + 2e6, "a blank"]);
+    for (const half of ["\ud800", "\u{1f600}"]) rows.push([scheme, half, 0, "a character past ASCII"]);
+  }
   for (const [scheme, text, place, reason] of rows) {
     const made = new InvalidVersion(text, scheme);
     assert.deepEqual([made.place, made.reason], [place, reason], JSON.stringify(text.slice(0, 20)));
@@ -233,7 +208,7 @@ test("a value of another scheme", () => {
     for (const text of ["*", ">1 <1"]) {
       refusesScheme(() => new VersionSet(text)[name](debs(text)), "mixed", "deb");
       refusesScheme(() => debs(text)[name](new VersionSet(text)), "deb", "mixed");
-      refusesScheme(() => debs(text)[name](new VersionSet(text, { scheme: "gem" })), "deb", "gem");
+      refusesScheme(() => debs(text)[name](new VersionSet(text, { scheme: "rpm" })), "deb", "rpm");
     }
   }
   // < and > see one side alone, so they are for versions of mixed.
@@ -350,42 +325,42 @@ test("sets of deb", () => {
   assert.deepEqual([low.meets(high), low.meets(debs(">0")), low.isPartOf(debs("<=1.0")), low.isPartOf(high)], [false, true, true, false]);
   assert.deepEqual([low.and(high), low.or(high), low.not()].map((set) => set.scheme), ["deb", "deb", "deb"]);
   assert.deepEqual([low.intervals, high.intervals], [[[new Uint8Array(), deb("1.0").key]], [[deb("1.0").key, null]]]);
-  const noParts = "versions of this scheme have no parts, which ~, ^ and .* ask for";
-  for (const scheme of SCHEMES.slice(1)) {
+  const ofParts = rowsOf("no-set").filter(([, , , why]) => why.includes("have no parts"));
+  assert.equal(ofParts.length, SCHEMES.length - 1);
+  for (const [scheme, , , noParts] of ofParts) {
     for (const text of ["~1.2.3", "^1.2.3", "~=1.2.3", "~>1.2.3", "=1.2.3.*", "!=1.2.3.*"]) {
       refusesSet(() => new VersionSet(text, { scheme }), text, text.indexOf("1"), noParts, scheme);
     }
   }
-  refusesSet(() => new VersionSet("<<1", { scheme: "rpm" }), "<<1", 2, "<< and >> are for Debian's versions alone: write < or >", "rpm");
-  for (const [text, start] of [[">=1.0, =a:1", 8], ["=\u{1f600}", 1], ["=1 || =\ud800", 7]]) {
+  for (const [text, start] of [["=\u{1f600}", 1], ["=1 || =\ud800", 7]]) {
     refusesSet(() => debs(text), text, start, "what follows the operator is not a version", "deb");
   }
 });
 
-test("the rows of docs/SCHEMES.md", () => {
-  const page = readFileSync(new URL("../../docs/SCHEMES.md", import.meta.url), "utf8");
-  const spans = (cell) => [...cell.matchAll(/`([^`]+)`/g)].map((found) => found[1]);
-  let rows = 0;
-  for (const scheme of SCHEMES.slice(1)) {
-    const [, section] = page.match(new RegExp(`^## ${scheme}\n(.*?)(?=^## )`, "ms"));
-    for (const [, chain] of section.matchAll(/^\| (`[^|]*` [<=] [^|]*`) \|/gm)) {
-      const texts = spans(chain);
-      [...chain.matchAll(/` ([<=]) `/g)].forEach(([, sign], place) => {
-        assert.equal(compare(texts[place], texts[place + 1], { scheme }), sign === "<" ? -1 : 0, chain);
-        rows++;
-      });
-    }
-    for (const [, text, has, lacks] of page.matchAll(new RegExp(`^\\| \`${scheme}\` \\| \`(.*)\` \\| (\`.*\`) \\| (\`.*\`) \\|$`, "gm"))) {
-      const set = new VersionSet(text.replaceAll("\\|", "|"), { scheme });
-      for (const version of spans(has)) assert.equal(set.has(version), true, `${text} ${version}`);
-      for (const version of spans(lacks)) assert.equal(set.matches(version), false, `${text} ${version}`);
-      rows++;
-    }
-    for (const [, cell] of section.matchAll(/^\| no version, here or there \| (.*) \|$/gm)) {
-      for (const text of spans(cell)) refusesVersion(() => new Version(text, { scheme }), text, undefined, scheme);
+test("the rows of each scheme", () => {
+  for (const [scheme, ...words] of rowsOf("chain")) {
+    for (let place = 1; place < words.length; place += 2) {
+      const [a, sign, b] = words.slice(place - 1);
+      const order = sign === "<" ? -1 : 0;
+      assert.deepEqual([compare(a, b, { scheme }), rcompare(a, b, { scheme })], [order, 0 - order], `${scheme} ${a} ${b}`);
+      assert.equal(compareBytes(sortKey(a, { scheme }), sortKey(b, { scheme })), order, `${scheme} ${a} ${b}`);
     }
   }
-  assert.equal(rows, 50);
+  for (const [scheme, ...rising] of rowsOf("rising")) {
+    assert.deepEqual(sort([...rising].reverse(), { scheme }), rising);
+  }
+  for (const [scheme, before, one, other] of rowsOf("level")) {
+    assert.equal(newest([before, one, other], { scheme }), one);
+    assert.equal(newest([other, before, one], { scheme }), other);
+  }
+  for (const [scheme, text] of rowsOf("none")) refusesVersion(() => new Version(text, { scheme }), text, undefined, scheme);
+  for (const [scheme, text, version, has] of rowsOf("set")) {
+    const set = new VersionSet(text, { scheme });
+    assert.deepEqual([set.has(version), set.matches(version)], [has === "1", has === "1"], `${scheme} ${text} ${version}`);
+  }
+  for (const [scheme, text, place, why] of rowsOf("no-set")) {
+    refusesSet(() => new VersionSet(text, { scheme }), text, Number(place), why, scheme);
+  }
 });
 
 test("long texts", () => {

@@ -1,10 +1,23 @@
-// What the tests share. JAVASCRIPT is the folder of the package, as javascript/build makes it.
+// What the tests share. JAVASCRIPT is the folder of the package, as javascript/build makes it, and SCHEMES a file with the
+// rows that tests/support/schemes.py writes.
 import assert from "node:assert/strict";
+import { readFileSync } from "node:fs";
 import { pathToFileURL } from "node:url";
 
 export const folder = process.env.JAVASCRIPT;
 export const versions = await import(pathToFileURL(`${folder}/index.js`));
 const { InvalidRequirement, InvalidVersion, InvalidVersionSet } = versions;
+
+const signs = { "\\0": "\0", "\\n": "\n", "\\t": "\t" };
+const rows = readFileSync(process.env.SCHEMES, "utf8").trimEnd().split("\n")
+  .map((row) => row.split("\t").map((word) => word.replace(/\\[0nt]/g, (sign) => signs[sign])));
+
+/** The rows of the schemes of a kind, each by its words, the scheme first. */
+export function rowsOf(kind) {
+  const found = rows.filter(([its]) => its === kind).map(([, ...words]) => words);
+  assert.ok(found.length > 0, kind);
+  return found;
+}
 
 const ofScheme = (scheme) => (scheme === "mixed" ? "" : ` of ${scheme}`);
 

@@ -50,7 +50,7 @@ const inSet: boolean = satisfies("1", set);
 const wrong: { start: number; reason: string; scheme: Scheme } = new InvalidVersionSet("x", "deb");
 const bySchemes: [number, Uint8Array, string[], string | null] = [
   compare("1", "2", { scheme: "deb" }), sortKey("1", { scheme }), sort(["1"], { scheme: "rpm", invalid: "last" }),
-  newest(["1"], { scheme: "gem", requirement: "<2" }) ?? newest(["1"], { requirement: set, tags: true }),
+  newest(["1"], { scheme: "debian", requirement: "<2" }) ?? newest(["1"], { requirement: set, tags: true }),
 ];
 
 // @ts-expect-error: a number is no text.

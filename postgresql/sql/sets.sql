@@ -1,4 +1,5 @@
--- What a set has: the rows of docs/SETS.md and docs/SCHEMES.md, by functions of texts. No row is wrong.
+-- What a set has: rows of docs/SETS.md and docs/SCHEMES.md, by functions of texts. No row is wrong. Each scheme is
+-- tried on all of its rows by tests/postgresql of the repository.
 CREATE TEMP TABLE wanted (scheme text, s text, yes text[], no text[]);
 INSERT INTO wanted VALUES
   ('mixed', '>=1.2, <2', '{1.2,1.2.5,1.9.0-rc.1}', '{1.2rc1,2,2.0.0-rc.1}'),
@@ -11,12 +12,7 @@ INSERT INTO wanted VALUES
   ('mixed', '!=1.5, >=1', '{1.5.1,1}', '{1.5,0:1.5,1.5+x,0.9}'),
   ('mixed', '<1 || >=2 <3', '{0.9,2.5}', '{1,3}'),
   ('deb', '>=1.0, <2', '{1.0-1,2~rc1}', '{1.0~rc1,2-0}'),
-  ('deb', '<<2, >>1.0', '{1.0-1,2~rc1}', '{1.0,2}'),
-  ('rpm', '<=1.2', '{1.2,1.2~rc1-1}', '{1.2-3}'),
-  ('rpm', '<1.2^', '{1.2-3,1.2}', '{1.2^git1-1,1.2a}'),
-  ('pypi', '>=1.0, <2.0', '{1.0+a,2.0rc1}', '{1.0rc1,2}'),
-  ('semver', '>=1.0.0, <2.0.0', '{1.0.0+a,2.0.0-rc.1}', '{1.0.0-rc.1}'),
-  ('gem', '>=1.0, <2', '{1,2.0.rc1}', '{1.0.a,2.0}');
+  ('deb', '<<2, >>1.0', '{1.0-1,2~rc1}', '{1.0,2}');
 SELECT scheme, s, v FROM wanted, unnest(yes) v
   WHERE version_in_set(s, v, scheme) IS NOT TRUE OR version_in_set(version_set(s, scheme), v) IS NOT TRUE
     OR version_in_set(scheme || ':' || s, v) IS NOT TRUE;
@@ -29,20 +25,18 @@ SELECT s, v FROM wanted, unnest(yes || no) v
 SELECT sum(version_in_set('>=1.5', '1.' || n)::int), sum(version_in_set('>=1.' || n, '1.5')::int),
   sum(version_in_set('>=1.5~', '1.' || n, CASE WHEN n % 2 = 0 THEN 'deb' ELSE 'rpm' END)::int)
   FROM generate_series(1, 10) n;
--- NULL, what is no version, no set and no scheme.
+-- NULL, what is no version and no set.
 SELECT version_in_set(NULL, '1'), version_in_set('*', NULL), version_in_set('*', '1', NULL),
   version_in_set('*', 'x y'), version_in_set('*', '1_0', 'deb'), version_in_set(version_set('*', 'deb'), '1_0');
 SELECT version_in_set('>=1.2,', '1');
 SELECT version_in_set('~1.2', 'x y', 'deb');
-SELECT version_in_set('>=1', '1', 'maven');
 SELECT version_in_set('deb:>=1', '1', 'rpm');
 -- The type: it prints as it was written, with the scheme in front of that of another than mixed.
 SELECT version_set '>=1.2,  <2 || ^3', 'deb:>=1.2~'::version_set, version_set('>=1.2~', 'deb'),
-  version_set('>=1', 'mixed'), version_set('gem:>=1', 'gem');
-SELECT version_set_scheme(s), s FROM unnest('{>=1,"mixed:>=1",deb:>=1,semver:>=1.0.0}'::version_set[]) s;
+  version_set('>=1', 'mixed'), version_set('rpm:>=1', 'rpm');
+SELECT version_set_scheme(s), s FROM unnest('{>=1,"mixed:>=1",deb:>=1,Debian:>=1}'::version_set[]) s;
 SELECT version_set '>=1 | <2';
 SELECT version_set 'deb:~1.2';
-SELECT version_set 'maven:>=1';
 SELECT version_set '';
 SELECT version_set('deb:>=1', 'rpm');
 -- Sets are equal if they have the same keys of one scheme.

@@ -39,7 +39,7 @@ from lists import LongLists
 
 HERE = os.path.dirname(os.path.abspath(__file__))
 sys.path.insert(0, os.path.join(HERE, "..", "..", "tests", "support"))
-from schemes import OPERATORS, Process, system_of  # noqa: E402
+from schemes import OPERATORS, SCHEMES, SCHEME_OF, Process, system_of  # noqa: E402
 
 try:
     import pyarrow
@@ -321,7 +321,8 @@ class Systems(LongLists):
     COUNT = 2000  # rows and ranges of each system
     # Versions by which ranges of tools begin and end.
     NEAR = "1.2 1.2.3 1.3.0 1.3.0-0 2.0.0 2.0.0-0 0.3.0-0 1.4 1.4.dev0 1.5 1.5.dev0 1.5.post0 1.5+a 2 2.dev0 2rc1 2~"
-    SCHEMES = {"Debian": "deb", "Red Hat": "rpm", "PyPI": "pypi", "npm": "semver", "RubyGems": "gem"}
+    NAMES = ("Debian", "Red Hat", "PyPI", "npm", "RubyGems")
+    SCHEMES = {name: SCHEME_OF[name.lower().replace(" ", "")] for name in NAMES}
 
     @classmethod
     def setUpClass(cls):
@@ -392,7 +393,7 @@ class Systems(LongLists):
         self.assertLess(time.process_time() - begun, 5)
 
     def test_what_is_wrong(self):
-        self.assertRaises(KeyError, lambda: list(self.is_vulnerable([], [("CPAN", "a", "=1")])))
+        self.assertRaisesRegex(ValueError, "'CPAN'", lambda: list(self.is_vulnerable([], [("CPAN", "a", "=1")])))
         self.assertRaises(versions.InvalidVersionSet, lambda: list(self.is_vulnerable([], [("npm", "a", "^1.2.3")])))
         rows = [("CPAN", "a", "1"), ("npm", "b", "x"), ("npm", "a", "x")]
         self.assertEqual(list(self.is_vulnerable(rows, [("npm", "a", "*")])), [False, False, None])
@@ -445,14 +446,7 @@ class Systems(LongLists):
 
 
 # Five versions of each scheme, in increasing order: the problems below name them by their places.
-CHAINS = {
-    "mixed": "1.2rc1 1.2 1.2.5 1.10 2",
-    "deb": "1.0~rc1 1.0 1.0a 1.9 1.10",
-    "rpm": "1.0~rc1 1.0 1.0^git1 1.0a 1.0.1",
-    "pypi": "1.0.dev1 1.0rc1 1.0 1.9 1.10",
-    "semver": "1.0.0-alpha 1.0.0-beta 1.0.0 1.9.0 1.10.0",
-    "gem": "1.0.a 1.0.b1 1.0 1.9 1.10",
-}
+CHAINS = {name: scheme.rising for name, scheme in SCHEMES.items()}
 # What packages there are, what is asked for, what is chosen, and what is said.
 PROBLEMS = (
     # The highest.

@@ -3,10 +3,8 @@
 import copy
 import inspect
 import itertools
-import os
 import pickle
 import random
-import re
 import struct
 import unittest
 from typing import get_args
@@ -15,9 +13,8 @@ import arrow
 import versions
 from counted import of_library
 from lists import LongLists
+from rows import rows_of
 from versions import InvalidVersion, InvalidVersionSet, Requirement, SCHEMES, Version, VersionSet
-
-PAGE = os.path.join(os.path.dirname(os.path.abspath(__file__)), "..", "..", "docs", "SCHEMES.md")
 
 # In increasing order by Debian Policy, 5.6.12. Those of one line are equal.
 DEB = [line.split() for line in """
@@ -39,36 +36,8 @@ RANKS = {text: rank for rank, tied in enumerate(DEB) for text in tied}
 # No versions by the same, and what is no text of Unicode.
 NO_DEB = ["a1", "1-", "a:1", "", "1_0", "1 0", "1\0", "1.é", "\ud800", "1.0\udcff"]
 
-# Texts that are no versions, how far each could become one, and what keeps it from it.
-OTHER = "a character that can't stand there"
-WRONG = (
-    ("mixed", "", 0, "nothing"),
-    ("mixed", "1.2.3-", 6, "nothing after the hyphen"),
-    ("mixed", "1.2.3+", 6, "nothing after the plus"),
-    ("mixed", "1.", 2, "nothing after the dot"),
-    ("mixed", "1:", 2, "nothing after the colon"),
-    ("mixed", "1_", 2, "nothing after the underscore"),
-    ("mixed", "1~", 2, "nothing after the tilde"),
-    ("pypi", "1!", 2, "nothing after the exclamation mark"),
-    ("semver", "1.2", 3, "an end too early"),
-    ("pypi", "\u2003v", 0, "a character past ASCII"),
-    ("mixed", "1.2.3 ", 5, "a blank"),
-    ("mixed", "1\t", 1, "a blank"),
-    ("mixed", "1\0", 1, "a control character"),
-    ("mixed", "1\x7f", 1, "a control character"),
-    ("mixed", "1.2é", 3, "a character past ASCII"),
-    ("deb", "1.0\U0001f600", 3, "a character past ASCII"),
-    ("rpm", "1\ud800", 1, "a character past ASCII"),
-    ("mixed", "1..2", 2, "an empty part"),
-    ("gem", "1..0é", 2, "an empty part"),
-    ("semver", "01.0.0", 1, "a number with a leading zero"),
-    ("mixed", "1.2.3-a_!", 8, OTHER),
-    ("deb", "1:", 2, "nothing after the colon"),
-    ("deb", "1_0", 1, OTHER),
-    ("rpm", "1-2-3", 3, OTHER),
-    ("pypi", "1.0x", 3, OTHER),
-    ("gem", " ", 1, "an end too early"),
-)
+# A text of Python may have half a pair of surrogates, which is no character of ASCII.
+SURROGATES = [(scheme, f"{half}1", 0, "a character past ASCII") for scheme in SCHEMES for half in ("\ud800", "\udcff")]
 
 TWO = "versions of {} are wanted, and this is of {}"
 NO_PARTS = "versions of deb have no kind, parts, fields or stability"
@@ -134,11 +103,8 @@ class Names(unittest.TestCase):
             self.assertEqual(call(), call(scheme="mixed"), name)
 
     def test_the_names_of_people(self):
-        # Each scheme of the page, and what else it is called there.
-        with open(PAGE, encoding="utf-8") as page:
-            table = page.read().split("| scheme | also called |")[1].split("\n\n")[0]
-        rows = re.findall(r"^\| `(\w+)` \| ([^|]*)\|", table, re.M)
-        known = {scheme: [scheme, *re.findall("`(.*?)`", cell)] for scheme, cell in rows}
+        # Each scheme, and what else it is called.
+        known = {scheme: [scheme, *others] for scheme, _, *others in rows_of("scheme")}
         self.assertEqual((tuple(known), get_args(versions.Scheme)), (SCHEMES, SCHEMES))
         self.assertGreater(sum(map(len, known.values())), 18)
         self.assertEqual(set(get_args(versions.SchemeName)), {name for names in known.values() for name in names})
@@ -206,6 +172,26 @@ class Calls(LongLists):
             found = versions.sort_keys(given, scheme="deb")
             self.assertEqual(found, [*keys.values(), *nothing, *keys.values()])
         self.assertEqual(versions.sort_keys([], scheme="deb"), [])
+
+    def test_rows_of_each_scheme(self):
+        for scheme, *words in rows_of("chain"):
+            for a, sign, b in zip(words[::2], words[1::2], words[2::2]):
+                order = -1 if sign == "<" else 0
+                with self.subTest(scheme, a=a, b=b):
+                    found = versions.compare(a, b, scheme=scheme), versions.compare(b, a, scheme=scheme)
+                    self.assertEqual(found, (order, -order))
+                    one, other = (Version(text, scheme=scheme) for text in (a, b))
+                    self.assertEqual((one < other, one.key < other.key, one == other), (order < 0, order < 0, order == 0))
+        for scheme, *rising in rows_of("rising"):
+            self.assertEqual(versions.sorted(rising[::-1], scheme=scheme), rising)
+        for scheme, text in rows_of("none"):
+            self.assertRaises(InvalidVersion, Version, text, scheme=scheme)
+        for scheme, text, version, has in rows_of("set"):
+            self.assertIs(version in VersionSet(text, scheme=scheme), has == "1", (scheme, text, version))
+        for scheme, text, place, why in rows_of("no-set"):
+            with self.subTest(scheme, text=text), self.assertRaises(InvalidVersionSet) as raised:
+                VersionSet(text, scheme=scheme)
+            self.assertEqual((raised.exception.start, raised.exception.reason), (int(place), why))
 
     def test_mixed_is_another_order(self):
         self.assertEqual([versions.compare("1.0", "1.0-0", scheme=name) for name in ("mixed", "deb")], [-1, 0])
@@ -303,12 +289,8 @@ class Calls(LongLists):
         self.assertEqual(newest(texts, None, None, False), "1.10")
 
     def test_newest_of_rows(self):
-        # Of each scheme one version, and two after it that tie, by docs/SCHEMES.md.
-        tied = {"mixed": "1.0rc1 1.0 0:1.0", "deb": "1.0~rc1 1.0 1.0-0", "rpm": "1.0~rc1 1.0 0:1.0",
-                "pypi": "1.0rc1 1.0 1.0.0", "semver": "1.0.0-rc.1 1.0.0 1.0.0+a", "gem": "1.0.rc1 1.0 1.0.0"}
-        self.assertEqual(set(tied), set(SCHEMES))
-        for scheme, texts in tied.items():
-            before, *level = texts.split()
+        self.assertEqual({scheme for scheme, *_ in rows_of("level")}, set(SCHEMES))
+        for scheme, before, *level in rows_of("level"):
             rows = [(text,) for text in (before, *level, "", "1 0", None, float("nan"))]
             for order in itertools.permutations(rows[:5]):
                 found = versions.newest((*order, *rows[5:]), key=lambda row: row[0], scheme=scheme)
@@ -652,7 +634,8 @@ class Errors(unittest.TestCase):
         self.assertRaises(TypeError, versions.InvalidRequirement, "x", "deb")
 
     def test_why_a_text_is_no_version(self):
-        for scheme, text, place, reason in WRONG:
+        for scheme, text, place, reason in (*rows_of("flaw"), *SURROGATES):
+            place = int(place)
             with self.subTest(scheme=scheme, text=ascii(text)), self.assertRaises(InvalidVersion) as raised:
                 Version(text, scheme=scheme)
             error = raised.exception

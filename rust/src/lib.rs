@@ -64,13 +64,18 @@ use std::cmp::Ordering;
 #[doc = include_str!("../README.md")]
 struct Readme;
 
+#[macro_use]
+#[rustfmt::skip]
+mod each_scheme;
+
 mod bytes;
+#[allow(unsafe_code)]
+#[rustfmt::skip]
 mod declarations;
 mod difference;
 mod error;
 mod key;
 mod kind;
-#[allow(unsafe_code)]
 mod library;
 mod many;
 mod mismatch;

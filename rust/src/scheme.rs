@@ -1,7 +1,7 @@
 //! Schemes as types, by which versions, keys and sets of two schemes are of two types.
 //!
-//! [`Mixed`], [`Deb`], [`Rpm`], [`Pypi`], [`Semver`] and [`Gem`] are each a scheme that a program
-//! names: a [`VersionOf<Deb>`](crate::VersionOf) compares with no other version, and a
+//! [`Mixed`], [`Deb`] and the others are each a scheme that a program names: a
+//! [`VersionOf<Deb>`](crate::VersionOf) compares with no other version, and a
 //! [`VersionSet<Deb>`](crate::VersionSet) with no other set. What is of [`Scheme`] itself has a
 //! scheme that is known at run time, and a call on two returns a `Result`.
 //!
@@ -26,63 +26,79 @@ use std::fmt;
 use std::hash::Hash;
 use std::str::FromStr;
 
+use crate::declarations;
 use crate::library::{schemes, Texts};
 use crate::many::permute;
 use crate::{InvalidName, InvalidVersion, Key, SortKeys, VersionOf, Versioning};
 
-/// Which texts are versions, and how they compare: this crate's own order, or that of another system.
-///
-/// Its calls read texts. Versions that are kept are [`VersionOf`]s.
-///
-/// ```
-/// use proved_versions::Scheme;
-///
-/// let scheme: Scheme = "deb".parse()?;
-/// let mut texts = ["1.0a", "1.0", "1.0~rc1"];
-/// scheme.sort(&mut texts);
-/// assert_eq!(texts, ["1.0~rc1", "1.0", "1.0a"]);
-/// assert_eq!(scheme.to_string(), "deb");
-/// # Ok::<(), proved_versions::InvalidName>(())
-/// ```
-#[derive(Clone, Copy, Debug, PartialEq, Eq, PartialOrd, Ord, Hash)]
-pub enum Scheme {
-    /// `mixed`: every version, in the one order of [`compare`](crate::compare).
-    Mixed,
-    /// `deb`: Debian's versions (Debian Policy, 5.6.12).
-    Deb,
-    /// `rpm`: RPM's versions (rpm-version(7)).
-    Rpm,
-    /// `pypi`: Python's versions (PEP 440).
-    Pypi,
-    /// `semver`: SemVer 2.0.0 in full.
-    Semver,
-    /// `gem`: RubyGems' versions (`Gem::Version`).
-    Gem,
+macro_rules! declare {
+    ($($type:ident $number:ident $name:literal $what:literal)*) => {
+        /// Which texts are versions, and how they compare: this crate's own order, or that of another
+        /// system.
+        ///
+        /// Its calls read texts. Versions that are kept are [`VersionOf`]s.
+        ///
+        /// ```
+        /// use proved_versions::Scheme;
+        ///
+        /// let scheme: Scheme = "deb".parse()?;
+        /// let mut texts = ["1.0a", "1.0", "1.0~rc1"];
+        /// scheme.sort(&mut texts);
+        /// assert_eq!(texts, ["1.0~rc1", "1.0", "1.0a"]);
+        /// assert_eq!(scheme.to_string(), "deb");
+        /// # Ok::<(), proved_versions::InvalidName>(())
+        /// ```
+        #[derive(Clone, Copy, Debug, PartialEq, Eq, PartialOrd, Ord, Hash)]
+        pub enum Scheme {
+            $(#[doc = $what] $type,)*
+        }
+
+        impl Scheme {
+            /// All schemes.
+            ///
+            /// ```
+            /// use proved_versions::Scheme;
+            ///
+            /// let found = Scheme::ALL.iter().filter(|scheme| scheme.is_version("1.0^git1"));
+            /// assert!(found.eq(&[Scheme::Rpm]));
+            /// ```
+            pub const ALL: &'static [Scheme] = &[$(Scheme::$type),*];
+            const NAMES: &'static [&'static str] = &[$($name),*];
+
+            pub(crate) fn name(self) -> &'static str {
+                match self {
+                    $(Scheme::$type => $name,)*
+                }
+            }
+
+            /// The number that the library knows it by.
+            pub(crate) fn number(self) -> u32 {
+                match self {
+                    $(Scheme::$type => declarations::$number,)*
+                }
+            }
+        }
+
+        $(
+            #[doc = concat!("[`Scheme::", stringify!($type), "`] as a type.")]
+            #[derive(Clone, Copy, Debug, Default, PartialEq, Eq, PartialOrd, Ord, Hash)]
+            pub struct $type;
+
+            impl sealed::AnyScheme for $type {}
+
+            impl AnyScheme for $type {
+                fn scheme(self) -> Scheme {
+                    Scheme::$type
+                }
+            }
+
+            impl FixedScheme for $type {}
+        )*
+    };
 }
+each_scheme!(declare);
 
 impl Scheme {
-    /// All schemes.
-    ///
-    /// ```
-    /// use proved_versions::Scheme;
-    ///
-    /// let found = Scheme::ALL.iter().filter(|scheme| scheme.is_version("1.0~rc1"));
-    /// assert!(found.eq(&[Scheme::Mixed, Scheme::Deb, Scheme::Rpm]));
-    /// ```
-    pub const ALL: &'static [Scheme] = &[
-        Scheme::Mixed,
-        Scheme::Deb,
-        Scheme::Rpm,
-        Scheme::Pypi,
-        Scheme::Semver,
-        Scheme::Gem,
-    ];
-    const NAMES: [&'static str; 6] = ["mixed", "deb", "rpm", "pypi", "semver", "gem"];
-
-    pub(crate) fn name(self) -> &'static str {
-        Scheme::NAMES[self as usize]
-    }
-
     /// Returns whether a text is a version. Allocates nothing.
     ///
     /// ```
@@ -143,7 +159,7 @@ impl Scheme {
     /// ```
     /// use proved_versions::Scheme;
     ///
-    /// let keys = Scheme::Gem.sort_keys(&["1.0", "v1", "1.0.a"]);
+    /// let keys = Scheme::Rpm.sort_keys(&["1.0", "1/0", "1.0~a"]);
     /// assert!(keys.get(2) < keys.get(0));
     /// assert_eq!(keys.get(1), None);
     /// ```
@@ -199,14 +215,13 @@ impl fmt::Display for Scheme {
 /// assert_eq!("pypi".parse(), Ok(Scheme::Pypi));
 /// assert_eq!("Debian".parse(), Ok(Scheme::Deb));
 /// let error = "maven".parse::<Scheme>().unwrap_err();
-/// let said = r#"not one of mixed, deb, rpm, pypi, semver, gem: "maven""#;
-/// assert_eq!(error.to_string(), said);
+/// assert!(error.to_string().starts_with("not one of mixed, deb, rpm, "));
 /// ```
 impl FromStr for Scheme {
     type Err = InvalidName;
 
     fn from_str(name: &str) -> Result<Scheme, InvalidName> {
-        schemes::named(name).ok_or_else(|| InvalidName::new(&Scheme::NAMES, name))
+        schemes::named(name).ok_or_else(|| InvalidName::new(Scheme::NAMES, name))
     }
 }
 
@@ -244,26 +259,6 @@ impl AnyScheme for Scheme {
         self
     }
 }
-
-macro_rules! fixed {
-    ($($name:ident)*) => {$(
-        #[doc = concat!("[`Scheme::", stringify!($name), "`] as a type.")]
-        #[derive(Clone, Copy, Debug, Default, PartialEq, Eq, PartialOrd, Ord, Hash)]
-        pub struct $name;
-
-        impl sealed::AnyScheme for $name {}
-
-        impl AnyScheme for $name {
-            fn scheme(self) -> Scheme {
-                Scheme::$name
-            }
-        }
-
-        impl FixedScheme for $name {}
-    )*};
-}
-
-fixed!(Mixed Deb Rpm Pypi Semver Gem);
 
 pub(crate) mod sealed {
     use super::Mixed;

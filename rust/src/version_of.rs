@@ -75,8 +75,8 @@ impl<'a, S: AnyScheme> VersionOf<'a, S> {
     ///
     /// assert!(VersionOf::new("1.0.0-rc.1", Semver).is_ok());
     /// assert_eq!(VersionOf::new("1.0", Semver).unwrap_err().scheme(), Scheme::Semver);
-    /// let scheme: Scheme = "gem".parse()?;
-    /// assert_eq!(VersionOf::new("1.0.a", scheme)?.scheme(), Scheme::Gem);
+    /// let scheme: Scheme = "rpm".parse()?;
+    /// assert_eq!(VersionOf::new("1.0^git1", scheme)?.scheme(), Scheme::Rpm);
     /// # Ok::<(), Box<dyn std::error::Error>>(())
     /// ```
     pub fn new(text: impl Text<'a>, scheme: S) -> Result<Self, InvalidVersion> {

@@ -408,11 +408,11 @@ impl<S: FixedScheme> VersionSet<S> {
     /// also a [`Versioning`](crate::Versioning). Allocates nothing.
     ///
     /// ```
-    /// use proved_versions::scheme::Gem;
+    /// use proved_versions::scheme::Rpm;
     /// use proved_versions::{VersionOf, VersionSet};
     ///
-    /// let set: VersionSet<Gem> = "<1.0".parse().unwrap();
-    /// let versions = ["1.0.rc1", "1.0"].map(|text| VersionOf::new(text, Gem).unwrap());
+    /// let set: VersionSet<Rpm> = "<1.0".parse().unwrap();
+    /// let versions = ["1.0~rc1", "1.0"].map(|text| VersionOf::new(text, Rpm).unwrap());
     /// assert_eq!(versions.map(|version| set.contains(&version)), [true, false]);
     /// ```
     pub fn contains(&self, version: &impl OfScheme<S>) -> bool {
@@ -457,10 +457,10 @@ impl<S: FixedScheme> VersionSet<S> {
 /// assert_eq!((a.try_is_disjoint(&b), a.try_subset_of(&b)), (Ok(false), Ok(false)));
 /// assert_eq!(a.try_contains(&VersionOf::new("2~rc1", Scheme::Deb).unwrap()), Ok(true));
 ///
-/// let other = VersionSet::new_in("*", Scheme::Gem).unwrap();
+/// let other = VersionSet::new_in("*", Scheme::Rpm).unwrap();
 /// assert!(a.try_intersection(&other).is_err() && a.try_union(&other).is_err());
 /// assert!(a.try_is_disjoint(&other).is_err() && a.try_subset_of(&other).is_err());
-/// assert!(a.try_contains(&VersionOf::new("2", Scheme::Gem).unwrap()).is_err());
+/// assert!(a.try_contains(&VersionOf::new("2", Scheme::Rpm).unwrap()).is_err());
 /// ```
 impl VersionSet<Scheme> {
     /// As [`intersection`](VersionSet::intersection).

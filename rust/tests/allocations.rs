@@ -11,11 +11,14 @@ use std::collections::hash_map::DefaultHasher;
 use std::hash::{Hash, Hasher};
 use std::mem::size_of;
 
-use proved_versions::scheme::{Deb, Gem, Mixed};
+use proved_versions::scheme::{Deb, Mixed};
 use proved_versions::{
     compare, compare_total, in_tags, kind, kinds, match_all, newest, order, sort, sort_key,
     sort_keys, stabilities, Key, Requirement, Scheme, Stability, VersionOf, VersionSet, Versioning,
 };
+use support::rows_of;
+
+mod support;
 
 thread_local! {
     /// How many allocations and reallocations this thread has made.
@@ -255,14 +258,25 @@ fn versions_of_schemes() {
         let long = format!("1.{}", "2".repeat(100_000));
         assert_eq!(
             of(|| scheme.compare(&long, a)).0,
-            usize::from(scheme == Scheme::Semver)
+            usize::from(!scheme.is_version(&long))
         );
     }
-    // The most bytes of a key are 2n + 7 in deb, 5n in gem, and 128 are on the stack.
-    let text = "1".repeat(25);
-    assert_eq!(of(|| VersionOf::new(&text, Gem)), (0, 0));
-    let text = "1".repeat(26);
-    assert_eq!(of(|| VersionOf::new(&text, Gem)), (1, 130));
+    // Where the most bytes of a key are more than the 128 on the stack, they are allocated.
+    for (scheme, most) in rows_of("key") {
+        let [factor, summand] = [0, 1].map(|place: usize| most[place].parse::<usize>().unwrap());
+        let long_as = |length: usize| format!("{}.0.0", "1".repeat(length - 4));
+        let length = (128 - summand) / factor;
+        let (short, long) = (long_as(length), long_as(length + 1));
+        let (count, size) = of(|| VersionOf::new(&short, scheme));
+        assert!(count <= 1 && size < factor * length + summand, "{scheme}");
+        let size = factor * (length + 1) + summand;
+        // A key of more than 38 bytes is then kept in memory of its own length.
+        let wanted = match scheme.sort_key(&long).unwrap().as_bytes().len() {
+            kept @ 39.. => (2, size + kept),
+            _ => (1, size),
+        };
+        assert_eq!(of(|| VersionOf::new(&long, scheme)), wanted, "{scheme}");
+    }
     let short = of(|| {
         VersionOf::new(
             "1.0+aaaaaaaaaaaaaaaaaaaaaaaaaaaaaaaaaaaaaaaaaaaaaaaaaaaaaaaa",

@@ -10,8 +10,13 @@ use std::fmt::Display;
 use std::fs;
 use std::path::Path;
 
-use proved_versions::scheme::{Deb, FixedScheme, Gem, Mixed, Pypi, Rpm, Semver};
+use proved_versions::scheme::{self, FixedScheme};
 use proved_versions::{Scheme, SortKeys, VersionOf, VersionSet, Versioning};
+
+#[path = "../src/each_scheme.rs"]
+#[macro_use]
+#[rustfmt::skip]
+mod each_scheme;
 
 fn text_of(digits: &str) -> String {
     let byte = |n| u8::from_str_radix(&digits[n..n + 2], 16).unwrap();
@@ -175,14 +180,14 @@ fn answer() {
     for line in asked.lines() {
         let words: Vec<&str> = line.split('\t').collect();
         let texts: Vec<String> = words[2..].iter().map(|word| text_of(word)).collect();
-        let said = match words[1].parse().unwrap() {
-            Scheme::Mixed => answers(Mixed, words[0], &texts),
-            Scheme::Deb => answers(Deb, words[0], &texts),
-            Scheme::Rpm => answers(Rpm, words[0], &texts),
-            Scheme::Pypi => answers(Pypi, words[0], &texts),
-            Scheme::Semver => answers(Semver, words[0], &texts),
-            Scheme::Gem => answers(Gem, words[0], &texts),
-        };
+        macro_rules! said {
+            ($($type:ident $number:ident $name:literal $what:literal)*) => {
+                match words[1].parse().unwrap() {
+                    $(Scheme::$type => answers(scheme::$type, words[0], &texts),)*
+                }
+            };
+        }
+        let said = each_scheme!(said);
         answered += &said.join("\t");
         answered.push('\n');
     }

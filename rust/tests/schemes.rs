@@ -1,4 +1,4 @@
-//! Schemes, and their versions and keys, by docs/SCHEMES.md.
+//! Schemes, and their versions and keys, by docs/SCHEMES.md and the rows of tests/support/schemes.py.
 
 use std::cmp::Ordering;
 use std::collections::hash_map::DefaultHasher;
@@ -7,102 +7,18 @@ use std::error::Error;
 use std::fmt::Debug;
 use std::hash::{Hash, Hasher};
 
-use proved_versions::scheme::{AnyScheme, Deb, FixedScheme, Gem, Mixed, Pypi, Rpm, Semver};
+use proved_versions::scheme::{self, AnyScheme, Deb, FixedScheme, Mixed};
 use proved_versions::{
     compare, order, sort_key, sort_keys, InvalidVersion, Key, OtherScheme, Scheme, VersionOf,
     Versioning,
 };
+use support::{chains, no_versions, rows_of};
 
-const NAMES: [&str; 6] = ["mixed", "deb", "rpm", "pypi", "semver", "gem"];
-
-// Of each scheme versions in their order, those that compare equal in one row.
-const CHAINS: [(Scheme, &[&[&str]]); 6] = [
-    (
-        Scheme::Mixed,
-        &[&["1.9"], &["1.10rc1"], &["1.10", "0:1.10", "01.10"]],
-    ),
-    (
-        Scheme::Deb,
-        &[
-            &["1.0~rc1"],
-            &["1.0", "1.0-0", "1."],
-            &["1.0-1"],
-            &["1.0a"],
-            &["1.0+b"],
-            &["1.0.1"],
-            &["1.9"],
-            &["1.10", "1.010"],
-            &["9"],
-            &["1:0"],
-        ],
-    ),
-    (
-        Scheme::Rpm,
-        &[
-            &["1.0~rc1"],
-            &["1.0"],
-            &["1.0-0"],
-            &["1.0-1"],
-            &["1.0^git1"],
-            &["1.0a", "1.0.a", "1.0_a"],
-            &["1.0.1"],
-        ],
-    ),
-    (
-        Scheme::Pypi,
-        &[
-            &["1.0.dev1"],
-            &["1.0a1"],
-            &["1.0rc1", "1.0c1", "1.0-pre.1"],
-            &["1", "1.0", "v1.0.0"],
-            &["1.0+a"],
-            &["1.0+1"],
-            &["1.0.post1"],
-        ],
-    ),
-    (
-        Scheme::Semver,
-        &[
-            &["1.0.0-alpha"],
-            &["1.0.0-alpha.1"],
-            &["1.0.0-beta"],
-            &["1.0.0-rc10"],
-            &["1.0.0-rc2"],
-            &["1.0.0", "1.0.0+a", "1.0.0+b"],
-        ],
-    ),
-    (
-        Scheme::Gem,
-        &[
-            &["1.0.a"],
-            &["1.0-1", "1.0.pre.1"],
-            &["1", "1.0", "1.00"],
-            &["1.0.1"],
-        ],
-    ),
-];
-
-// Texts that are no versions of a scheme, though most are versions of another.
-const OTHERS: [(Scheme, &[&str]); 6] = [
-    (Scheme::Mixed, &["", "1..2", "1.0^git1", "1\0", "é"]),
-    (
-        Scheme::Deb,
-        &["", "a1", "a:1", "1:", "1.0-", "1_0", "1.0:1", " 1.0", "1\0"],
-    ),
-    (
-        Scheme::Rpm,
-        &["", "1-", "1-2-3", "a:1", "1/0", "1%0", "1é", "1\0"],
-    ),
-    (
-        Scheme::Pypi,
-        &["", "1.0x", "1..0", "1.0+", "1.0.poſt1", "1.0\0"],
-    ),
-    (
-        Scheme::Semver,
-        &["", "1.0", "01.0.0", "1.0.0-01", "v1.0.0", "1.0.0-é"],
-    ),
-    (Scheme::Gem, &["", " ", "a", "1..0", "v1", "1\0"]),
-];
+#[path = "../src/each_scheme.rs"]
+#[macro_use]
+#[rustfmt::skip]
+mod each_scheme;
+mod support;
 
 fn any(text: &str, scheme: Scheme) -> VersionOf<'_, Scheme> {
     VersionOf::new(text, scheme).unwrap()
@@ -115,38 +31,31 @@ fn hash(value: &impl Hash) -> u64 {
 }
 
 /// The versions of a chain, each with its place in the order.
-fn ranked(chain: &[&[&'static str]]) -> Vec<(usize, &'static str)> {
+fn ranked(chain: &[Vec<String>]) -> Vec<(usize, &str)> {
     let rows = chain.iter().enumerate();
-    rows.flat_map(|(place, row)| row.iter().map(move |text| (place, *text)))
+    rows.flat_map(|(place, row)| row.iter().map(move |text| (place, text.as_str())))
         .collect()
 }
 
 #[test]
 fn names() {
-    assert_eq!(Scheme::ALL.len(), NAMES.len());
-    for (scheme, name) in Scheme::ALL.iter().zip(NAMES) {
-        assert_eq!(scheme.to_string(), name);
+    let rows = rows_of("scheme");
+    let names: Vec<String> = rows.iter().map(|(scheme, _)| scheme.to_string()).collect();
+    let all: Vec<Scheme> = rows.iter().map(|(scheme, _)| *scheme).collect();
+    assert_eq!(all, Scheme::ALL);
+    for (scheme, words) in &rows {
+        let name = scheme.to_string();
         assert_eq!(format!("{scheme:>7}|"), format!("{name:>7}|"));
-        assert_eq!(name.parse(), Ok(*scheme));
         assert_eq!(scheme.scheme(), *scheme);
-    }
-    // As people call the systems, in any case. What is read shows the name of the scheme.
-    let known: [&[&str]; 6] = [
-        &["Mixed", "MIXED"],
-        &["DEB", "debian", "Debian", "ubuntu"],
-        &["Rpm", "redhat", "fedora", "suse", "SUSE"],
-        &["PyPI", "python", "pip", "pep440", "PEP440"],
-        &["SemVer", "npm", "cargo", "crates.io", "NPM"],
-        &["GEM", "rubygems", "ruby", "RubyGems"],
-    ];
-    for (scheme, names) in Scheme::ALL.iter().zip(known) {
-        for name in names {
-            assert_eq!(name.parse(), Ok(*scheme), "{name}");
+        // The number, and then what people call the systems, in any case.
+        for known in words[1..].iter().chain([&name]) {
+            assert_eq!(known.parse(), Ok(*scheme), "{known}");
+            assert_eq!(known.to_uppercase().parse(), Ok(*scheme), "{known}");
         }
     }
     for text in ["", "debia", "de", "deb\0", " deb", "maven", "é", "deb,rpm"] {
         let error = text.parse::<Scheme>().unwrap_err();
-        let said = format!("not one of {}: {text:?}", NAMES.join(", "));
+        let said = format!("not one of {}: {text:?}", names.join(", "));
         assert_eq!((error.text(), error.to_string()), (text, said));
     }
     assert_eq!(HashSet::from([Scheme::Deb, Scheme::Deb]).len(), 1);
@@ -154,22 +63,22 @@ fn names() {
 
 #[test]
 fn types_are_their_schemes() {
-    let of_types = [
-        Mixed.scheme(),
-        Deb.scheme(),
-        Rpm.scheme(),
-        Pypi.scheme(),
-        Semver.scheme(),
-        Gem.scheme(),
-    ];
-    assert_eq!(of_types, *Scheme::ALL);
+    macro_rules! check {
+        ($($type:ident $number:ident $name:literal $what:literal)*) => {
+            assert_eq!([$(scheme::$type.scheme()),*], *Scheme::ALL);
+            let names = [$($name),*];
+            let rows = rows_of("scheme");
+            assert!(rows.iter().map(|(scheme, _)| scheme.to_string()).eq(names));
+        };
+    }
+    each_scheme!(check);
     assert_eq!(format!("{:?} {:?}", Deb, Scheme::Deb), "Deb Deb");
 }
 
 #[test]
 fn orders_of_the_page() {
-    for (scheme, chain) in CHAINS {
-        let ranked = ranked(chain);
+    for (scheme, chain) in chains() {
+        let ranked = ranked(&chain);
         for (place, a) in &ranked {
             assert!(scheme.is_version(a), "{scheme} {a}");
             for (other, b) in &ranked {
@@ -237,41 +146,58 @@ fn mixed_is_the_order_of_calls_without_a_scheme() {
 
 #[test]
 fn what_is_not_a_version_is_an_error_with_the_text_and_the_scheme() {
-    for (scheme, texts) in OTHERS {
-        for text in texts.iter().copied() {
-            assert!(!scheme.is_version(text), "{scheme} {text:?}");
-            let good = CHAINS.iter().find(|(of, _)| *of == scheme).unwrap().1[0][0];
-            for error in [
-                scheme.compare(text, good).unwrap_err(),
-                scheme.compare(good, text).unwrap_err(),
-                scheme.compare(text, "\0other").unwrap_err(),
-                scheme.sort_key(text).unwrap_err(),
-                VersionOf::new(text, scheme).unwrap_err(),
-                VersionOf::new(text.to_string(), scheme).unwrap_err(),
-            ] {
-                assert_eq!((error.text(), error.scheme()), (text, scheme));
-                let of = match scheme {
-                    Scheme::Mixed => String::new(),
-                    scheme => format!(" of {scheme}"),
-                };
-                let (place, reason) = (error.place().unwrap(), error.reason().unwrap());
-                let said = format!("not a version{of}: {text:?}; at byte {place}: {reason}");
-                assert_eq!(error.to_string(), said);
-                assert!(error.source().is_none());
-                assert_eq!(error.into_text(), text);
-            }
-            assert_eq!(scheme.sort_keys(&[text, good]).get(0), None);
-            assert_eq!(scheme.order(&[text, good, text]), [1, 0, 2]);
+    for (scheme, text, good) in no_versions() {
+        let (text, good) = (text.as_str(), good.as_str());
+        assert!(!scheme.is_version(text), "{scheme} {text:?}");
+        for error in [
+            scheme.compare(text, good).unwrap_err(),
+            scheme.compare(good, text).unwrap_err(),
+            scheme.compare(text, "\0other").unwrap_err(),
+            scheme.sort_key(text).unwrap_err(),
+            VersionOf::new(text, scheme).unwrap_err(),
+            VersionOf::new(text.to_string(), scheme).unwrap_err(),
+        ] {
+            assert_eq!((error.text(), error.scheme()), (text, scheme));
+            let of = match scheme {
+                Scheme::Mixed => String::new(),
+                scheme => format!(" of {scheme}"),
+            };
+            let (place, reason) = (error.place().unwrap(), error.reason().unwrap());
+            let said = format!("not a version{of}: {text:?}; at byte {place}: {reason}");
+            assert_eq!(error.to_string(), said);
+            assert!(error.source().is_none());
+            assert_eq!(error.into_text(), text);
         }
+        assert_eq!(scheme.sort_keys(&[text, good]).get(0), None);
+        assert_eq!(scheme.order(&[text, good, text]), [1, 0, 2]);
     }
     assert_ne!(
-        Scheme::Deb.sort_key("1_").err(),
-        Scheme::Gem.sort_key("1_").err()
+        Scheme::Deb.sort_key("1/").err(),
+        Scheme::Rpm.sort_key("1/").err()
     );
 }
 
 /// What every version of a scheme that the program names has.
-fn values<S: FixedScheme>(scheme: S, chain: &[&[&'static str]], others: &[&str]) {
+fn values<S: FixedScheme>(scheme: S) {
+    for (_, chain) in chains().iter().filter(|(of, _)| *of == scheme.scheme()) {
+        values_of_chain(scheme, chain);
+    }
+    let others = no_versions().into_iter();
+    for (_, text, good) in others.filter(|(of, ..)| *of == scheme.scheme()) {
+        let (text, good) = (text.as_str(), VersionOf::new(good, scheme).unwrap());
+        assert_eq!((good == text, text == good), (false, false));
+        let errors: [InvalidVersion; 3] = [
+            text.parse::<VersionOf<S>>().unwrap_err(),
+            VersionOf::<S>::try_from(text).unwrap_err(),
+            VersionOf::<S>::try_from(text.to_string()).unwrap_err(),
+        ];
+        for error in errors {
+            assert_eq!((error.text(), error.scheme()), (text, scheme.scheme()));
+        }
+    }
+}
+
+fn values_of_chain<S: FixedScheme>(scheme: S, chain: &[Vec<String>]) {
     let version = |text| VersionOf::new(text, scheme).unwrap();
     let ranked = ranked(chain);
     for (place, a) in ranked.iter().copied() {
@@ -320,39 +246,18 @@ fn values<S: FixedScheme>(scheme: S, chain: &[&[&'static str]], others: &[&str])
         .map(|(_, text)| (version(text).into(), *text))
         .collect();
     assert!(map.values().eq(chain.iter().map(|row| &row[0])));
-    assert_eq!(map.get(version(chain[1][0]).sort_key()), Some(&chain[1][0]));
-    for text in others.iter().copied() {
-        assert!(version(chain[0][0]) != text && text != version(chain[0][0]));
-        let errors: [InvalidVersion; 3] = [
-            text.parse::<VersionOf<S>>().unwrap_err(),
-            VersionOf::<S>::try_from(text).unwrap_err(),
-            VersionOf::<S>::try_from(text.to_string()).unwrap_err(),
-        ];
-        for error in errors {
-            assert_eq!((error.text(), error.scheme()), (text, scheme.scheme()));
-        }
-    }
+    let last = chain.last().unwrap()[0].as_str();
+    assert_eq!(map.get(version(last).sort_key()), Some(&last));
 }
 
 #[test]
 fn versions_of_each_scheme() {
-    let rows = |scheme: Scheme| {
-        let chain = CHAINS.iter().find(|(of, _)| *of == scheme).unwrap().1;
-        let others = OTHERS.iter().find(|(of, _)| *of == scheme).unwrap().1;
-        (chain, others)
-    };
-    let (chain, others) = rows(Scheme::Mixed);
-    values(Mixed, chain, others);
-    let (chain, others) = rows(Scheme::Deb);
-    values(Deb, chain, others);
-    let (chain, others) = rows(Scheme::Rpm);
-    values(Rpm, chain, others);
-    let (chain, others) = rows(Scheme::Pypi);
-    values(Pypi, chain, others);
-    let (chain, others) = rows(Scheme::Semver);
-    values(Semver, chain, others);
-    let (chain, others) = rows(Scheme::Gem);
-    values(Gem, chain, others);
+    macro_rules! check {
+        ($($type:ident $number:ident $name:literal $what:literal)*) => {
+            $(values(scheme::$type);)*
+        };
+    }
+    each_scheme!(check);
 }
 
 #[test]
@@ -394,11 +299,8 @@ fn a_text_is_borrowed_or_taken_over() {
 
 #[test]
 fn great_lengths() {
-    for scheme in Scheme::ALL.iter().copied() {
-        let long = |end| match scheme {
-            Scheme::Semver => format!("1.0.0-{}{end}", "1.".repeat(50_000)),
-            _ => format!("{}{end}", "1.".repeat(50_000)),
-        };
+    for (scheme, words) in rows_of("front") {
+        let long = |end| format!("{}{}{end}", words[0], "1.".repeat(50_000));
         let (a, b) = (long("1"), long("2"));
         assert_eq!(scheme.compare(&a, &b), Ok(Ordering::Less), "{scheme}");
         let [x, y] = [&a, &b].map(|text| VersionOf::new(text, scheme).unwrap());
@@ -441,32 +343,10 @@ fn threads_may_share_all() {
 
 #[test]
 fn why_a_text_is_no_version() {
-    let other = "a character that can't stand there";
-    let rows = [
-        (Scheme::Mixed, "", 0, "nothing"),
-        (Scheme::Mixed, "1.2.3-", 6, "nothing after the hyphen"),
-        (Scheme::Mixed, "1.2.3+", 6, "nothing after the plus"),
-        (Scheme::Mixed, "1.", 2, "nothing after the dot"),
-        (Scheme::Mixed, "1:", 2, "nothing after the colon"),
-        (Scheme::Mixed, "1_", 2, "nothing after the underscore"),
-        (Scheme::Mixed, "1~", 2, "nothing after the tilde"),
-        (Scheme::Pypi, "1!", 2, "nothing after the exclamation mark"),
-        (Scheme::Semver, "1.2", 3, "an end too early"),
-        (Scheme::Mixed, "1.2.3 ", 5, "a blank"),
-        (Scheme::Mixed, "1\0", 1, "a control character"),
-        (Scheme::Deb, "1.2é", 3, "a character past ASCII"),
-        (Scheme::Rpm, "\u{1f600}", 0, "a character past ASCII"),
-        (Scheme::Mixed, "1..2", 2, "an empty part"),
-        (Scheme::Semver, "01.0.0", 1, "a number with a leading zero"),
-        (Scheme::Mixed, "1.2.3-a_!", 8, other),
-        (Scheme::Deb, "1_0", 1, other),
-        (Scheme::Rpm, "1-2-3", 3, other),
-        (Scheme::Pypi, "1.0x", 3, other),
-        (Scheme::Gem, "a", 0, other),
-    ];
-    for (scheme, text, place, reason) in rows {
+    for (scheme, words) in rows_of("flaw") {
+        let (text, reason) = (words[0].as_str(), words[2].as_str());
         let error = VersionOf::new(text, scheme).unwrap_err();
-        assert_eq!(error.place(), Some(place), "{scheme} {text:?}");
+        assert_eq!(error.place(), words[1].parse().ok(), "{scheme} {text:?}");
         assert_eq!(error.reason().as_deref(), Some(reason));
         assert_eq!(error.clone().to_string(), error.to_string());
     }

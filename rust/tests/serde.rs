@@ -152,7 +152,8 @@ fn schemes_are_their_names() {
     }
     assert_eq!(Scheme::deserialize(lent("Debian")), Ok(Scheme::Deb));
     let error = Scheme::deserialize(lent("maven")).unwrap_err();
-    let said = r#"not one of mixed, deb, rpm, pypi, semver, gem: "maven""#;
+    let names: Vec<String> = Scheme::ALL.iter().map(Scheme::to_string).collect();
+    let said = format!(r#"not one of {}: "maven""#, names.join(", "));
     assert_eq!(error.to_string(), said);
     assert!(Scheme::deserialize(U32Deserializer::<Error>::new(2)).is_err());
 }

@@ -7,30 +7,24 @@ use std::fmt::Debug;
 use std::hash::{Hash, Hasher};
 use std::ops::Bound;
 
-use proved_versions::scheme::{Deb, FixedScheme, Gem, Mixed, Pypi, Rpm, Semver};
+use proved_versions::scheme::{self, Deb, FixedScheme, Mixed, Rpm};
 use proved_versions::{
     sort_key, InvalidVersionSet, Key, OtherScheme, Scheme, VersionOf, VersionSet, Versioning,
 };
+use support::rows_of;
 
-// A set, what is in it, and what is not.
-const ROWS: [(&str, &str, &str); 20] = [
-    (">=1.2, <2", "1.2 1.2.5 1.9.0-rc.1", "1.2rc1 2 2.0.0-rc.1"),
-    (
-        "^1.2",
-        "1.2 1.2.5 1.2.0-rc.1 1.10 1.2_3",
-        "1.1.9 1.2rc1 2 2.0.0-rc.1",
-    ),
-    ("^0.2.3", "0.2.3 0.2.9", "0.3 0.2.2"),
-    ("~1.2.3", "1.2.3 1.2.4 1.2.3.1", "1.2.3-rc.1 1.3.0"),
-    ("~1.2", "1.2 1.5", "2 1.1"),
-    ("~1", "1 1.5", "2 0.9"),
+#[path = "../src/each_scheme.rs"]
+#[macro_use]
+#[rustfmt::skip]
+mod each_scheme;
+mod support;
+
+// A set of mixed, what is in it, and what is not, beside the rows of the page.
+const ROWS: [(&str, &str, &str); 11] = [
     ("~=1.2", "1.2 1.5", "2 1.1"),
     ("~> 1.2", "1.2 1.5", "2 1.1"),
-    ("=1.2.*", "1.2 1.2-1 1.2.0-rc.1 1.2.x", "1.2rc1 1.20"),
     ("==1.2.*", "1.2 1.2-1", "1.2rc1 1.20"),
     ("!=1.2.*", "1.2rc1 1.20", "1.2 1.2-1 1.2.x"),
-    ("!=1.5, >=1", "1.5.1 1", "1.5 0:1.5 1.5+x 0.9"),
-    ("<1 || >=2 <3", "0.9 2.5", "1 3"),
     ("=1.2", "1.2 0:1.2 01.2 1.2+x", "1.2-1 1.2.0 1.3"),
     ("<=1.2", "1.2 0:1.2 1.1", "1.2.0 1.2.1"),
     (">1.2", "1.2.0 1.2.1", "1.2 0:1.2 1.1"),
@@ -38,146 +32,6 @@ const ROWS: [(&str, &str, &str); 20] = [
     (">1 <1", "", "0 1 2"),
     (" \t>= 1.2\t,<\t2 ", "1.2 1.9", "2 1.1"),
     ("^1:0.2", "1:0.2 1:0.2.1", "0.2 2:0.2 1:0.3"),
-];
-
-const OF_SCHEMES: [(Scheme, &str, &str, &str); 7] = [
-    (Scheme::Deb, ">=1.0, <2", "1.0-1 2~rc1", "1.0~rc1 2-0"),
-    (Scheme::Deb, "<<2, >>1.0", "1.0-1 2~rc1", "1.0 2"),
-    (Scheme::Rpm, "<=1.2", "1.2 1.2~rc1-1", "1.2-3"),
-    (Scheme::Rpm, "<1.2^", "1.2-3 1.2", "1.2^git1-1 1.2a"),
-    (Scheme::Pypi, ">=1.0, <2.0", "1.0+a 2.0rc1", "1.0rc1 2"),
-    (
-        Scheme::Semver,
-        ">=1.0.0, <2.0.0",
-        "1.0.0+a 2.0.0-rc.1",
-        "1.0.0-rc.1",
-    ),
-    (Scheme::Gem, ">=1.0, <2", "1 2.0.rc1", "1.0.a 2.0"),
-];
-
-// A text that is no set, the place of its first wrong piece, and what is said of it.
-const WRONG: [(Scheme, &str, usize, &str); 21] = [
-    (
-        Scheme::Mixed,
-        "1.2",
-        0,
-        "an operator is missing before the version: = for it alone, >= for it and all later",
-    ),
-    (
-        Scheme::Mixed,
-        ">=1.2,",
-        6,
-        "a member is missing: * has all versions",
-    ),
-    (
-        Scheme::Mixed,
-        ">= ",
-        3,
-        "a version is missing behind the operator",
-    ),
-    (
-        Scheme::Mixed,
-        "=>1",
-        1,
-        "what follows the operator is not a version",
-    ),
-    (
-        Scheme::Mixed,
-        ">=1.2 | <2",
-        6,
-        "one bar stands alone: write || between alternatives",
-    ),
-    (
-        Scheme::Mixed,
-        "~1.2.*",
-        1,
-        ".* stands after =, == and != alone: cut it off",
-    ),
-    (
-        Scheme::Mixed,
-        "=1.2-1.*",
-        1,
-        ".* stands behind an epoch and parts alone: cut off what follows these",
-    ),
-    (
-        Scheme::Mixed,
-        "<<1",
-        2,
-        "<< and >> are for Debian's versions alone: write < or >",
-    ),
-    (
-        Scheme::Mixed,
-        ">=1.x",
-        2,
-        "the version has a part x: write >=1 <2, or =1.* where versions have parts",
-    ),
-    (
-        Scheme::Mixed,
-        ">=v1.2",
-        2,
-        "the version begins with v: cut it off",
-    ),
-    (Scheme::Mixed, ">=latest", 2, "the version has no digit"),
-    (
-        Scheme::Mixed,
-        "",
-        0,
-        "a member is missing: * has all versions",
-    ),
-    (
-        Scheme::Mixed,
-        "*, =é",
-        4,
-        "what follows the operator is not a version",
-    ),
-    (
-        Scheme::Mixed,
-        "=1\0",
-        1,
-        "what follows the operator is not a version",
-    ),
-    (
-        Scheme::Deb,
-        "~1.2",
-        1,
-        "versions of this scheme have no parts, which ~, ^ and .* ask for",
-    ),
-    (
-        Scheme::Rpm,
-        "^1.2",
-        1,
-        "versions of this scheme have no parts, which ~, ^ and .* ask for",
-    ),
-    (
-        Scheme::Gem,
-        "~>1.2",
-        2,
-        "versions of this scheme have no parts, which ~, ^ and .* ask for",
-    ),
-    (
-        Scheme::Rpm,
-        "<<1",
-        2,
-        "<< and >> are for Debian's versions alone: write < or >",
-    ),
-    (
-        Scheme::Semver,
-        ">=1.0",
-        2,
-        "what follows the operator is not a version",
-    ),
-    (
-        Scheme::Deb,
-        ">=1_0",
-        2,
-        "what follows the operator is not a version",
-    ),
-    (
-        Scheme::Pypi,
-        ">=1.0 ||",
-        8,
-        "a member is missing: * has all versions",
-    ),
 ];
 
 fn set(text: &str) -> VersionSet {
@@ -199,46 +53,49 @@ fn hexadecimal(bytes: &[u8]) -> String {
 }
 
 #[test]
-fn rows_of_the_page() {
+fn rows_of_mixed() {
+    let mut rows = Vec::new();
     for (text, has, has_not) in ROWS {
-        let (made, rest) = (set(text), set(text).complement());
         for (answer, versions) in [(true, has), (false, has_not)] {
-            let texts: Vec<&str> = versions.split_whitespace().collect();
-            for text in texts.iter().copied() {
-                let version = Versioning::new(text).unwrap();
-                let name = format!("{made} {text}");
-                assert_eq!(made.contains(&version), answer, "{name}");
-                assert_eq!(made.contains(&VersionOf::from(version)), answer, "{name}");
-                assert_eq!(made.contains_text(text), Ok(answer), "{name}");
-                assert_eq!(rest.contains_text(text), Ok(!answer), "{name}");
-            }
-            let wanted = vec![Some(answer); texts.len()];
-            assert_eq!(made.contains_texts(&texts), wanted, "{made}");
+            let versions = versions.split_whitespace();
+            rows.extend(versions.map(|version| (text.to_string(), version.to_string(), answer)));
         }
+    }
+    let of_page = rows_of("set").into_iter();
+    for (_, words) in of_page.filter(|(scheme, _)| *scheme == Scheme::Mixed) {
+        rows.push((words[0].clone(), words[1].clone(), words[2] == "1"));
+    }
+    for (text, version, answer) in &rows {
+        let (made, rest) = (set(text), set(text).complement());
+        let (name, text) = (format!("{made} {version}"), version);
+        let version = Versioning::new(text.as_str()).unwrap();
+        assert_eq!(made.contains(&version), *answer, "{name}");
+        assert_eq!(made.contains(&VersionOf::from(version)), *answer, "{name}");
+        assert_eq!(made.contains_text(text), Ok(*answer), "{name}");
+        assert_eq!(rest.contains_text(text), Ok(!answer), "{name}");
     }
 }
 
 #[test]
-fn rows_of_other_schemes() {
-    for (scheme, text, has, has_not) in OF_SCHEMES {
-        let made = any(text, scheme);
+fn rows_of_each_scheme() {
+    for (scheme, words) in rows_of("set") {
+        let (made, text, answer) = (any(&words[0], scheme), words[1].as_str(), words[2] == "1");
         assert_eq!(made.scheme(), scheme);
-        for (answer, versions) in [(true, has), (false, has_not)] {
-            for text in versions.split_whitespace() {
-                let version = VersionOf::new(text, scheme).unwrap();
-                let name = format!("{scheme} {made} {text}");
-                assert_eq!(made.try_contains(&version), Ok(answer), "{name}");
-                assert_eq!(made.contains_text(text), Ok(answer), "{name}");
-                assert_eq!((!&made).contains_text(text), Ok(!answer), "{name}");
-                assert_eq!(made.contains_texts(&[text]), [Some(answer)], "{name}");
-            }
-        }
+        let version = VersionOf::new(text, scheme).unwrap();
+        let name = format!("{scheme} {made} {text}");
+        assert_eq!(made.try_contains(&version), Ok(answer), "{name}");
+        assert_eq!(made.contains_text(text), Ok(answer), "{name}");
+        assert_eq!((!&made).contains_text(text), Ok(!answer), "{name}");
+        let wanted = [Some(answer), Some(answer)];
+        assert_eq!(made.contains_texts(&[text, text]), wanted, "{name}");
     }
 }
 
 #[test]
 fn what_is_not_a_set_is_an_error_with_the_place_and_the_reason() {
-    for (scheme, text, place, reason) in WRONG {
+    for (scheme, words) in rows_of("no-set") {
+        let (text, reason) = (words[0].as_str(), words[2].as_str());
+        let place = words[1].parse().unwrap();
         let of = match scheme {
             Scheme::Mixed => String::new(),
             scheme => format!(" of {scheme}"),
@@ -366,7 +223,7 @@ fn sets_are_assigned_to() {
 #[test]
 fn the_union_of_many_is_collected() {
     assert_eq!(VersionSet::<Mixed>::default(), set(">1 <1"));
-    assert_eq!(VersionSet::<Gem>::default().scheme(), Scheme::Gem);
+    assert_eq!(VersionSet::<Deb>::default().scheme(), Scheme::Deb);
     let none: VersionSet<Rpm> = std::iter::empty().collect();
     assert!(none.is_empty() && none.scheme() == Scheme::Rpm);
     let texts: Vec<String> = (0..33).map(|n| format!("={}", n * 7 % 33)).collect();
@@ -383,7 +240,7 @@ fn the_union_of_many_is_collected() {
 }
 
 /// What pubgrub asks of a set, of each scheme.
-fn laws<S: FixedScheme>(scheme: S, texts: &[&str], versions: &[&'static str]) {
+fn laws<S: FixedScheme>(scheme: S, texts: &[&str], versions: &[&str]) {
     let (empty, full) = (VersionSet::<S>::empty(), VersionSet::<S>::full());
     assert!(empty.is_empty() && !full.is_empty());
     assert_eq!(
@@ -391,7 +248,7 @@ fn laws<S: FixedScheme>(scheme: S, texts: &[&str], versions: &[&'static str]) {
         (full.clone(), empty.clone())
     );
     assert_eq!((full.text(), empty.text()), (Some("*"), None));
-    let version = |text: &'static str| VersionOf::new(text, scheme).unwrap();
+    let version = |text: &str| VersionOf::new(text.to_string(), scheme).unwrap();
     let mut sets: Vec<VersionSet<S>> = texts.iter().map(|text| text.parse().unwrap()).collect();
     sets.extend(
         versions
@@ -446,22 +303,26 @@ fn laws_of_each_scheme() {
     laws(Mixed, &mixed, &["1.2", "0:1.2", "1.5", "3", "1.2.3-rc.1"]);
     let deb = ["<<1.2", ">=1.2~ <2", "!=1:0", ">2 || <1"];
     laws(Deb, &deb, &["1.2~rc1", "1.2", "1.2-0", "1:0", "3"]);
-    let rpm = ["<1.2^", ">=1.2~ <2", "!=1:0"];
-    laws(Rpm, &rpm, &["1.2~rc1", "1.2", "1.2-1", "1.2^git1", "1:0"]);
-    let pypi = [">=1.0rc1 <2", "!=1.0", "=1.0.post1"];
-    laws(
-        Pypi,
-        &pypi,
-        &["1.0rc1", "1.0", "v1.0.0", "1.0.post1", "2!0"],
-    );
-    let semver = [">=1.0.0-rc.1 <2.0.0", "!=1.0.0"];
-    laws(
-        Semver,
-        &semver,
-        &["1.0.0-rc.1", "1.0.0", "1.0.0+a", "3.0.0"],
-    );
-    let gem = [">=1.0.a <2", "!=1.0"];
-    laws(Gem, &gem, &["1.0.a", "1.0", "1", "1.0-1", "3"]);
+    let (rising, level) = (rows_of("rising"), rows_of("level"));
+    macro_rules! check {
+        ($($type:ident $number:ident $name:literal $what:literal)*) => {
+            $(
+                let its = |rows: &[(Scheme, Vec<String>)]| {
+                    rows.iter().find(|(of, _)| *of == Scheme::$type).unwrap().1.clone()
+                };
+                let (five, tied) = (its(&rising), its(&level));
+                let sets = [
+                    format!(">={} <{}", five[1], five[3]),
+                    format!("!={}", tied[1]),
+                    format!("<{} || ={}", five[1], five[4]),
+                ];
+                let sets: Vec<&str> = sets.iter().map(String::as_str).collect();
+                let texts: Vec<&str> = five.iter().chain(&tied).map(String::as_str).collect();
+                laws(scheme::$type, &sets, &texts);
+            )*
+        };
+    }
+    each_scheme!(check);
 }
 
 #[test]

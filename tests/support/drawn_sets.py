@@ -20,13 +20,10 @@ from pathlib import Path
 sys.dont_write_bytecode = True
 sys.path.insert(0, str(Path(__file__).resolve().parent))
 from library import OK, Library, coded  # noqa: E402
-from schemes import NAMES, Missing, system_of  # noqa: E402
+from schemes import NUMBERS, Missing, system_of  # noqa: E402
 from sets import Model, Wrong, drawn_set, made_versions  # noqa: E402
 
 EACH, POOL = 3, 120
-# Which orders of a version and the member's version each operator has; the last two are of deb alone.
-OF_ORDER = {"=": (0,), "==": (0,), "!=": (-1, 1), "<": (-1,), "<=": (-1, 0), ">": (1,), ">=": (0, 1)}
-OF_DEB = {"<<": (-1,), ">>": (1,)}
 # What a text is spoiled with.
 SPOILS = ("\u00e9", "\U0001f600", "\0", "\u00a0", "\n")
 SURROGATES = ("\ud83d", "\ude00", "\U0001f600\ud83d")
@@ -76,7 +73,6 @@ class SchemeModel(Model):
     def __init__(self, system):
         super().__init__(self.is_version, self.order)
         self.system, self.known, self.orders = system, {}, {}
-        self.operators = OF_ORDER | OF_DEB if system.name == "deb" else OF_ORDER
 
     def pool(self, draw):
         """Versions, and texts that are none."""
@@ -90,7 +86,7 @@ class SchemeModel(Model):
         return versions, [text for text in texts if not self.is_version(text)]
 
     def drawn(self, draw, versions):
-        return drawn_set(draw, versions, (*[*self.operators] * 9, "~", "^", "~="), stars=90)
+        return drawn_set(draw, versions, (*[*self.system.operators] * 9, "~", "^", "~="), stars=90)
 
     def is_version(self, text):
         if text not in self.known:
@@ -103,10 +99,10 @@ class SchemeModel(Model):
         return self.orders[a, b]
 
     def may_follow(self, operator, text, of_parts):
-        return operator in self.operators and not of_parts and self.is_version(text) and self.system.may_stand(text)
+        return operator in self.system.operators and not of_parts and self.is_version(text) and self.system.may_stand(text)
 
     def holds(self, operator, of_parts, text, version):
-        return operator is None or self.order(version, text) in self.operators[operator]
+        return operator is None or self.system.is_in_order(operator, self.order(version, text))
 
 
 class Drawing:
@@ -185,15 +181,15 @@ class Drawing:
 
 
 def main(count, *words):
-    c, names = C(os.environ["C_LIBRARY"]), [*NAMES]
+    c = C(os.environ["C_LIBRARY"])
     spoils = SPOILS + SURROGATES if "surrogates" in words else SPOILS
-    for name in names:
+    for name, number in NUMBERS.items():
         try:
             model = MixedModel(c) if name == "mixed" else SchemeModel(system_of(name))
         except Missing as missing:
             sys.exit(f"{name}: {missing}")
-        drawing = Drawing(c, name, 1 + names.index(name), model, spoils)
-        for line in drawing.lines(-(-count // len(names))):
+        drawing = Drawing(c, name, number, model, spoils)
+        for line in drawing.lines(-(-count // len(NUMBERS))):
             print(json.dumps(line))
 
 

@@ -7,7 +7,6 @@ extension. SEED is what they are drawn by. C_LIBRARY is a folder of c/build. tes
 """
 import os
 import random
-import re
 import subprocess
 import sys
 import tempfile
@@ -18,13 +17,13 @@ sys.dont_write_bytecode = True
 sys.path.insert(0, str(Path(__file__).resolve().parent))
 from checks import check, conclude  # noqa: E402
 from library import Library  # noqa: E402
-from schemes import ASKS_FOR_PARTS, NAMES, SYSTEMS, Missing, System, chains_of, sets_of, system_of  # noqa: E402
-from sets import Model, worked_rows, wrong_rows  # noqa: E402
+from schemes import (  # noqa: E402
+    NUMBERS, SCHEMES, SYSTEMS, Missing, System, chains_of, no_sets_of, sets_of, steps_of, system_of
+)
+from sets import Model  # noqa: E402
 
 COUNT, PSQL = int(sys.argv[1]), sys.argv[2:]
-NUMBERS = {name: number for number, name in enumerate(NAMES, 1)}
 TYPES = {name: "version" if name == "mixed" else f"{name}_version" for name in NUMBERS}
-OPERATORS = {"=": (0,), "==": (0,), "!=": (-1, 1), "<": (-1,), "<=": (-1, 0), ">": (1,), ">=": (0, 1)}
 SETS = 20  # of which each is asked of a whole column
 
 
@@ -42,7 +41,7 @@ class C(Library):
         return self.made("set", self.scheme, text.encode())
 
 
-class Mixed:
+class Mixed(System):
     """What the classes of other schemes have, for mixed: kinds and the order are the library's, by its own calls."""
 
     name, shapes = "mixed", "N.N N.N.N N N.NW N.N.N-W.N N.N.N-N E:N.N N.N-N N.N_N N.N+W W.N N.N.W vN.N N.N..N".split()
@@ -54,8 +53,6 @@ class Mixed:
     def __init__(self):
         self.c = C(NUMBERS["mixed"])
         self.model = Model(self.c.kind, self.c.compare)
-
-    draw, neighbour, may_stand = SYSTEMS["deb"].draw, SYSTEMS["deb"].neighbour, System.may_stand
 
     def reads(self, texts):
         return [self.c.kind(text) is not None for text in texts]
@@ -97,7 +94,7 @@ class Trial:
     def drawn_set(self, versions):
         """One to three alternatives of one or two members each, as a text, and as lists of operators and versions."""
         draw, others = self.draw, ("~", "^", "~=") if self.name == "mixed" else ()
-        operators = (*OPERATORS, *others)
+        operators = (*self.system.operators, *others)
         alternatives = [
             [(draw.choice(operators), draw.choice(versions)) for _ in range(draw.choice((1, 1, 2)))]
             for _ in range(draw.choice((1, 1, 2, 3)))
@@ -114,7 +111,8 @@ class Trial:
             for each, version in zip(alternatives, versions) for members in each for _, text in members
         ]
         orders = iter(self.system.compare(pairs))
-        holds = ([[next(orders) in OPERATORS[sign] for sign, _ in some] for some in each] for each in alternatives)
+        in_order = self.system.is_in_order
+        holds = ([[in_order(sign, next(orders)) for sign, _ in some] for some in each] for each in alternatives)
         return [any(map(all, each)) for each in holds]
 
     def rows(self, count):
@@ -254,36 +252,57 @@ def literal(text):
     return "'" + text.replace("'", "''") + "'"
 
 
-def pages():
-    """The rows of docs/SETS.md and docs/SCHEMES.md, by the functions and by the types."""
-    rows = [("mixed", *row) for row in worked_rows()]
-    rows += [(name, *row) for name in SYSTEMS for row in sets_of(name)]
-    check("the rows of the pages", len(rows) > 14, len(rows))
-    for name, text, inside, outside in rows:
-        given = ", ".join(f"({literal(version)})" for version in inside + outside)
-        found = sql(
-            f"SELECT version_in_set({literal(text)}, v, '{name}'), v::{TYPES[name]} <@ "
-            f"version_set({literal(text)}, '{name}'), version_in_set(version_set({literal(text)}, '{name}'), v) "
-            f"FROM (VALUES {given}) t (v)"
-        )
-        check(f"{name}: {text}", found == [["t"] * 3] * len(inside) + [["f"] * 3] * len(outside), found)
-    for name in SYSTEMS:
-        for chain in chains_of(name):
-            texts = re.split(" [<=] ", chain)
-            for a, b, sign in zip(texts, texts[1:], re.findall(" ([<=]) ", chain)):
-                found = sql(f"SELECT version_compare({literal(a)}, {literal(b)}, '{name}'), {TYPES[name]} {literal(a)} "
-                            f"< {literal(b)}, {TYPES[name]} {literal(a)} = {literal(b)}")
-                check(f"{name}: {a} {sign} {b}", found == [["-1", "t", "f"] if sign == "<" else ["0", "f", "t"]], found)
-    wrong = [("mixed", *row) for row in wrong_rows()] + [(name, "~1.2.0", 1, ASKS_FOR_PARTS) for name in SYSTEMS]
-    for name, text, place, sentence in wrong:
-        found = sql(f"SELECT version_in_set({literal(text)}, '1', '{name}')")
-        wanted = [f"ERROR:  22023: not a set of versions: \"{text}\"", f"DETAIL:  At byte {place}: {sentence}."]
-        check(f"{name}: what is wrong with {text}", ["|".join(row) for row in found[:2]] == wanted, found)
+def no_value(name, text, place, why):
+    """What is said where a text is read as a value of the scheme's type, as a constant and as the text of a row."""
+    made = TYPES[name]
+    for statement in (f"{made} {text}", f"({text} || '')::{made}", f"{made}({text} || '')", f"({text} || '')::varchar::{made}"):
+        found = ["|".join(row) for row in sql(f"SELECT {statement}")]
+        wanted = f"ERROR:  22P02: invalid input syntax for type {made}: \"", f"DETAIL:  At byte {place}: {why}."
+        check(f"{name}: {statement}", found[0].startswith(wanted[0]) and wanted[1] in found, found)
+    found = sql(f"SELECT to_{made}({text}), pg_typeof(to_{made}({text})), is_version({text}, '{name}')")
+    check(f"{name}: {text} is NULL", found == [["NULL", made, "f"]], found)
+
+
+def by_hand():
+    """The rows of the pages and by hand, by the functions and by the types."""
+    for name, scheme in SCHEMES.items():
+        made, sets = TYPES[name], [*sets_of(name)]
+        check(f"{name}: sets of the pages", sets)
+        for text, inside, outside in sets:
+            given = ", ".join(f"({literal(version)})" for version in inside + outside)
+            found = sql(
+                f"SELECT version_in_set({literal(text)}, v, '{name}'), v::{made} <@ "
+                f"version_set({literal(text)}, '{name}'), version_in_set(version_set({literal(text)}, '{name}'), v), "
+                f"version_in_set('{name}:' || {literal(text)}, v) FROM (VALUES {given}) t (v)"
+            )
+            check(f"{name}: {text}", found == [["t"] * 4] * len(inside) + [["f"] * 4] * len(outside), found)
+        for a, b, order in (step for chain in (*chains_of(name), *scheme.rows) for step in steps_of(chain)):
+            both = f"{literal(a)}, {literal(b)}"
+            found = sql(
+                f"SELECT version_compare({both}, '{name}'), version_compare({literal(b)}, {literal(a)}, '{name}'), "
+                f"version_compare({made} {literal(a)}, {literal(b)}), {made} {literal(a)} < {literal(b)}, "
+                f"{made} {literal(a)} = {literal(b)}, to_{made}({literal(a)}) = {literal(a)}, "
+                f"version_key({literal(a)}, '{name}') < version_key({literal(b)}, '{name}')"
+            )
+            less, equal = "ft"[order < 0], "ft"[order == 0]
+            wanted = [str(order), str(-order), str(order), less, equal, "t", less]
+            check(f"{name}: {a} and {b}", found == [wanted], found, wanted)
+        for text, place, why in scheme.flaws:
+            if "\0" not in text:
+                no_value(name, literal(text), place, why)
+        for text, place, why in no_sets_of(name):
+            if "\0" not in text:
+                found = ["|".join(row) for row in sql(f"SELECT version_in_set({literal(text)}, '1', '{name}')")]
+                wanted = "ERROR:  22023: not a set of versions: \"", f"DETAIL:  At byte {place}: {why}."
+                check(f"{name}: what is wrong with {text}", found[0].startswith(wanted[0]) and wanted[1] in found, found)
+        if name != "mixed":
+            found = ["|".join(row) for row in sql(f"SELECT version '1'::{made}")]
+            check(f"{name}: no cast between types", found[0].startswith("ERROR:  42846: "), found)
 
 
 draw = random.Random(os.environ.get("SEED", "1"))
 check("each scheme has a type", NUMBERS.keys() == {"mixed", *SYSTEMS}, *SYSTEMS)
-pages()
+by_hand()
 for name in NUMBERS:
     try:
         trial = Trial(name, Mixed() if name == "mixed" else system_of(name), draw)

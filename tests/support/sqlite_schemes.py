@@ -15,7 +15,7 @@ import tempfile
 from collections import Counter
 
 from checks import built_package, check, conclude, stop
-from schemes import ENDS_IN_SETS, OPERATORS, SYSTEMS, Missing, System, system_of
+from schemes import ENDS_IN_SETS, SYSTEMS, Missing, System, system_of
 from sets import DOUBLED, PIECE, SINGLE, Model, Wrong
 
 COUNT = int(sys.argv[2]) if len(sys.argv) > 2 else 100_000
@@ -66,7 +66,7 @@ class Ordered:
     def __init__(self, system):
         self.name, self.draw, self.neighbour = system.name, system.draw, system.neighbour
         self.reads, self.compare, self.long, self.slips = system.reads, system.compare, system.long, system.slips
-        self.operators = OPERATORS | ({"<<": (-1,), ">>": (1,)} if system.name == "deb" else {})
+        self.operators, self.is_in_order = system.operators, system.is_in_order
 
     def member(self, draw, text):
         return draw.choice((*self.operators,) if draw.random() < 0.97 else (*SINGLE, *DOUBLED)) + text
@@ -90,7 +90,7 @@ class Ordered:
         pairs = [(version, end) for parts, version in asked for members in parts for _, end in members]
         orders = iter(self.compare(pairs))
         return [
-            any([all([next(orders) in self.operators[sign] for sign, _ in members]) for members in parts])
+            any([all([self.is_in_order(sign, next(orders)) for sign, _ in members]) for members in parts])
             for parts, _ in asked
         ]
 

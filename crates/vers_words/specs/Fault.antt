@@ -1,6 +1,6 @@
 -- What `vers` prints of a fault, and the status that it ends with.
 use Rattle.std.specs.Prelude.{ℕ, List, ◌++◌, codes, decimal}
-use Rattle.version_commands.specs.Fault as task
+use Rattle.version_commands.specs.faults.Fault as task
 use Rattle.version_commands.specs.declared.faults.Fault as commands
 use Rattle.version_commands.specs.declared.faults.Fault.TheVariants.{NotVersion, NotRequirement, BadLine, Read}
 use Rattle.vers_words.specs.declared.faults.Fault.{Fault}

@@ -10,7 +10,7 @@ use Rattle.version_commands.specs.declared.options.EachOptions.{EachOptions}
 use Rattle.version_commands.specs.declared.options.Invalid.TheVariants.{Fail}
 use Rattle.version_commands.specs.declared.options.Labels.TheVariants.{Every, Strict}
 use Rattle.version_commands.specs.declared.options.LineOptions.{LineOptions}
-use Rattle.version_commands.specs.declared.options.Naming.TheVariants.{Bare}
+use Rattle.version_answers.specs.declared.spelling.Naming.TheVariants.{Bare}
 use Rattle.version_commands.specs.declared.options.Question.TheVariants.{Key}
 use Rattle.version_commands.specs.declared.options.Task as options
 use Rattle.version_commands.specs.declared.options.Task.TheVariants.{Compare, Each, Label, Lines, Match}

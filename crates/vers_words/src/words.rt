@@ -3,9 +3,10 @@ ghost use Rattle.std.specs.Prelude.{◌≡◌, ◌∷◌, [], codes, false, map,
 ghost use Rattle.vers_words.specs.Words.{are_command, ArePlain, Means};
 
 use std::alloc::{AllocError, Global};
+use version_answers::{Naming, Spelling};
 use version_commands::{
-    Arrangement, Choice, ColumnNames, EachOptions, Invalid, Labels, LineOptions, Naming, Question,
-    Spelling, Task, VersionPlace,
+    Arrangement, Choice, ColumnNames, EachOptions, Invalid, Labels, LineOptions, Question, Task,
+    VersionPlace,
 };
 use version_lines::{Column, LineEnd, Separators};
 use version_schemes::Scheme;

@@ -8,9 +8,9 @@ use Rattle.std.specs.Ordering.{nat_cmp}
 use Rattle.std.specs.Str.{bytes_eq}
 use Rattle.std.specs.declared.cmp.Ordering.{Ordering}
 use Rattle.std.specs.declared.cmp.Ordering.TheVariants.{Less, Equal, Greater}
-use Rattle.version_commands.specs.Inputs.{lines_within}
-use Rattle.version_commands.specs.Picked.{bad_lines}
-use Rattle.version_commands.specs.Place.{column_text, line_text, reads_of}
+use Rattle.version_commands.specs.files.Inputs.{lines_within}
+use Rattle.version_commands.specs.lines.Picked.{bad_lines}
+use Rattle.version_commands.specs.lines.Place.{column_text, line_text, reads_of}
 use Rattle.version_commands.specs.declared.lists.Named.{Named}
 use Rattle.version_commands.specs.declared.lists.Names.{Names}
 use Rattle.version_commands.specs.declared.lists.Side.{Side}

@@ -1,18 +1,18 @@
 -- What a task writes.
 use Rattle.std.specs.Prelude.{◌≡◌, ◌==◌, ◌||◌, ℕ, Bool, false, true, List, [], ◌∷◌, length, map, Option, None, Some, string_bytes}
 use Rattle.std.specs.List.{list_any}
-use Rattle.version_commands.specs.Compare.{comparison_line}
-use Rattle.version_commands.specs.Difference.{difference_line}
-use Rattle.version_commands.specs.Each.{are_versions, IsAnswered, IsAsked}
-use Rattle.version_commands.specs.Explain.{explained_line}
-use Rattle.version_commands.specs.FirstWord.{may_be_standard, Finding, HoldsByWords}
-use Rattle.version_commands.specs.Inputs.{ended, is_open, names_read, reads_standard, AreInputs, Reading}
-use Rattle.version_commands.specs.Label.{AreLabelled}
+use Rattle.version_answers.specs.two.Compare.{comparison_line}
+use Rattle.version_answers.specs.two.Difference.{difference_line}
+use Rattle.version_commands.specs.words.Each.{are_versions, IsAnswered, IsAsked}
+use Rattle.version_answers.specs.two.Explain.{explained_line}
+use Rattle.version_commands.specs.lines.FirstWord.{may_be_standard, Finding, HoldsByWords}
+use Rattle.version_commands.specs.files.Inputs.{ended, is_open, names_read, reads_standard, AreInputs, Reading}
+use Rattle.version_commands.specs.lines.Label.{AreLabelled}
 use Rattle.version_commands.specs.Lists.{bad_lines_of, difference_text, names_of, rows_of}
-use Rattle.version_commands.specs.Ordered.{bad_file, IsOrdered}
-use Rattle.version_commands.specs.Matched.{AreMatched}
-use Rattle.version_commands.specs.Place.{spelled, spelled_mixed}
-use Rattle.version_commands.specs.Test.{answer_line, answer_of_set, answer_of_two, AreSetsSo}
+use Rattle.version_commands.specs.lines.Ordered.{bad_file, IsOrdered}
+use Rattle.version_commands.specs.lines.Matched.{AreMatched}
+use Rattle.version_answers.specs.Spelling.{spelled, spelled_mixed}
+use Rattle.version_commands.specs.words.Test.{answer_line, answer_of_set, answer_of_two, AreSetsSo}
 use Rattle.version_commands.specs.declared.options.Invalid.TheVariants.{Fail}
 use Rattle.version_commands.specs.declared.options.Lists.{Lists}
 use Rattle.version_commands.specs.declared.options.Task.{Task}

@@ -1,12 +1,12 @@
 -- How a run of a program ends, by the task that its words mean.
 use Rattle.std.specs.Prelude.{◌≡◌, ◌⊎◌, ℕ, Bool, false, List, Option, Result, Ok, Err, IfOk, IsErrAnd, MatchResult}
 use Rattle.std.specs.Io.KnownBytes.{Keeps}
-use Rattle.version_commands.specs.Cause.{ComesOf}
-use Rattle.version_commands.specs.Early.{IfOfWord, UnlessLate}
-use Rattle.version_commands.specs.Ends.{Ends}
-use Rattle.version_commands.specs.Files.{AltersAtMost, Leaves}
-use Rattle.version_commands.specs.FirstWord.{Finding}
-use Rattle.version_commands.specs.Inputs.{Reading}
+use Rattle.version_commands.specs.faults.Cause.{ComesOf}
+use Rattle.version_commands.specs.faults.Early.{IfOfWord, UnlessLate}
+use Rattle.version_commands.specs.faults.Ends.{Ends}
+use Rattle.version_commands.specs.files.Files.{AltersAtMost, Leaves}
+use Rattle.version_commands.specs.lines.FirstWord.{Finding}
+use Rattle.version_commands.specs.files.Inputs.{Reading}
 use Rattle.version_commands.specs.Output.{asks_reader, file_of, Answers, IsOutput}
 use Rattle.version_commands.specs.declared.faults.Fault.{Fault}
 use Rattle.version_commands.specs.declared.options.Task.{Task}

@@ -1,15 +1,15 @@
 //! Why a task fails.
 ghost use Rattle.std.specs.Prelude.{◌++◌, Some};
 ghost use Rattle.std.specs.Fmt.{DisplaysOnOk};
-ghost use Rattle.version_commands.specs.Quote.{quoted};
+ghost use Rattle.version_answers.specs.message.Quote.{quoted};
 
-use crate::bad::Blamed;
-use crate::quote::Shown;
-use crate::remark::{NoVersion, Remark};
-use crate::set::WrongSet;
+pub(crate) mod bad;
+
+use crate::faults::bad::Blamed;
 use std::alloc::AllocError;
 use std::error::Error;
 use std::fmt;
+use version_answers::{NoVersion, Remark, Shown, WrongSet};
 use version_lines::NotWritten;
 
 /// Why a task failed. It prints as what the program `versions` writes to standard error, after its name. Of a word, a line or the name of a file a message shows what is UTF-8 in front of the first
@@ -45,7 +45,7 @@ pub enum Fault<'w> {
 
 impl Fault<'_> {
     ghost use Rattle.std.specs.Prelude.{◌≡◌};
-    ghost use Rattle.version_commands.specs.Fault.{status_of};
+    ghost use Rattle.version_commands.specs.faults.Fault.{status_of};
 
     /// Returns the exit status: 1 for an input that is not a version, a requirement or a set, has no such column, or doesn't close its quotes; 2 for such words of a task
     /// that answers by its status; 3 for a failure of the system.
@@ -68,7 +68,7 @@ impl Fault<'_> {
 
 impl fmt::Display for Fault<'_> {
     ghost use Rattle.std.specs.Prelude.{Some};
-    ghost use Rattle.version_commands.specs.Fault.{fault_text};
+    ghost use Rattle.version_commands.specs.faults.Fault.{fault_text};
 
     ghost output = { λ fault. Some (fault_text fault) };
 

@@ -3,7 +3,9 @@
 ghost use Rattle.std.specs.Prelude.{◌≡◌, ⊤, ℕ, Bool, List, Option, None, Some, ◌++◌, IfErr, OnOk};
 ghost use Rattle.version_commands.specs.declared.files.Hint.{Hint as Told};
 
-use crate::remark::Remark;
+pub(crate) mod inputs;
+
+use version_answers::Remark;
 use version_lines::Trouble;
 
 /// How far a run is.

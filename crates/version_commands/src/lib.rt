@@ -1,51 +1,22 @@
 //! The tasks of the programs `versions` and `vers` over any files, reader and writer: `serve` reads the inputs of a task,
-//! and writes what it answers. docs/VERSIONS.md and docs/VERS.md have their rules.
+//! and writes what it answers. docs/VERSIONS.md and docs/VERS.md have their rules. Nothing allocates that takes neither an
+//! allocator nor a buffer to add to.
 #![tactic(auto)]
 
-mod arrange;
-mod bad;
-mod by_schemes;
-mod choice;
-mod compare;
-mod difference;
-mod each;
-mod explain;
 mod faults;
 mod files;
-mod first_word;
-mod header;
-mod hint;
-mod inputs;
-mod json;
-mod key;
-mod label;
-mod laws;
+mod hints;
+mod lines;
 mod lists;
-mod matched;
-mod next;
 mod options;
-mod pick;
-mod pieces;
-mod place;
 mod program;
-mod quote;
-mod remark;
-mod rows;
-mod set;
-mod show;
-mod test;
-mod why;
-mod word;
-mod write;
+mod words;
 
-pub use bad::Blamed;
 pub use faults::Fault;
+pub use faults::bad::Blamed;
 pub use files::{Files, Hint, NoFiles, Stage};
 pub use options::{
-    Arrangement, Choice, ColumnNames, EachOptions, Invalid, Labels, LineOptions, Lists, Naming,
-    Operator, Question, Spelling, Step, Task, VersionPlace,
+    Arrangement, Choice, ColumnNames, EachOptions, Invalid, Labels, LineOptions, Lists, Question,
+    Task, VersionPlace,
 };
 pub use program::serve;
-pub use quote::{Shown, quoted};
-pub use remark::Remark;
-pub use set::WrongSet;

@@ -1,18 +1,18 @@
 //! What differs between two lists of names with versions.
-ghost use Rattle.std.specs.Prelude.{◌≡◌, ℕ, ◌∷◌, ◌++◌, [], length, List, IfOk, OnOk};
+ghost use Rattle.std.specs.Prelude.{◌≡◌, ◌∷◌, ◌++◌, [], length, List, IfOk, OnOk};
 ghost use Rattle.std.specs.Option.{option_map};
-ghost use Rattle.version_commands.specs.Hints.{repeated};
+ghost use Rattle.version_commands.specs.hints.TaskHint.{repeated};
 ghost use Rattle.version_commands.specs.Lists.{difference_text, first_rows, lines_against, name_line, plain_row, row_text, rows_of, version_of, AreNames, Row};
-ghost use Rattle.version_commands.specs.Picked.{AreBadOf};
-ghost use Rattle.version_commands.specs.Place.{reads_of};
+ghost use Rattle.version_commands.specs.lines.Picked.{AreBadOf};
+ghost use Rattle.version_commands.specs.lines.Place.{reads_of};
 ghost use Rattle.version_lines.specs.Lines.{lines_of, whole_line};
 ghost use Rattle.version_lines.specs.Sort.{version_in};
 ghost use Rattle.version_schemes.specs.any.AnyVersion.{plain_any};
 
-use crate::inputs::count_lines;
+use crate::files::inputs::count_lines;
+use crate::lines::pick::{BadLines, EveryVersion, Takes, pick};
+use crate::lines::place::{column_text, line_text};
 use crate::options::Lists;
-use crate::pick::{BadLines, EveryVersion, Takes, pick};
-use crate::place::{column_text, line_text};
 use std::alloc::{AllocError, Global};
 use std::cmp::Ordering;
 use std::collections::BTreeMap;
@@ -122,7 +122,7 @@ impl<'a> Takes<'a> for NamedList<'_, '_, 'a> {
     ghost use Rattle.std.specs.Prelude.{◌≡◌, ⊤};
     ghost use Rattle.std.specs.List.{flat_map};
     ghost use Rattle.version_commands.specs.Lists.{rows_of_line, AreNames};
-    ghost use Rattle.version_commands.specs.Place.{reads_of};
+    ghost use Rattle.version_commands.specs.lines.Place.{reads_of};
     ghost use Rattle.version_lines.specs.Sort.{version_in};
 
     ghost versions = { λ list. version_in (reads_of list.lists.now.place) };

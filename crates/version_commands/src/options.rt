@@ -1,26 +1,9 @@
 //! What a command is asked to do: the words of a run, read.
 
+use version_answers::{Naming, Operator, Spelling, Step};
 use version_lines::{Column, LineEnd};
 use version_schemes::Scheme;
 use version_tasks::Stability;
-
-/// How a version stands in its column, or in the whole line.
-#[derive(Clone, Copy, Debug)]
-pub enum Naming<'w> {
-    /// It is the whole text.
-    Bare,
-    /// It is the version in a tag.
-    Tag,
-    /// It is the version after this prefix.
-    Prefix(&'w str),
-}
-
-/// How a text spells a version.
-#[derive(Clone, Copy, Debug)]
-pub struct Spelling<'w> {
-    pub naming: Naming<'w>,
-    pub scheme: Scheme,
-}
 
 /// Where the version of a line stands.
 #[derive(Clone, Copy, Debug)]
@@ -108,17 +91,6 @@ pub struct LineOptions<'w> {
     pub files: Vec<&'w str>,
 }
 
-/// Which version is asked for after another.
-#[derive(Clone, Copy, Debug)]
-pub enum Step<'w> {
-    /// The next at a place, counted from 0.
-    Place(usize),
-    /// The next release: the one at the last place.
-    Release,
-    /// The next pre-release of this word, or without one of the version's own.
-    Pre(Option<&'w str>),
-}
-
 /// What is asked of each of several versions: by a scheme, where one is named, else by mixed.
 #[derive(Clone, Copy, Debug)]
 pub enum Question<'w> {
@@ -144,16 +116,6 @@ pub struct EachOptions<'w> {
     pub end: u8,
     /// Whether a carriage return at the end of a line belongs to the line's end.
     pub crlf: bool,
-}
-
-/// How two versions are asked to compare by precedence.
-#[derive(Clone, Copy, Debug)]
-pub enum Operator {
-    Less,
-    LessOrEqual,
-    Equal,
-    GreaterOrEqual,
-    Greater,
 }
 
 /// Two lists of names with versions.

@@ -1,44 +1,41 @@
 //! What a task does over any files, reader and writer.
-ghost use Rattle.std.specs.Prelude.{◌≡◌, ◌∷◌, [], None, Some, false, true, IfErr, IfOk, OnOk};
-ghost use Rattle.version_commands.specs.Cause.{ComesOf, ComesOfChanges};
-ghost use Rattle.version_commands.specs.Compare.{comparison_line};
-ghost use Rattle.version_commands.specs.Explain.{explained_line};
-ghost use Rattle.version_commands.specs.Difference.{difference_line};
-ghost use Rattle.version_commands.specs.Early.{IfOfWord, UnlessLate};
-ghost use Rattle.version_commands.specs.Ends.{Ends};
-ghost use Rattle.version_commands.specs.Fault.{first_wrong, ComesOfBad, ComesOfWords};
-ghost use Rattle.version_commands.specs.Files.{AltersAtMost, Leaves};
-ghost use Rattle.version_commands.specs.Hints.{IsHint, IsOfLists, MayTell};
-ghost use Rattle.version_commands.specs.Inputs.{reads_standard};
+ghost use Rattle.std.specs.Prelude.{◌≡◌, ◌∷◌, ◌++◌, [], None, Some, false, true, IfErr, IfOk, OnOk};
+ghost use Rattle.version_commands.specs.faults.Cause.{ComesOf, ComesOfChanges};
+ghost use Rattle.version_answers.specs.two.Compare.{comparison_line, sign_text};
+ghost use Rattle.version_answers.specs.two.Explain.{explained_line};
+ghost use Rattle.version_answers.specs.two.Difference.{difference_line};
+ghost use Rattle.version_commands.specs.faults.Early.{IfOfWord, UnlessLate};
+ghost use Rattle.version_commands.specs.faults.Ends.{Ends};
+ghost use Rattle.version_commands.specs.faults.Fault.{first_wrong, ComesOfBad, ComesOfWords};
+ghost use Rattle.version_commands.specs.files.Files.{AltersAtMost, Leaves};
+ghost use Rattle.version_commands.specs.hints.TaskHint.{IsHint, IsOfLists, MayTell};
+ghost use Rattle.version_commands.specs.files.Inputs.{reads_standard};
 ghost use Rattle.version_commands.specs.Lists.{names_of};
 ghost use Rattle.version_commands.specs.Output.{asks_reader, file_of, Answers, AreChanges, IsLineOfTwo, IsOutput};
-ghost use Rattle.version_commands.specs.Place.{mixed_spelling, spelled, spelled_mixed};
-ghost use Rattle.version_commands.specs.Test.{answer_line};
+ghost use Rattle.version_answers.specs.Spelling.{mixed_spelling, spelled, spelled_mixed};
+ghost use Rattle.version_commands.specs.words.Test.{answer_line};
 ghost use Rattle.version_lines.specs.Lines.{line_feed};
 
-use crate::bad::refuse_first;
-use crate::compare::sign_line;
-use crate::difference::add_difference;
-use crate::each::answer_each;
-use crate::explain::add_explained;
 use crate::faults::Fault;
+use crate::faults::bad::refuse_first;
 use crate::files::Files;
-use crate::first_word::serve_by_words;
-use crate::hint::{
-    tell_of_fault, tell_of_next, tell_of_repeated, tell_of_separators, tell_of_two, tell_of_why,
-    tell_others,
-};
-use crate::inputs::read_input;
-use crate::label::write_labels;
+use crate::files::inputs::read_input;
+use crate::hints::of_lines::{tell_of_fault, tell_of_repeated, tell_of_separators};
+use crate::hints::of_words::{tell_of_next, tell_of_two, tell_of_why, tell_others};
+use crate::lines::first_word::serve_by_words;
+use crate::lines::label::write_labels;
+use crate::lines::matched::write_matched;
+use crate::lines::pick::BadLines;
+use crate::lines::write::write_answer;
 use crate::lists::{add_lists, read_names, repeated};
-use crate::matched::write_matched;
-use crate::options::{Invalid, Lists, Naming, Spelling, Task};
-use crate::pick::BadLines;
-use crate::test::{answer_line, implies, meets, test_set, test_two};
-use crate::word::{mixed_of_word, version_of_word};
-use crate::write::write_answer;
+use crate::options::{Invalid, Lists, Task};
+use crate::words::each::answer_each;
+use crate::words::test::{answer_line, implies, meets, test_set, test_two};
+use crate::words::word::{mixed_of_word, version_of_word};
 use std::alloc::Global;
+use std::cmp::Ordering;
 use std::io::Write;
+use version_answers::{Naming, Spelling, add_difference, add_explained};
 use version_lines::Source;
 use version_schemes::Scheme;
 
@@ -146,7 +143,7 @@ fn write_yes_or_no<'w, W: Write>(writer: &mut W, yes: bool) -> Result<bool, Faul
     Ok(yes)
 }
 
-// Returns the line of `compare`. Does not allocate.
+// Returns the line of `compare`.
 fn comparison<'w>(
     spelling: &Spelling<'_>,
     first: &'w str,
@@ -159,6 +156,17 @@ fn comparison<'w>(
     let first = version_of_word(spelling, first)?;
     let second = version_of_word(spelling, second)?;
     Ok(sign_line(first.precedence(&second)))
+}
+
+// Returns the line of the sign of an ordering.
+fn sign_line(order: Ordering) -> &'static [u8]
+    ensures { result.now ≡ sign_text order ++ line_feed ∷ [] }
+{
+    match order {
+        Ordering::Less => b"<\n",
+        Ordering::Equal => b"=\n",
+        Ordering::Greater => b">\n",
+    }
 }
 
 // Returns the line of `compare --explain`.

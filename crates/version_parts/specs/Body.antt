@@ -4,7 +4,7 @@ use Rattle.version_parts.specs.declared.chunks.Chunks.{Chunks}
 use Rattle.version_parts.specs.declared.scan.Dotted.{Dotted}
 use Rattle.version_rules.specs.grammar.Chunk.{PlainChunk, part_front}
 use Rattle.version_parts.specs.Chunk.{plain_chunk}
-use Rattle.version_rules.specs.grammar.Front.{elements_at}
+use Rattle.version_order.specs.texts.Front.{elements_at}
 use Rattle.version_rules.specs.grammar.Body.{PlainBody, body_of, last_at}
 
 -- the chunks of a list

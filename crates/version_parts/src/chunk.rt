@@ -6,15 +6,15 @@ ghost use Rattle.std.specs.Option.{option_map};
 ghost use Rattle.std.proofs.Common.{ap};
 ghost use Rattle.std.specs.Cmp.{eq_by_cmp_equiv, on_equiv, on_per, partial_equiv_from_equiv};
 ghost use Rattle.std.specs.Ordering.{eq_by_cmp, on};
-ghost use Rattle.version_rules.specs.grammar.Bytes.{is_identifier_byte};
+ghost use Rattle.version_order.specs.texts.Bytes.{is_identifier_byte};
 ghost use Rattle.version_rules.specs.grammar.Chunk.{after_letter, chunk_front, chunk_front_of, chunk_text, digits_behind_letter, lenient_digits, number_of, part_front, ChunkOwns, PlainChunk};
 ghost use Rattle.version_parts.specs.Chunk.{chunk_fed, chunk_of_text, plain_chunk, plain_chunk_ref, IsChunkText};
-ghost use Rattle.version_rules.specs.grammar.Class.{contains, IsAsciiClass};
-ghost use Rattle.version_rules.specs.grammar.Bytes.{HasDigits};
+ghost use Rattle.version_order.specs.texts.Class.{contains, IsAsciiClass};
+ghost use Rattle.version_order.specs.texts.Bytes.{HasDigits};
 ghost use Rattle.version_parts.specs.Front.{Reads};
 ghost use Rattle.version_rules.specs.laws.Front.{chunk_consumes};
 ghost use Rattle.version_rules.specs.grammar.Numeral.{unsigned_front};
-ghost use Rattle.version_rules.specs.laws.Order.{same_where_tied};
+ghost use Rattle.version_order.specs.keys.OrderLaws.{same_where_tied};
 ghost use Rattle.version_rules.specs.laws.Release.{chunk_total, chunks_same};
 ghost use Rattle.version_rules.specs.order.ReleaseOrder.{chunk_cmp};
 
@@ -26,7 +26,7 @@ use std::alloc::{AllocError, Global};
 use std::cmp::Ordering;
 use std::fmt;
 use std::hash::{Hash, Hasher};
-use version_rules::Class;
+use version_order::Class;
 
 /// A piece between dots: `rc` and `1` of the release `-rc.1` (SemVer 2.0, section 9), or `1` and `2a` of the general
 /// version `1.2a.3`.

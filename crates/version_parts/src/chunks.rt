@@ -9,7 +9,7 @@ ghost use Rattle.version_rules.specs.grammar.Body.{body_front, chunks_front, Bod
 ghost use Rattle.version_parts.specs.Body.{plain_chunks};
 ghost use Rattle.version_parts.specs.Front.{Reads};
 ghost use Rattle.version_parts.specs.Last.{plain_last, plain_last_ref};
-ghost use Rattle.version_rules.specs.laws.Order.{same_where_tied};
+ghost use Rattle.version_order.specs.keys.OrderLaws.{same_where_tied};
 ghost use Rattle.version_rules.specs.order.PartOrder.{chunks_cmp};
 ghost use Rattle.version_rules.specs.laws.PartOrder.{chunks_cmp_ties, chunks_cmp_total};
 ghost use Rattle.version_parts.specs.Release.{release_fed};

@@ -7,13 +7,13 @@ ghost use Rattle.std.specs.Option.{option_map};
 ghost use Rattle.std.specs.Ordering.{as_partial_cmp, eq_by_cmp, on};
 ghost use Rattle.version_rules.specs.grammar.Chunk.{part_front};
 ghost use Rattle.version_parts.specs.Chunk.{plain_chunk};
-ghost use Rattle.version_rules.specs.grammar.Front.{map_value};
+ghost use Rattle.version_order.specs.texts.Front.{map_value};
 ghost use Rattle.version_rules.specs.grammar.Last as plain;
 ghost use Rattle.version_rules.specs.grammar.Last.{first_number, last_of, last_text, numbered_last, IsNumbered, LastOwns, PlainLast};
 ghost use Rattle.version_parts.specs.Last.{last_fed, plain_last, plain_last_ref};
 ghost use Rattle.version_rules.specs.laws.Last.{last_total, lasts_same};
 ghost use Rattle.version_rules.specs.order.LastOrder.{last_plain_cmp, last_rank};
-ghost use Rattle.version_rules.specs.laws.Order.{same_where_tied};
+ghost use Rattle.version_order.specs.keys.OrderLaws.{same_where_tied};
 ghost use Rattle.version_rules.specs.key.PartKey.{part_bytes, part_key};
 ghost use Rattle.version_rules.specs.order.PartOrder.{last_cmp};
 ghost use Rattle.version_rules.specs.laws.PartOrder.{last_cmp_ties, last_cmp_total};
@@ -27,7 +27,7 @@ use std::alloc::{AllocError, Global};
 use std::cmp::Ordering;
 use std::fmt;
 use std::hash::{Hash, Hasher};
-use version_rules::Class;
+use version_order::Class;
 
 /// The last part of a general version.
 #[derive(Debug, Drop, Serialize, Deserialize)]

@@ -5,7 +5,7 @@ ghost use Rattle.std.specs.Cmp.Lexicographic.{slice_cmp};
 ghost use Rattle.std.specs.Fmt.{WritesOnOk};
 ghost use Rattle.std.specs.List.{join_with_byte};
 ghost use Rattle.std.specs.declared.cmp.Ordering.{Ordering};
-ghost use Rattle.version_rules.specs.grammar.Bytes.{dot};
+ghost use Rattle.version_order.specs.texts.Bytes.{dot};
 
 use std::alloc::{AllocError, Global};
 use std::cmp::Ordering;

@@ -5,14 +5,14 @@ ghost use Rattle.std.specs.Option.{option_map};
 ghost use Rattle.std.proofs.Common.{ap};
 ghost use Rattle.std.specs.Cmp.{eq_by_cmp_equiv, on_equiv, on_per, on_total, partial_equiv_from_equiv, po};
 ghost use Rattle.std.specs.Ordering.{as_partial_cmp, eq_by_cmp, on};
-ghost use Rattle.version_rules.specs.grammar.DigitRun.{is_digits};
-ghost use Rattle.version_rules.specs.grammar.Front.{dotted_front};
+ghost use Rattle.version_order.specs.texts.DigitRun.{is_digits};
+ghost use Rattle.version_order.specs.texts.Front.{dotted_front};
 ghost use Rattle.version_parts.specs.Front.{Reads};
 ghost use Rattle.version_rules.specs.laws.Front.{mchunk_consumes};
 ghost use Rattle.version_rules.specs.grammar.MChunk.{chunk_before, digits_number, ends_chunk, mchunk_front, mchunk_plain_cmp, mchunk_rank, mchunk_text, mchunk_value, value_of_digits, value_of_revision, variant_of, PlainMChunk};
 ghost use Rattle.version_parts.specs.MChunk.{mchunk_fed, plain_mchunk, plain_mchunk_ref};
 ghost use Rattle.version_rules.specs.laws.MChunk.{mchunk_total, mchunks_same};
-ghost use Rattle.version_rules.specs.laws.Order.{same_where_tied};
+ghost use Rattle.version_order.specs.keys.OrderLaws.{same_where_tied};
 ghost use Rattle.version_rules.specs.order.PartOrder.{mchunk_cmp};
 ghost use Rattle.version_rules.specs.laws.PartOrder.{mchunk_cmp_ties, mchunk_cmp_total};
 
@@ -26,7 +26,7 @@ use std::cmp::Ordering;
 use std::fmt;
 use std::hash::{Hash, Hasher};
 use std::marker::Model;
-use version_rules::Class;
+use version_order::Class;
 
 /// A piece between the dots and signs of a messy version, such as `1`, `6a` and `r3` of `1.6a+r3`: letters and digits.
 #[derive(Debug, Drop, Serialize, Deserialize)]
@@ -251,7 +251,7 @@ pub struct SectionRef<'a> {
 
 impl<'a> Model for SectionRef<'a> {
     ghost use Rattle.std.specs.Prelude.{◌≡◌, List, length};
-    ghost use Rattle.version_rules.specs.grammar.Front.{elements_at};
+    ghost use Rattle.version_order.specs.texts.Front.{elements_at};
     ghost use Rattle.version_rules.specs.grammar.MChunk.{mchunk_front, PlainMChunk};
 
     ghost Value = { List PlainMChunk };

@@ -6,9 +6,9 @@ ghost use Rattle.std.specs.Cmp.{eq_by_cmp_equiv, on_equiv, on_per, on_total, par
 ghost use Rattle.std.specs.Option.{option_map};
 ghost use Rattle.std.specs.Ordering.{as_partial_cmp, eq_by_cmp, on};
 ghost use Rattle.version_rules.specs.grammar.Chunk.{chunk_front, PlainChunk};
-ghost use Rattle.version_rules.specs.grammar.Front.{elements_at};
+ghost use Rattle.version_order.specs.texts.Front.{elements_at};
 ghost use Rattle.version_parts.specs.Front.{Reads};
-ghost use Rattle.version_rules.specs.laws.Order.{same_where_tied};
+ghost use Rattle.version_order.specs.keys.OrderLaws.{same_where_tied};
 ghost use Rattle.version_parts.specs.Release.{plain_release, release_fed};
 ghost use Rattle.version_rules.specs.grammar.Release.{release_front, release_text};
 ghost use Rattle.version_rules.specs.laws.Release.{release_total, releases_same};
@@ -43,7 +43,7 @@ impl Release {
     }
 
     /// Returns the chunks as items of a key, and the end of their list. Does not allocate.
-    #[tactic(auto, using(version_rules::proofs::lemmas::Codes::ended))]
+    #[tactic(auto, using(version_order::proofs::lemmas::Codes::ended))]
     pub fn left(&self) -> ListLeft<'_, ReleaseChunk>
         ensures { result ≡ release_bytes (plain_release self.now) }
     {

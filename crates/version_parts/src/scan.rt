@@ -5,19 +5,19 @@ ghost use Rattle.std.specs.Option.{option_map};
 ghost use Rattle.std.specs.Char.{is_ascii_alphanumeric, is_ascii_digit};
 ghost use Rattle.std.specs.List.{list_all, prefix_len, take_while};
 ghost use Rattle.std.specs.Str.Parse.{digits_value};
-ghost use Rattle.version_rules.specs.grammar.Bytes.{dot, is_identifier_byte};
-ghost use Rattle.version_rules.specs.grammar.Class.{contains, IsAsciiClass};
-ghost use Rattle.version_rules.specs.grammar.Front.{after_mark, behind, dotted_front, elements_at, run_front, Consumes, Front};
+ghost use Rattle.version_order.specs.texts.Bytes.{dot, is_identifier_byte};
+ghost use Rattle.version_order.specs.texts.Class.{contains, IsAsciiClass};
+ghost use Rattle.version_order.specs.texts.Front.{after_mark, behind, dotted_front, elements_at, run_front, Consumes, Front};
 ghost use Rattle.version_parts.specs.Front.{Reads};
-ghost use Rattle.version_rules.specs.order.Lists.{split_last};
+ghost use Rattle.version_order.specs.keys.Lists.{split_last};
 ghost use Rattle.version_rules.specs.grammar.Metadata.{meta_front};
 ghost use Rattle.version_rules.specs.grammar.Numeral.{unsigned_front, SpellsNumeral};
 ghost use Rattle.version_parts.specs.Sep.{plain_sep};
-ghost use Rattle.version_rules.specs.grammar.Sep.{sep_front};
+ghost use Rattle.version_order.specs.texts.Sep.{sep_front};
 
 use crate::sep::Sep;
 use std::alloc::{AllocError, Global};
-use version_rules::{Class, run_length};
+use version_order::{Class, run_length};
 
 // The longest run of a class at the start of a text, which may be empty, and the rest.
 #[inline(always)]
@@ -38,7 +38,7 @@ pub(crate) fn is_all_digits(text: &str) -> bool
 }
 
 // The longest run of a class at the start of a text, and the rest, or None if the run is empty.
-#[tactic(auto, unfolding(version_rules::specs::grammar::Front::run_front))]
+#[tactic(auto, unfolding(version_order::specs::texts::Front::run_front))]
 #[inline(always)]
 pub(crate) fn nonempty_run(i: &str, class: Class) -> Option<(&str, &str)>
     requires { IsAsciiClass class }

@@ -1,11 +1,8 @@
 pub mod Body
-pub mod Bytes
 pub mod Chunk
-pub mod Codes
 pub mod Conversions
 pub mod DigitRun
 pub mod Ends
-pub mod Front
 pub mod Grammar
 pub mod Inexact
 pub mod KeyLaws
@@ -15,14 +12,11 @@ pub mod Lists
 pub mod MChunk
 pub mod Matching
 pub mod Mess
-pub mod NumberBytes
 pub mod Numeral
 pub mod Op
 pub mod OrderLaws
-pub mod Orders
 pub mod OrdersLaws
 pub mod PartKey
-pub mod PartOrder
 pub mod PartTexts
 pub mod Range
 pub mod Reading
@@ -34,7 +28,6 @@ pub mod SemVer
 pub mod SemVerOrder
 pub mod Split
 pub mod Tail
-pub mod TextBytes
 pub mod Texts
 pub mod Utf8
 pub mod Version

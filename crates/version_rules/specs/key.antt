@@ -1,11 +1,8 @@
-pub mod Codes
 pub mod Key
 pub mod KeyBytes
 pub mod KeyTies
-pub mod NumberBytes
 pub mod PartKey
 pub mod PartTexts
 pub mod Split
 pub mod Tail
-pub mod TextBytes
 pub mod Texts

@@ -4,7 +4,6 @@ pub mod Last
 pub mod MChunk
 pub mod Matching
 pub mod Mess
-pub mod Order
 pub mod Orders
 pub mod Part
 pub mod PartKey

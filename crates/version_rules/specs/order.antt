@@ -1,5 +1,4 @@
 pub mod LastOrder
-pub mod Lists
 pub mod Orders
 pub mod PartOrder
 pub mod ReleaseOrder

@@ -5,7 +5,6 @@
 #![tactic(auto)]
 
 mod asked;
-mod class;
 mod ends;
 mod kind;
 mod kinds;
@@ -14,11 +13,7 @@ mod op;
 mod parts;
 
 pub use asked::{Asked, asks_for};
-pub use class::{
-    COLON, Class, DOT, END, HYPHEN, PLUS, begins_with, is_sign, rank_at, run_end, run_length,
-    split_byte, split_run,
-};
-pub use ends::{End, Ends, Kept, ends_of, ends_without_version};
+pub use ends::{Ends, ends_of, ends_without_version};
 pub use kind::Kind;
 pub use kinds::Kinds;
 pub use op::Op;

@@ -2,7 +2,7 @@
 
 ghost use Rattle.std.specs.Prelude.{◌≡◌, Some};
 ghost use Rattle.std.specs.Option.{option_map};
-ghost use Rattle.version_rules.specs.grammar.Front.{after_mark};
+ghost use Rattle.version_order.specs.texts.Front.{after_mark};
 ghost use Rattle.version_rules.specs.requirement.Op.{after_word, op_front, op_text};
 
 use std::fmt;

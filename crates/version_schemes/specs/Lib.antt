@@ -1,10 +1,3 @@
-pub mod any
-pub mod ByKey
-pub mod deb
-pub mod gem
-pub mod pypi
-pub mod rpm
-pub mod Kinds
+pub mod Flaw
 pub mod Scheme
-pub mod semver
-pub mod Texts
+pub mod any

@@ -2,22 +2,25 @@
 
 ghost use Rattle.std.specs.Prelude.{◌≡◌, ◌+◌, ◌≤◌, ◌++◌, None, length, IfSome, OnErr, OnOk};
 ghost use Rattle.std.specs.Option.{option_map};
-ghost use Rattle.version_texts.specs.key.Sinks.{put_at, saturated, IsWritten};
+ghost use Rattle.version_order.specs.keys.Sinks.{put_at, saturated, IsWritten};
 
 use std::alloc::AllocError;
-use version_rules::End;
-use version_texts::{Count, Keyed, Room};
+use version_order::{Count, Room, SchemeVersion, most_key_bytes};
 
 /// Writes the key of the version that a text is into a buffer from a place on, if it fits there, and returns the place
-/// after it, or None if the text is no version of the order. Does not allocate.
+/// after it, or None if the text is no version of the order.
 #[inline(always)]
-pub fn write_key<'t, V: Keyed<'t>>(text: &'t [u8], room: &mut [u8], start: usize) -> Option<usize>
-    ensures end { result ≡ option_map (λ v. saturated (start + length v.key)) (V.read_as text.now) }
-    ensures bytes { IfSome (V.read_as text.now) (λ v. IsWritten room.old start v.key room.new) }
-    ensures kept { V.read_as text.now ≡ None → room.new ≡ room.old }
+pub fn write_key<'t, V: SchemeVersion<'t>>(
+    text: &'t [u8],
+    room: &mut [u8],
+    start: usize,
+) -> Option<usize>
+    ensures end { result ≡ option_map (λ v. saturated (start + length v.key)) (V.rules.read_as text.now) }
+    ensures bytes { IfSome (V.rules.read_as text.now) (λ v. IsWritten room.old start v.key room.new) }
+    ensures kept { V.rules.read_as text.now ≡ None → room.new ≡ room.old }
 {
     let version = V::read(text)?;
-    if start.saturating_add(V::key_room(text.len())) <= room.len() {
+    if start.saturating_add(most_key_bytes::<V>(text.len())) <= room.len() {
         return Some(write_whole(&version, room, start));
     }
     Some(write_if_it_fits(&version, room, start))
@@ -25,24 +28,24 @@ pub fn write_key<'t, V: Keyed<'t>>(text: &'t [u8], room: &mut [u8], start: usize
 
 // Writes the key of a version into a buffer that has room for it from a place on, and returns the place after it.
 #[inline(always)]
-fn write_whole<'t, V: Keyed<'t>>(version: &V, room: &mut [u8], start: usize) -> usize
+fn write_whole<'t, V: SchemeVersion<'t>>(version: &V, room: &mut [u8], start: usize) -> usize
     requires { start + length (V.plain version.now).key ≤ length room.old }
     ensures end { result ≡ start + length (V.plain version.now).key }
     ensures bytes { room.new ≡ put_at room.old start (V.plain version.now).key }
 {
     let mut sink = Room { room, end: start };
-    version.put_end(End::Key, &mut sink);
+    version.put_key(&mut sink);
     sink.end
 }
 
 // Writes the key of a version into a buffer from a place on, if it fits there, and returns the place after it. Its bytes
 // are counted first.
-fn write_if_it_fits<'t, V: Keyed<'t>>(version: &V, room: &mut [u8], start: usize) -> usize
+fn write_if_it_fits<'t, V: SchemeVersion<'t>>(version: &V, room: &mut [u8], start: usize) -> usize
     ensures end { result ≡ saturated (start + length (V.plain version.now).key) }
     ensures bytes { IsWritten room.old start (V.plain version.now).key room.new }
 {
     let mut count = Count { length: start };
-    version.put_end(End::Key, &mut count);
+    version.put_key(&mut count);
     let end = count.length();
     if end <= room.len() {
         write_whole(version, room, start);
@@ -53,18 +56,21 @@ fn write_if_it_fits<'t, V: Keyed<'t>>(version: &V, room: &mut [u8], start: usize
 /// Appends the key of a version to a list. `Err` means allocation failure; the list is then unchanged. Never inlined, so
 /// that the call for the scheme mixed is.
 #[inline(never)]
-pub(crate) fn append_key<'t, V: Keyed<'t>>(version: V, list: &mut Vec<u8>) -> Result<(), AllocError>
-    ensures ok { OnOk result (list.new.items ≡ list.old.items ++ (V.plain version).key) }
+pub(crate) fn append_key<'t, V: SchemeVersion<'t>>(
+    version: &V,
+    list: &mut Vec<u8>,
+) -> Result<(), AllocError>
+    ensures ok { OnOk result (list.new.items ≡ list.old.items ++ (V.plain version.now).key) }
     ensures err { OnErr result (list.new.items ≡ list.old.items) }
 {
     let start = list.len();
     let mut count = Count { length: start };
-    version.put_end(End::Key, &mut count);
+    version.put_key(&mut count);
     let end = count.length();
     if end == usize::MAX {
         return Err(AllocError);
     }
     list.resize(end, 0)?;
-    write_whole(&version, list.as_mut_slice(), start);
+    write_whole(version, list.as_mut_slice(), start);
     Ok(())
 }

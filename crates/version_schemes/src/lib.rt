@@ -1,29 +1,20 @@
-//! The orders of other systems: each scheme is a set of texts and one order on them, with keys of bytes that compare as
-//! it does. A version is borrowed from its text, and `AnyVersion::append_key` alone
-//! allocates.
+//! The table of the schemes, and versions of any of them: what was read of a text, its order and its key, and why a text
+//! is none. Each scheme is a crate below. Only `AnyVersion::append_key` allocates.
 #![tactic(auto)]
 
 mod any;
-mod by_key;
-mod deb;
-mod gem;
+mod flaw;
 mod key;
 mod laws;
-mod pypi;
-mod rpm;
 mod scheme;
-mod semver;
-mod texts;
-mod version;
 
-pub use any::{AnyVersion, OtherVersion};
-pub use by_key::ByKey;
-pub use deb::Deb;
-pub use gem::Gem;
+pub use any::AnyVersion;
+pub use flaw::{Flaw, Mark, Reason, viable_length};
 pub use key::write_key;
-pub use pypi::Pypi;
-pub use rpm::Rpm;
 pub use scheme::Scheme;
-pub use semver::SemVer;
-pub use version::SchemeVersion;
+pub use scheme_deb::Deb;
+pub use scheme_gem::Gem;
+pub use scheme_pypi::Pypi;
+pub use scheme_rpm::Rpm;
+pub use scheme_semver::SemVer;
 pub use version_texts::VersioningRef;

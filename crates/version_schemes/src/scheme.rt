@@ -1,10 +1,18 @@
-//! The schemes, by their names and their numbers.
+//! The table of the schemes: all that goes by schemes goes over it.
 
 ghost use Rattle.std.specs.Prelude.{◌≡◌, Some, map};
 ghost use Rattle.std.specs.Array.Iter.{array_into_iter_items};
-ghost use Rattle.version_schemes.specs.Scheme.{aliases, all_schemes, is_named, numbered, scheme_name, scheme_named, scheme_number};
+ghost use Rattle.version_order.specs.Facts.{plain_facts};
+ghost use Rattle.version_schemes.specs.Scheme.{all_schemes, is_named, numbered, rules, scheme_named, scheme_number};
 
+use scheme_deb::Deb;
+use scheme_gem::Gem;
+use scheme_pypi::Pypi;
+use scheme_rpm::Rpm;
+use scheme_semver::SemVer;
 use std::array;
+use version_order::{Facts, SchemeVersion};
+use version_texts::VersioningRef;
 
 /// A scheme: which texts are versions, and how these compare.
 #[derive(Clone, Copy, Debug, PartialEq, Eq)]
@@ -23,82 +31,86 @@ pub enum Scheme {
     Gem,
 }
 
+/// The schemes, in the order of their numbers.
+const SCHEMES: [Scheme; 6] = [
+    Scheme::Mixed,
+    Scheme::Deb,
+    Scheme::Rpm,
+    Scheme::Pypi,
+    Scheme::SemVer,
+    Scheme::Gem,
+];
+
+/// Calls a function that is generic over versions with those of a scheme.
+#[macro_export]
+macro_rules! by_scheme {
+    ($scheme:expr, $call:ident($($argument:expr),*)) => {
+        match $scheme {
+            $crate::Scheme::Mixed => $call::<$crate::VersioningRef<'_>>($($argument),*),
+            $crate::Scheme::Deb => $call::<$crate::Deb<'_>>($($argument),*),
+            $crate::Scheme::Rpm => $call::<$crate::Rpm<'_>>($($argument),*),
+            $crate::Scheme::Pypi => $call::<$crate::Pypi<'_>>($($argument),*),
+            $crate::Scheme::SemVer => $call::<$crate::SemVer<'_>>($($argument),*),
+            $crate::Scheme::Gem => $call::<$crate::Gem<'_>>($($argument),*),
+        }
+    };
+}
+
 impl Scheme {
-    /// Returns its number, with which the form of a set begins. Does not allocate.
+    /// Returns what is fixed for it.
+    pub fn facts(self) -> Facts
+        ensures { plain_facts result ≡ (rules self).facts }
+    {
+        match self {
+            Scheme::Mixed => VersioningRef::facts(),
+            Scheme::Deb => Deb::facts(),
+            Scheme::Rpm => Rpm::facts(),
+            Scheme::Pypi => Pypi::facts(),
+            Scheme::SemVer => SemVer::facts(),
+            Scheme::Gem => Gem::facts(),
+        }
+    }
+
+    /// Returns its number, with which the form of a set begins.
     pub fn number(self) -> u8
         ensures number { result ≡ scheme_number self }
         ensures back { numbered result ≡ Some self }
     {
-        match self {
-            Scheme::Mixed => 1,
-            Scheme::Deb => 2,
-            Scheme::Rpm => 3,
-            Scheme::Pypi => 4,
-            Scheme::SemVer => 5,
-            Scheme::Gem => 6,
-        }
+        self.facts().number
     }
 
-    /// Returns the scheme that has a number, or None. Does not allocate.
+    /// Returns the scheme that has a number, or None.
     pub fn of_number(number: u32) -> Option<Scheme>
         ensures { result ≡ numbered number }
     {
-        match number {
-            1 => Some(Scheme::Mixed),
-            2 => Some(Scheme::Deb),
-            3 => Some(Scheme::Rpm),
-            4 => Some(Scheme::Pypi),
-            5 => Some(Scheme::SemVer),
-            6 => Some(Scheme::Gem),
-            _ => None,
+        if number == 0 {
+            return None;
         }
+        SCHEMES.get(number as usize - 1).copied()
     }
 
-    /// Returns its name, as package-url has it, and `mixed`. Does not allocate.
+    /// Returns its name, as package-url has it, and `mixed`.
     pub fn name(self) -> &'static str
-        ensures { result.now ≡ scheme_name self }
+        ensures { result.now ≡ (rules self).facts.name }
     {
-        match self {
-            Scheme::Mixed => "mixed",
-            Scheme::Deb => "deb",
-            Scheme::Rpm => "rpm",
-            Scheme::Pypi => "pypi",
-            Scheme::SemVer => "semver",
-            Scheme::Gem => "gem",
-        }
+        self.facts().name
     }
 
-    /// Returns what else people call it, such as `debian`. Does not allocate.
+    /// Returns what else people call it, such as `debian`.
     pub fn aliases(self) -> &'static [&'static str]
-        ensures { map (λ name. name.now) result.now ≡ aliases self }
+        ensures { map (λ name. name.now) result.now ≡ (rules self).facts.aliases }
     {
-        match self {
-            Scheme::Mixed => &[],
-            Scheme::Deb => &["debian", "ubuntu"],
-            Scheme::Rpm => &["redhat", "fedora", "suse"],
-            Scheme::Pypi => &["python", "pip", "pep440"],
-            Scheme::SemVer => &["npm", "cargo", "crates.io"],
-            Scheme::Gem => &["rubygems", "ruby"],
-        }
+        self.facts().aliases
     }
 
-    /// Returns the schemes, in the order of their numbers. Does not allocate.
+    /// Returns the schemes, in the order of their numbers.
     pub fn all() -> array::IntoIter<Scheme, 6>
         ensures { array_into_iter_items result ≡ all_schemes }
     {
-        [
-            Scheme::Mixed,
-            Scheme::Deb,
-            Scheme::Rpm,
-            Scheme::Pypi,
-            Scheme::SemVer,
-            Scheme::Gem,
-        ]
-        .into_iter()
+        SCHEMES.into_iter()
     }
 
-    /// Returns the scheme that a text names, by its name or an alias, in upper or lower case, or None. Does not
-    /// allocate.
+    /// Returns the scheme that a text names, by its name or an alias, in upper or lower case, or None.
     pub fn of_name(name: &[u8]) -> Option<Scheme>
         ensures { result ≡ scheme_named name.now }
     {
@@ -126,19 +138,4 @@ impl Scheme {
         }
         false
     }
-}
-
-/// Calls a function that is generic over the versions of an order with those of a scheme.
-#[macro_export]
-macro_rules! by_scheme {
-    ($scheme:expr, $call:ident($($argument:expr),*)) => {
-        match $scheme {
-            $crate::Scheme::Mixed => $call::<$crate::VersioningRef<'_>>($($argument),*),
-            $crate::Scheme::Deb => $call::<$crate::ByKey<$crate::Deb<'_>>>($($argument),*),
-            $crate::Scheme::Rpm => $call::<$crate::ByKey<$crate::Rpm<'_>>>($($argument),*),
-            $crate::Scheme::Pypi => $call::<$crate::ByKey<$crate::Pypi<'_>>>($($argument),*),
-            $crate::Scheme::SemVer => $call::<$crate::ByKey<$crate::SemVer<'_>>>($($argument),*),
-            $crate::Scheme::Gem => $call::<$crate::ByKey<$crate::Gem<'_>>>($($argument),*),
-        }
-    };
 }

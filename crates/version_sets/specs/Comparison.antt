@@ -1,14 +1,14 @@
 -- The comparisons of members: the words for them, and the ends of what they hold.
 use Rattle.std.specs.Prelude.{◌==◌, ◌&&◌, ℕ, Bool, true, false, List, [], ◌∷◌, codes, if◌then◌else◌, map, Option, Some, None}
 use Rattle.std.specs.Option.{option_map, option_or}
-use Rattle.version_rules.specs.declared.ends.End.{End}
-use Rattle.version_rules.specs.declared.ends.End.TheVariants.{AboveBegun, AfterKey, Begun, Key, Lowest}
-use Rattle.version_rules.specs.declared.ends.Kept.TheVariants.{All, ButLastOrOnly, ThroughOther}
-use Rattle.version_rules.specs.grammar.Front.{Front}
+use Rattle.version_order.specs.declared.ends.End.{End}
+use Rattle.version_order.specs.declared.ends.End.TheVariants.{AboveBegun, AfterKey, Begun, Key, Lowest}
+use Rattle.version_order.specs.declared.ends.Kept.TheVariants.{All, ButLastOrOnly, ThroughOther}
+use Rattle.version_order.specs.texts.Front.{Front}
 use Rattle.version_rules.specs.requirement.Op.{after_word}
-use Rattle.version_texts.specs.declared.keyed.Words.{Words}
-use Rattle.version_texts.specs.declared.keyed.Words.TheVariants.{Doubled, Parts}
-use Rattle.version_texts.specs.keyed.Keyed.{PlainKeyed, end_of}
+use Rattle.version_order.specs.declared.facts.Operators.{Operators}
+use Rattle.version_order.specs.declared.facts.Operators.TheVariants.{Doubled, Parts}
+use Rattle.version_order.specs.Keyed.{PlainKeyed, end_of}
 use Rattle.version_sets.specs.declared.read.comparison.Comparison.{Comparison}
 use Rattle.version_sets.specs.declared.read.comparison.Comparison.TheVariants as comparison
 
@@ -79,11 +79,11 @@ asks_bare comparison.NotPrefix = true
 asks_bare other = false
 
 -- whether sets have the comparisons by parts, and those with a doubled sign
-abbrev pub has_parts : Words → Bool
+abbrev pub has_parts : Operators → Bool
 has_parts Parts = true
 has_parts other = false
 
-abbrev pub has_doubled : Words → Bool
+abbrev pub has_doubled : Operators → Bool
 has_doubled Doubled = true
 has_doubled other = false
 

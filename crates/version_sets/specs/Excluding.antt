@@ -1,7 +1,7 @@
 -- Which members of a set leave a key out.
 use Rattle.std.specs.Prelude.{◌≡◌, ◌+◌, ◌≤◌, ⊤, ℕ, suc, List, [], ◌∷◌, if◌then◌else◌, length, Option, Some, None}
-use Rattle.version_texts.specs.declared.keyed.Words.{Words}
-use Rattle.version_texts.specs.keyed.Keyed.{PlainKeyed}
+use Rattle.version_order.specs.declared.facts.Operators.{Operators}
+use Rattle.version_order.specs.Keyed.{PlainKeyed}
 use Rattle.version_sets.specs.Ends.{has}
 use Rattle.version_sets.specs.Pieces.{pieces}
 use Rattle.version_sets.specs.Reading.{Member, Reading, Right, pieces_room, read_pieces}
@@ -52,7 +52,7 @@ abbrev pub room_left : (ℕ → ℕ) → Option Pieces → ℕ
 room_left most None = 0
 room_left most (Some left) = pieces_room most (pieces left.place left.left.now)
 
-module _ (read_as : List ℕ → Option PlainKeyed) (words : Words) where
+module _ (read_as : List ℕ → Option PlainKeyed) (words : Operators) where
   -- what is left of a text in a state is read as
   abbrev pub left_read : State → Pieces → Reading
   left_read state left =

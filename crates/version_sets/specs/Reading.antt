@@ -4,8 +4,8 @@ use Rattle.std.specs.List.{list_all, list_any}
 use Rattle.std.specs.declared.result.Result.{Result}
 use Rattle.std.specs.declared.result.Result.TheVariants.{Err, Ok}
 use Rattle.version_sets.specs.declared.read.slip.Slip.{Slip as Slips}
-use Rattle.version_texts.specs.declared.keyed.Words.{Words}
-use Rattle.version_texts.specs.keyed.Keyed.{PlainKeyed}
+use Rattle.version_order.specs.declared.facts.Operators.{Operators}
+use Rattle.version_order.specs.Keyed.{PlainKeyed}
 use Rattle.version_sets.specs.Comparison.{asks_bare, asks_doubled, asks_parts, before_star, ends_with, has_doubled, has_parts, starred}
 use Rattle.version_sets.specs.Ends.{has}
 use Rattle.version_sets.specs.Pieces.{PlainPiece, Word, pieces}
@@ -61,7 +61,7 @@ abbrev pub plain_asked : {V : Type 0} → (V → PlainKeyed) → Result (Compari
 plain_asked plain (Ok pair) = With pair.0 (plain pair.1)
 plain_asked plain (Err reason) = Not reason
 
-module _ (read_as : List ℕ → Option PlainKeyed) (words : Words) where
+module _ (read_as : List ℕ → Option PlainKeyed) (words : Operators) where
   -- whether a comparison may be with a version
   abbrev pub allowed : Comparison → PlainKeyed → Asked
   allowed c version =

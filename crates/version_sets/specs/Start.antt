@@ -1,6 +1,6 @@
 -- The first bytes of what is written.
 use Rattle.std.specs.Prelude.{◌+◌, ℕ, List, length}
-use Rattle.version_texts.specs.key.Sinks.{put_at, saturated}
+use Rattle.version_order.specs.keys.Sinks.{put_at, saturated}
 use Rattle.version_sets.specs.declared.start.Start.{Start}
 
 -- what bytes there are after more, and how many were written

@@ -2,7 +2,7 @@
 use Rattle.std.specs.Prelude.{◌≡◌, ℕ, Bool, true, List, ◌∷◌, Option, Some, None}
 use Rattle.std.specs.List.{concat, flat_map}
 use Rattle.std.specs.Ordering.{is_lt}
-use Rattle.version_rules.specs.order.Lists.{bytes_cmp}
+use Rattle.version_order.specs.keys.Lists.{bytes_cmp}
 use Rattle.version_sets.specs.Ends.{Rise}
 use Rattle.version_sets.specs.Form.{number, places}
 

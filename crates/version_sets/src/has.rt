@@ -1,14 +1,13 @@
 //! Whether a set has a key.
 
 ghost use Rattle.std.specs.Prelude.{◌≡◌, List, ℕ};
-ghost use Rattle.version_rules.specs.order.Lists.{bytes_cmp};
+ghost use Rattle.version_order.specs.keys.Lists.{bytes_cmp};
 ghost use Rattle.version_sets.specs.Ends.{has, Rise};
 
 use crate::form::Form;
 use crate::start::Start;
 use std::cmp::Ordering;
-use version_rules::End;
-use version_texts::{Keyed, compare_bytes};
+use version_order::{SchemeVersion, compare_bytes};
 
 // With more ends than these, writing a key costs less than comparing it off its text with each end.
 const FEW: usize = 4;
@@ -38,7 +37,7 @@ impl<'t> Key<'t> for Written<'t> {
 #[derive(Drop)]
 struct Unwritten<V>(V);
 
-impl<'t, V: Keyed<'t>> Key<'t> for Unwritten<V> {
+impl<'t, V: SchemeVersion<'t>> Key<'t> for Unwritten<V> {
     ghost key = { λ unwritten. (V.plain unwritten.0).key };
 
     #[inline(always)]
@@ -52,12 +51,12 @@ impl<'a> Form<'a> {
 
     /// Returns whether the set has the key of a version: whether an odd number of its ends is not above the key. Reads as
     /// many ends as the logarithm of their number. Does not allocate.
-    pub fn has<'t, V: Keyed<'t>>(&self, version: &V) -> bool
+    pub fn has<'t, V: SchemeVersion<'t>>(&self, version: &V) -> bool
         ensures { Rise (ends_of self.now) → result ≡ has (ends_of self.now) (V.plain version.now).key }
     {
         if self.count() > FEW {
             let mut start = Start::new();
-            version.put_end(End::Key, &mut start);
+            version.put_key(&mut start);
             if let Some(key) = start.whole() {
                 return self.has_key(&Written(key));
             }

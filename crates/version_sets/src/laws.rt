@@ -12,9 +12,9 @@ ghost use Rattle.version_sets.specs.Reading.{set_has, Member};
 ghost use Rattle.version_sets.specs.Members.{AreByOrder, BeginsWith};
 ghost use Rattle.version_sets.specs.Merge.{merged};
 ghost use Rattle.version_sets.specs.declared.read.comparison.Comparison.TheVariants.{Caret, NotPrefix, Prefix, Tilde};
-ghost use Rattle.version_texts.specs.keyed.Mixed.{mixed};
+ghost use Rattle.version_texts.specs.Mixed.{mixed};
 
-use version_texts::Keyed;
+use version_order::SchemeVersion;
 
 // Sets that hold the same keys have the same ends. What a rule makes of two sets, by which a key in neither is not in
 // it, has the ends that their merge gives.
@@ -26,7 +26,7 @@ fn sets()
 {}
 
 // In each order a comparison with a version holds what the order says of the two.
-fn comparisons<'t, V: Keyed<'t>>()
+fn comparisons<'t, V: SchemeVersion<'t>>()
     ensures { (version other : V) → AreByOrder (V.order version other)
         (λ c. has (ends_with c (V.plain other)) (V.plain version).key) }
 {}

@@ -5,7 +5,7 @@ ghost use Rattle.version_sets.specs.Form.{ends_in};
 
 use crate::form::Form;
 use std::cmp::Ordering;
-use version_texts::compare_bytes;
+use version_order::compare_bytes;
 
 /// Whether a set that is made of two has what the one has or not, and the other has or not.
 #[derive(Clone, Copy)]

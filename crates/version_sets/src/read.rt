@@ -4,7 +4,8 @@ ghost use Rattle.std.specs.Prelude.{◌≡◌, ◌∷◌, ◌<◌, length, IfErr
 ghost use Rattle.version_sets.specs.Reading.{piece_room, read_set, set_has, set_room, Member, Right};
 ghost use Rattle.version_sets.specs.Pieces.{plain_piece};
 ghost use Rattle.version_sets.specs.Reader.{IsUnread, IsWrittenSet};
-ghost use Rattle.version_texts.specs.key.Sinks.{saturated};
+ghost use Rattle.version_order.specs.Facts.{key_room};
+ghost use Rattle.version_order.specs.keys.Sinks.{saturated};
 
 pub(crate) mod comparison;
 pub(crate) mod excluding;
@@ -21,7 +22,7 @@ use crate::read::fault::Fault;
 use crate::read::pieces::{Piece, Pieces};
 use crate::read::reader::Reader;
 use crate::read::steps::State;
-use version_texts::Keyed;
+use version_order::{SchemeVersion, most_key_bytes};
 
 /// Why no set was written.
 #[derive(Clone, Copy, Debug, PartialEq, Eq)]
@@ -34,8 +35,8 @@ pub enum Unread {
 
 /// Returns a size of room in which a set of an order is read from a text, whatever it is. It is linear in the text.
 /// Does not allocate.
-pub fn set_room<'t, V: Keyed<'t>>(text: &[u8]) -> usize
-    ensures { result ≡ saturated (set_room V.most text.now) }
+pub fn set_room<'t, V: SchemeVersion<'t>>(text: &[u8]) -> usize
+    ensures { result ≡ saturated (set_room (key_room V.rules.facts) text.now) }
 {
     let mut pieces = Pieces {
         left: text,
@@ -49,11 +50,11 @@ pub fn set_room<'t, V: Keyed<'t>>(text: &[u8]) -> usize
 }
 
 // Returns how many bytes a member with a piece for its version has at most.
-pub(crate) fn piece_room<'t, V: Keyed<'t>>(piece: Piece<'_>) -> usize
-    ensures { result ≡ saturated (piece_room V.most (plain_piece piece.entry)) }
+pub(crate) fn piece_room<'t, V: SchemeVersion<'t>>(piece: Piece<'_>) -> usize
+    ensures { result ≡ saturated (piece_room (key_room V.rules.facts) (plain_piece piece.entry)) }
 {
     match piece {
-        Piece::Word(word) => V::key_room(word.len())
+        Piece::Word(word) => most_key_bytes::<V>(word.len())
             .saturating_add(9)
             .saturating_mul(3)
             .saturating_add(9),
@@ -68,19 +69,17 @@ pub(crate) fn piece_room<'t, V: Keyed<'t>>(piece: Piece<'_>) -> usize
 /// spaces or tabs between them, and has what all of them have. A member is `*`, which has all, or an operator and a
 /// version, or `=`, `==` or `!=` and a version with `.*` behind it (`Comparison`). Spaces and tabs may stand around
 /// each. Takes time linear in the text times the logarithm of the number of its members. Does not allocate.
-pub fn read_set<'t, V: Keyed<'t>>(
+pub fn read_set<'t, V: SchemeVersion<'t>>(
     order: u8,
     text: &'t [u8],
     room: &mut [u8],
 ) -> Result<usize, Unread>
     ensures ok { IfOk result (λ size. (first : List Member) × (others : List (List Member))
-        × (read_set V.read_as V.words text.now ≡ Right first others)
+        × (read_set V.rules.read_as V.rules.facts.operators text.now ≡ Right first others)
         × IsWrittenSet room.new order size (set_has (first ∷ others))) }
-    ensures wrong { IfErr result (λ unread. IsUnread unread (read_set V.read_as V.words text.now)
-        (length room.old < set_room V.most text.now)) }
+    ensures wrong { IfErr result (λ unread. IsUnread unread (read_set V.rules.read_as V.rules.facts.operators text.now)
+        (length room.old < set_room (key_room V.rules.facts) text.now)) }
 {
-    // Called for what it promises of every text.
-    V::key_room(0);
     let mut pieces = Pieces {
         left: text,
         place: 0,

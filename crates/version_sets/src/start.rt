@@ -1,9 +1,9 @@
 //! A sink that keeps the first bytes written to it.
 
 ghost use Rattle.std.specs.Prelude.{◌≡◌, ◌≤◌, ◌∷◌, [], ⊤, length, replicate, IfSome, IsSome, List, ℕ};
-ghost use Rattle.version_texts.specs.key.Sinks.{leads_both, leads_none, Leads};
+ghost use Rattle.version_order.specs.keys.Sinks.{leads_both, leads_none, Leads};
 
-use version_texts::Sink;
+use version_order::Sink;
 
 // How many bytes are kept: the keys of most versions are shorter.
 const KEPT: usize = 64;

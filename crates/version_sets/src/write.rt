@@ -4,7 +4,7 @@ ghost use Rattle.std.specs.Prelude.{◌≡◌, ◌∷◌, ◌++◌, ◌*◌, ◌
 ghost use Rattle.std.specs.List.{concat, flat_map};
 ghost use Rattle.version_sets.specs.Form.{form_bytes, number, places};
 ghost use Rattle.version_sets.specs.Set.{left};
-ghost use Rattle.version_texts.specs.key.Sinks.{put_at, saturated, IsWritten};
+ghost use Rattle.version_order.specs.keys.Sinks.{put_at, saturated, IsWritten};
 
 use crate::merge::Merge;
 

@@ -4,11 +4,12 @@ use Rattle.std.specs.Fmt.{decimal}
 use Rattle.std.specs.List.{list_all}
 use Rattle.std.specs.Option.{option_map, option_map_or}
 use Rattle.std.specs.declared.cmp.Ordering.TheVariants.{Greater}
-use Rattle.version_rules.specs.grammar.Bytes.{dot, hyphen, is_identifier_byte}
+use Rattle.version_order.specs.texts.Bytes.{dot, hyphen, is_identifier_byte}
 use Rattle.version_rules.specs.grammar.Chunk.{PlainChunk, Numeric}
 use Rattle.version_rules.specs.grammar.SemVer.{PlainSemVer}
 use Rattle.version_rules.specs.order.ReleaseOrder.{release_cmp}
-use Rattle.version_texts.specs.key.TextKey.{chunks_of, pieces}
+use Rattle.version_texts.specs.key.TextKey.{chunks_of}
+use Rattle.version_order.specs.texts.Pieces.{pieces}
 use Rattle.version_texts.specs.scan.TextKind.{is_chunk}
 
 -- whether a text is the chunks of a release

@@ -1,7 +1,7 @@
 -- The text of a version that comes next.
 use Rattle.std.specs.Prelude.{◌==◌, ℕ, zero, suc, Bool, false, List, [], ◌∷◌, ◌++◌, Option, Some, None}
 use Rattle.std.specs.Fmt.{decimal}
-use Rattle.version_rules.specs.grammar.Bytes.{dot}
+use Rattle.version_order.specs.texts.Bytes.{dot}
 use Rattle.version_texts.specs.versioning_ref.Numbers.{numeral_value}
 
 -- whether a text is the numeral 0

@@ -5,8 +5,8 @@ use Rattle.std.specs.Char.{is_ascii_alphabetic, is_ascii_alphanumeric, is_ascii_
 use Rattle.std.specs.List.{list_any, prefix_len, slice_split, take_while}
 use Rattle.std.specs.Option.{unwrap_or}
 use Rattle.std.specs.Str.{str_eq_ignore_ascii_case}
-use Rattle.version_rules.specs.grammar.DigitRun.{is_digits}
-use Rattle.version_rules.specs.grammar.Front.{begins}
+use Rattle.version_order.specs.texts.DigitRun.{is_digits}
+use Rattle.version_order.specs.texts.Front.{begins}
 use Rattle.version_rules.specs.grammar.Mess.{mess_text}
 use Rattle.version_rules.specs.grammar.SemVer.{semver_text}
 use Rattle.version_rules.specs.grammar.Version.{version_text}
@@ -14,7 +14,7 @@ use Rattle.version_rules.specs.grammar.Versioning.{PlainVersioning, Ideal, Gener
 use Rattle.version_tasks.specs.declared.stability.Stability.{Stability}
 use Rattle.version_tasks.specs.declared.stability.Stability.TheVariants.{Dev, Alpha, Beta, Rc, Stable}
 use Rattle.version_texts.specs.versioning_ref.Field.{bare_semver, bare_version, field_text}
-use Rattle.version_texts.specs.order.Piece.{first_piece}
+use Rattle.version_order.specs.texts.Pieces.{first_piece}
 use Rattle.version_texts.specs.declared.versioning_ref.field.Field.TheVariants as field
 
 -- the place of a stability in the order, from the least stable on

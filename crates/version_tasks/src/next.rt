@@ -6,15 +6,16 @@ ghost use Rattle.version_rules.specs.grammar.Versioning.{is_prerelease, versioni
 ghost use Rattle.version_tasks.specs.Next.{IsNext, NoNext, last_place};
 ghost use Rattle.version_tasks.specs.NextRef.{plain_next};
 ghost use Rattle.version_tasks.specs.NextText.{is_zero};
-ghost use Rattle.version_texts.specs.order.Piece.{further_pieces, is_dot};
-ghost use Rattle.version_texts.specs.key.TextKey.{pieces};
+ghost use Rattle.version_order.specs.texts.Pieces.{further_pieces, is_dot};
+ghost use Rattle.version_order.specs.texts.Pieces.{pieces};
 ghost use Rattle.version_texts.specs.scan.TextKind.{is_numeral};
 ghost use Rattle.version_texts.specs.versioning_ref.VersioningRef.{plain_versioning_ref};
 
 mod text;
 
 pub use text::Next;
-use version_texts::{VersioningRef, from_piece, numeral_value, spells_numeral, split_piece};
+use version_order::split_piece;
+use version_texts::{VersioningRef, from_piece, numeral_value, spells_numeral};
 
 /// Returns the version that comes next after another at a place, counted from 0: the least one after it of the same kind
 /// and epoch, with as many numbers, the same ones before the place and zeros after it, and without pre-release, release

@@ -4,17 +4,18 @@ ghost use Rattle.std.specs.Prelude.{◌≡◌, ◌≤◌, ◌<◌, ◌^◌, ◌�
 ghost use Rattle.std.specs.List.{list_all};
 ghost use Rattle.std.specs.Option.{option_map};
 ghost use Rattle.std.specs.declared.cmp.Ordering.TheVariants.{Less};
-ghost use Rattle.version_rules.specs.grammar.Bytes.{dot, is_identifier_byte};
+ghost use Rattle.version_order.specs.texts.Bytes.{dot, is_identifier_byte};
 ghost use Rattle.version_rules.specs.grammar.Chunk.{Numeric, PlainChunk};
-ghost use Rattle.version_rules.specs.grammar.Front.{begins};
+ghost use Rattle.version_order.specs.texts.Front.{begins};
 ghost use Rattle.version_rules.specs.grammar.Versioning.{is_prerelease, versioning_of, versioning_text};
 ghost use Rattle.version_rules.specs.order.ReleaseOrder.{release_cmp};
 ghost use Rattle.version_tasks.specs.NextPre.{AreNamed, IsNextPre, NoNextPre};
 ghost use Rattle.version_tasks.specs.NextPreRef.{plain_next_pre};
 ghost use Rattle.version_tasks.specs.NextPreText.{is_own, is_release, is_word, own_chunks, word_chunks, word_text, IsLeastNumber, IsPlace, NonePass};
 ghost use Rattle.version_texts.specs.key.TextKey.{chunks_of};
-ghost use Rattle.version_texts.specs.order.Piece.{is_dot};
-ghost use Rattle.version_texts.specs.scan.TextKind.{is_chunk, is_run};
+ghost use Rattle.version_order.specs.texts.Pieces.{is_dot};
+ghost use Rattle.version_texts.specs.scan.TextKind.{is_chunk};
+ghost use Rattle.version_order.specs.texts.Front.{is_run};
 ghost use Rattle.version_texts.specs.versioning_ref.Field.{field_text};
 ghost use Rattle.version_texts.specs.versioning_ref.VersioningRef.{plain_versioning_ref};
 ghost use Rattle.version_texts.specs.declared.versioning_ref.field.Field.TheVariants.{PreRelease};
@@ -25,10 +26,9 @@ use crate::next::successor;
 use crate::stability::pre_release_text;
 use std::cmp::Ordering;
 pub use text::NextPre;
-use version_rules::{Class, Kind, split_run};
-use version_texts::{
-    VersioningRef, compare_releases, is_digits, numeral_value, spells_numeral, split_piece,
-};
+use version_order::{Class, is_digits, split_piece, split_run};
+use version_rules::Kind;
+use version_texts::{VersioningRef, compare_releases, numeral_value, spells_numeral};
 
 /// Returns the pre-release that comes next after a strict version: the least version after it with the same major and
 /// minor numbers, a word and then one number from 1 on as pre-release, and without metadata. A word is one chunk or

@@ -5,13 +5,13 @@ ghost use Rattle.std.specs.Prelude.{◌≡◌, ◌≤◌, length, map};
 ghost use Rattle.std.specs.Char.{is_ascii_alphabetic, is_ascii_alphanumeric, is_ascii_digit};
 ghost use Rattle.std.specs.List.{list_any, prefix_len};
 ghost use Rattle.std.specs.Str.{str_eq_ignore_ascii_case};
-ghost use Rattle.version_rules.specs.grammar.DigitRun.{is_digits};
+ghost use Rattle.version_order.specs.texts.DigitRun.{is_digits};
 ghost use Rattle.version_tasks.specs.Stability.{counted_text, is_early, is_early_access, is_milestone, is_revision, is_short, lower, lowest, of_letter, of_lettered, of_run, of_text, of_word, pre_release_text, runs, stability_of};
-ghost use Rattle.version_texts.specs.order.Piece.{first_piece};
+ghost use Rattle.version_order.specs.texts.Pieces.{first_piece};
 ghost use Rattle.version_texts.specs.versioning_ref.VersioningRef.{plain_versioning_ref};
 
-use version_rules::{Class, split_run};
-use version_texts::{Field, VersioningRef, is_digits, split_piece};
+use version_order::{Class, is_digits, split_piece, split_run};
+use version_texts::{Field, VersioningRef};
 
 /// How stable a version is, from the least stable to the most.
 #[derive(Clone, Copy, Debug, PartialEq, Eq, PartialOrd, Ord)]

@@ -7,7 +7,7 @@ ghost use Rattle.version_tasks.specs.Tag.{is_separator, text_after_prefix, text_
 ghost use Rattle.version_tasks.specs.AfterSeparator.{after_separator};
 ghost use Rattle.version_texts.specs.versioning_ref.VersioningRef.{plain_versioning_ref};
 
-use version_rules::{Class, begins_with};
+use version_order::{Class, begins_with};
 use version_texts::VersioningRef;
 
 /// Returns the version in a tag, or in another name of a release. It begins at the first digit that stands at the

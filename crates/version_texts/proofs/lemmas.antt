@@ -1,5 +1,6 @@
+pub mod Mixed
+pub mod Viable
 pub mod key
-pub mod keyed
 pub mod order
 pub mod requirement
 pub mod scan

@@ -1,4 +1,3 @@
 pub mod KeyRoom
 pub mod KeyTies
-pub mod Sinks
 pub mod TextKey

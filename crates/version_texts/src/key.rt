@@ -4,91 +4,30 @@ ghost use Rattle.std.specs.Prelude.{◌≡◌, ◌==◌, false, ◌∷◌, ◌-�
 ghost use Rattle.std.specs.Char.{is_ascii_alphanumeric, is_ascii_digit};
 ghost use Rattle.std.specs.List.{list_all, prefix_len, take_while};
 ghost use Rattle.std.specs.Str.Parse.{digits_value};
-ghost use Rattle.version_rules.specs.grammar.Bytes.{dot, is_identifier_byte, is_metadata_byte};
-ghost use Rattle.version_rules.specs.key.Codes.{items_bytes, list_bytes};
-ghost use Rattle.version_rules.specs.grammar.DigitRun.{run_value};
-ghost use Rattle.version_rules.specs.grammar.Front.{begins};
-ghost use Rattle.version_rules.specs.key.NumberBytes.{length_bytes, number_bytes};
+ghost use Rattle.version_order.specs.texts.Bytes.{dot, is_identifier_byte, is_metadata_byte, is_section_byte};
+ghost use Rattle.version_order.specs.keys.Codes.{items_bytes, list_bytes};
+ghost use Rattle.version_order.specs.texts.DigitRun.{run_value};
+ghost use Rattle.version_order.specs.texts.Front.{begins};
+ghost use Rattle.version_order.specs.keys.NumberBytes.{length_bytes, number_bytes};
 ghost use Rattle.version_rules.specs.key.PartKey.{part_bytes, part_key, parts_bytes};
 ghost use Rattle.version_rules.specs.order.ReleaseOrder.{chunk_bytes, release_bytes};
 ghost use Rattle.version_rules.specs.key.Split.{split_bytes, split_of};
 ghost use Rattle.version_rules.specs.key.KeyBytes.{key_bytes};
 ghost use Rattle.version_rules.specs.requirement.Range.{begun};
 ghost use Rattle.version_rules.specs.key.Tail.{section_bytes, tail_bytes};
-ghost use Rattle.version_rules.specs.grammar.Class.{contains};
+ghost use Rattle.version_order.specs.texts.Class.{contains};
 ghost use Rattle.version_texts.specs.order.Parts.{parts_behind};
-ghost use Rattle.version_texts.specs.scan.Shape.{body_in, epoch_in, is_section_byte, is_tail_byte, tail_in, Fits};
+ghost use Rattle.version_texts.specs.scan.Shape.{body_in, epoch_in, is_tail_byte, tail_in, Fits};
 ghost use Rattle.version_texts.specs.key.TextKey.{chunk_of, chunks_of, front_bytes, parts_of, sections_of, tail_of, text_key};
 
 pub(crate) mod length;
-pub(crate) mod sink;
-pub(crate) mod sinks;
 pub(crate) mod ties;
 pub(crate) mod whole;
 
-use crate::key::sink::{Sink, put_all};
-use crate::order::digits::{one_digit, without_zeros};
-use crate::order::piece::after_mark;
 use crate::scan::shape::{Shape, TailKind};
-use version_rules::{Class, begins_with, split_byte, split_run};
-
-// Writes a length.
-#[inline(always)]
-fn put_length<S: Sink>(sink: &mut S, length: usize)
-    requires { S.fits sink.old (length_bytes length) }
-    ensures { S.takes sink.old (length_bytes length) sink.new }
-{
-    let mut left = length;
-    while left >= 255 {
-        sink.put(255);
-        left -= 255;
-    }
-    sink.put(left as u8);
-}
-
-// Writes the run of a class at the start of a text, and returns the rest.
-#[inline(always)]
-fn put_run<'t, S: Sink>(sink: &mut S, text: &'t [u8], class: Class) -> &'t [u8]
-    requires { S.fits sink.old (take_while (contains class) text.now) }
-    ensures bytes { S.takes sink.old (take_while (contains class) text.now) sink.new }
-    ensures rest { result.now ≡ drop (prefix_len (contains class) text.now) text.now }
-{
-    let mut left = text;
-    while let Some((first, rest)) = split_byte(left, class) {
-        sink.put(first);
-        left = rest;
-    }
-    left
-}
-
-/// Writes the number at the start of a text, 0 where it begins with no digit, and returns the rest. Does not allocate.
-#[inline(always)]
-pub fn put_number<'t, S: Sink>(sink: &mut S, text: &'t [u8]) -> &'t [u8]
-    requires { S.fits sink.old (number_bytes (run_value text.now)) }
-    ensures bytes { S.takes sink.old (number_bytes (run_value text.now)) sink.new }
-    ensures rest { result.now ≡ drop (prefix_len is_ascii_digit text.now) text.now }
-{
-    // Most numbers have one digit, which takes no loop.
-    if let Some((digit, rest)) = one_digit(text) {
-        sink.put(1);
-        sink.put(digit);
-        return rest;
-    }
-    put_long_number(sink, text)
-}
-
-// Writes the number at the start of a text, of any length, and returns the rest.
-#[inline(always)]
-fn put_long_number<'t, S: Sink>(sink: &mut S, text: &'t [u8]) -> &'t [u8]
-    requires { S.fits sink.old (number_bytes (run_value text.now)) }
-    ensures bytes { S.takes sink.old (number_bytes (run_value text.now)) sink.new }
-    ensures rest { result.now ≡ drop (prefix_len is_ascii_digit text.now) text.now }
-{
-    let number = without_zeros(text);
-    let (digits, _) = split_run(number, Class::Digit);
-    put_length(sink, digits.len());
-    put_run(sink, number, Class::Digit)
-}
+use version_order::{
+    Class, Sink, after_byte, begins_with, put_all, put_long_number, put_number, put_run, split_run,
+};
 
 // Writes the run of letters and digits at the start of a text, split before its first digit, and returns the rest.
 #[inline(always)]
@@ -153,7 +92,7 @@ fn put_parts<'t, S: Sink>(sink: &mut S, text: &'t [u8]) -> Option<&'t [u8]>
         if sink.is_decided() {
             return None;
         }
-        match after_mark(b'.', rest) {
+        match after_byte(b'.', rest) {
             Some(behind) => left = behind,
             None => return Some(rest),
         }

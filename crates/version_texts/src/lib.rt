@@ -5,24 +5,19 @@
 #![tactic(auto)]
 
 mod key;
-mod keyed;
 mod laws;
+mod mixed;
 mod order;
 mod requirement;
 mod scan;
 mod versioning_ref;
+mod viable;
 
 pub use key::length::room_for;
-pub use key::sink::{Sink, put_all};
-pub use key::sinks::{Beside, Count, Room};
+pub use key::put_release;
 pub use key::ties::{compare_key_ties, mark_kind, marked_kind, marked_number};
-pub use key::{put_number, put_release};
-pub use keyed::{Keyed, Words};
 pub use order::difference::Difference;
-pub use order::digits::{compare_if_numbers, compare_numbers};
-pub use order::piece::split_piece;
 pub use order::release::compare_releases;
-pub use order::run::Compared;
 pub use requirement::conflict::{Conflict, Span, conflict_in};
 pub use requirement::inexact::write_inexact;
 pub use requirement::members::text_between;
@@ -30,8 +25,7 @@ pub use requirement::range_ref::{Bound, RangeRef};
 pub use requirement::requirement_ref::RequirementRef;
 pub use requirement::requirements_ref::{RequirementsRef, list_matches, wrong_member};
 pub use requirement::why::{Excluded, Why, why_not};
-pub use scan::bytes::{compare_bytes, first_eight};
-pub use scan::numeral::{is_digits, numeral_value, spells_numeral};
+pub use scan::numeral::{numeral_value, spells_numeral};
 pub use versioning_ref::VersioningRef;
 pub use versioning_ref::field::Field;
 pub use versioning_ref::numbers::{LARGEST_EPOCH, from_piece};

@@ -10,20 +10,18 @@ ghost use Rattle.version_texts.specs.key.TextKey.{tail_of, text_key};
 
 pub(crate) mod delimiters;
 pub(crate) mod difference;
-pub(crate) mod digits;
 pub(crate) mod list;
 pub(crate) mod part;
-pub(crate) mod piece;
 pub(crate) mod release;
 pub(crate) mod run;
 pub(crate) mod ties;
 
 use crate::key::{body_at, epoch_at, tail_at};
-use crate::order::digits::compare_numbers;
 use crate::order::list::{compare_parts, compare_sections};
 use crate::order::release::compare_releases;
 use crate::scan::shape::{Shape, TailKind};
 use std::cmp::Ordering;
+use version_order::compare_numbers;
 
 /// Compares two versions by their texts, part by part, up to the first difference.
 pub fn compare(a: &[u8], a_shape: Shape, b: &[u8], b_shape: Shape) -> Ordering

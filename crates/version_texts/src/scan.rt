@@ -4,20 +4,21 @@ ghost use Rattle.std.specs.Prelude.{◌≡◌, ◌==◌, ◌+◌, ◌<◌, ◌�
 ghost use Rattle.std.specs.Char.{is_ascii_alphanumeric};
 ghost use Rattle.std.specs.List.{list_all, prefix_len, take_while};
 ghost use Rattle.std.specs.Option.{option_map};
-ghost use Rattle.version_rules.specs.grammar.Bytes.{HasDigits};
-ghost use Rattle.version_rules.specs.grammar.DigitRun.{is_digits};
-ghost use Rattle.version_rules.specs.grammar.Class.{contains, first_rank};
+ghost use Rattle.version_order.specs.texts.Bytes.{HasDigits};
+ghost use Rattle.version_order.specs.texts.DigitRun.{is_digits};
+ghost use Rattle.version_order.specs.texts.Class.{contains, first_rank};
 ghost use Rattle.version_texts.specs.scan.Shape.{behind_body, body_end, body_start, shape_at, shape_of};
-ghost use Rattle.version_texts.specs.key.TextKey.{pieces};
-ghost use Rattle.version_texts.specs.scan.TextKind.{are_marked_runs, body_of, epoch_is_numeral, has_three_numbers, is_chunk, is_general, is_metadata_tail, is_not_plus, is_numeral, is_released, is_run, is_tail, kind_in, section_end, section_pieces};
+ghost use Rattle.version_order.specs.texts.Pieces.{pieces};
+ghost use Rattle.version_texts.specs.scan.TextKind.{are_marked_runs, body_of, epoch_is_numeral, has_three_numbers, is_chunk, is_general, is_metadata_tail, is_not_plus, is_numeral, is_released, is_tail, kind_in, section_end, section_pieces};
+ghost use Rattle.version_order.specs.texts.Front.{is_run};
 
-pub(crate) mod bytes;
 pub(crate) mod numeral;
 pub(crate) mod shape;
 
 use crate::scan::numeral::is_numeral;
 use crate::scan::shape::{Shape, TailKind};
-use version_rules::{COLON, Class, DOT, END, HYPHEN, Kind, PLUS, rank_at, run_end};
+use version_order::{COLON, Class, DOT, END, HYPHEN, PLUS, rank_at, run_end};
+use version_rules::Kind;
 
 /// Scans a text once, and returns its shape, or None if it is not a version of any kind. Takes time linear in the text.
 /// Does not allocate.

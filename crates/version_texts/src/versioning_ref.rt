@@ -5,7 +5,7 @@ ghost use Rattle.std.specs.Char.{is_ascii_digit};
 ghost use Rattle.std.specs.List.{list_all};
 ghost use Rattle.std.specs.Str.Parse.{digits_value};
 ghost use Rattle.version_texts.specs.scan.Shape.{shape_of};
-ghost use Rattle.version_texts.specs.key.Sinks.{saturated};
+ghost use Rattle.version_order.specs.keys.Sinks.{saturated};
 ghost use Rattle.version_rules.specs.grammar.Kind.{versioning_kind};
 ghost use Rattle.version_rules.specs.grammar.Versioning.{kind_rank, PlainVersioning};
 
@@ -13,11 +13,8 @@ pub(crate) mod field;
 pub(crate) mod numbers;
 
 use crate::key::length::{LONGEST_WITH_ROOM, length_with, room_for};
-use crate::key::sink::Sink;
-use crate::key::sinks::{Count, Room};
 use crate::key::whole;
 use crate::order::difference::{Difference, key_difference};
-use crate::order::piece::through_dot;
 use crate::order::ties;
 use crate::requirement::end_order::compare_ends;
 use crate::requirement::{matching, range};
@@ -28,7 +25,8 @@ use crate::{key, order};
 use std::alloc::AllocError;
 use std::cmp::Ordering;
 use std::{fmt, str};
-use version_rules::{Asked, End, Kind, Kinds};
+use version_order::{Count, End, Kept, Room, Sink, through_dot};
+use version_rules::{Asked, Kind, Kinds};
 
 /// A version of the first kind that fits its text, borrowed from that text: a `Versioning` that owns nothing. It
 /// compares and prints as that `Versioning` does, and has the same numbers. Only `append_key` and
@@ -44,16 +42,16 @@ impl<'a> VersioningRef<'a> {
     ghost use Rattle.std.specs.Prelude.{◌+◌, ◌-◌, ◌++◌, ◌&&◌, ◌↔◌, ◌<◌, ◌≤◌, ◌^◌, length, IfNone, IfSome, IsTrue, OnErr, OnOk};
     ghost use Rattle.std.specs.Option.{is_none, option_map};
     ghost use Rattle.std.specs.declared.cmp.Ordering.TheVariants.{Equal};
-    ghost use Rattle.version_rules.specs.order.Lists.{bytes_cmp};
-    ghost use Rattle.version_rules.specs.requirement.Ends.{end_bytes};
+    ghost use Rattle.version_order.specs.keys.Lists.{bytes_cmp};
+    ghost use Rattle.version_rules.specs.requirement.Ends.{end_bytes, kept_parts};
     ghost use Rattle.version_rules.specs.key.Key.{key_of, precedence, versioning_epoch};
     ghost use Rattle.version_rules.specs.key.KeyBytes.{key_bytes};
-    ghost use Rattle.version_rules.specs.requirement.Range.{has_kind, AreBetween};
+    ghost use Rattle.version_rules.specs.requirement.Range.{begun, has_kind, AreBetween};
     ghost use Rattle.version_rules.specs.grammar.Versioning.{is_prerelease, versioning_nth, versioning_of, versioning_plain_cmp, versioning_text};
     ghost use Rattle.version_texts.specs.order.Difference.{difference_of};
     ghost use Rattle.version_texts.specs.versioning_ref.Field.{epoch_and_parts, field_span};
-    ghost use Rattle.version_texts.specs.key.Sinks.{saturated, IsWritten};
-    ghost use Rattle.version_texts.specs.keyed.Mixed.{is_bare};
+    ghost use Rattle.version_order.specs.keys.Sinks.{saturated, IsWritten};
+    ghost use Rattle.version_texts.specs.Mixed.{is_bare};
     ghost use Rattle.version_texts.specs.versioning_ref.VersioningRef.{major_text, plain_versioning_ref};
 
     /// Parses the whole text as a strict version, else as a general, else as a messy one; returns None if it does not
@@ -317,6 +315,26 @@ impl<'a> VersioningRef<'a> {
             sink.new }
     {
         range::put_end(sink, self.text, self.shape, end);
+    }
+
+    /// Writes its key into a sink.
+    #[inline(always)]
+    pub fn put_key<S: Sink>(&self, sink: &mut S)
+        requires { S.fits sink.old (key_bytes (key_of (plain_versioning_ref self.now))) }
+        ensures { S.takes sink.old (key_bytes (key_of (plain_versioning_ref self.now))) sink.new }
+    {
+        key::put_key(sink, self.text, self.shape);
+    }
+
+    /// Writes the bytes of its epoch and of the parts that are kept into a sink.
+    #[inline(always)]
+    pub fn put_begun<S: Sink>(&self, kept: Kept, sink: &mut S)
+        requires { S.fits sink.old (begun (key_of (plain_versioning_ref self.now)).epoch
+            (kept_parts kept (key_of (plain_versioning_ref self.now)).body)) }
+        ensures { S.takes sink.old (begun (key_of (plain_versioning_ref self.now)).epoch
+            (kept_parts kept (key_of (plain_versioning_ref self.now)).body)) sink.new }
+    {
+        range::put_kept(sink, self.text, self.shape, kept);
     }
 
     /// Writes the bytes of an end of a range into a buffer from a place on, if they fit there, and returns the place after

@@ -1,6 +1,6 @@
 -- What `versions` prints of a fault, and the status that it ends with.
 use Rattle.std.specs.Prelude.{ℕ, List, codes, string_bytes}
-use Rattle.version_commands.specs.Fault as task
+use Rattle.version_commands.specs.faults.Fault as task
 use Rattle.version_words.specs.declared.faults.Fault.{Fault}
 use Rattle.version_words.specs.declared.faults.Fault.TheVariants.{Words, Task}
 use Rattle.version_words.specs.declared.faults.WordsFault.TheVariants.{Usage, Memory}

@@ -5,13 +5,13 @@ use Rattle.std.specs.List.{list_all}
 use Rattle.std.specs.Str.{bytes_eq}
 use Rattle.std.specs.Str.Parse.{digits_value, without_leading_plus}
 use Rattle.version_commands.specs.declared.options.Invalid.{Invalid}
-use Rattle.version_commands.specs.declared.options.Operator.{Operator}
+use Rattle.version_answers.specs.declared.two.compare.Operator.{Operator}
 use Rattle.version_commands.specs.declared.options.Invalid.TheVariants as invalid
-use Rattle.version_commands.specs.declared.options.Operator.TheVariants as operator
+use Rattle.version_answers.specs.declared.two.compare.Operator.TheVariants as operator
 use Rattle.version_words.specs.declared.named.Verb.{Verb}
 use Rattle.version_words.specs.declared.named.Verb.TheVariants as verb
 use Rattle.version_lines.specs.Column.{has_bytes}
-use Rattle.version_rules.specs.grammar.DigitRun.{is_digits}
+use Rattle.version_order.specs.texts.DigitRun.{is_digits}
 use Rattle.version_tasks.specs.declared.stability.Stability.{Stability}
 use Rattle.version_tasks.specs.declared.stability.Stability.TheVariants as stability
 

@@ -9,13 +9,13 @@ use Rattle.version_commands.specs.declared.options.ColumnNames.{ColumnNames}
 use Rattle.version_commands.specs.declared.options.EachOptions.{EachOptions}
 use Rattle.version_commands.specs.declared.options.LineOptions.{LineOptions}
 use Rattle.version_commands.specs.declared.options.Lists.{Lists}
-use Rattle.version_commands.specs.declared.options.Naming.{Naming}
-use Rattle.version_commands.specs.declared.options.Naming.TheVariants.{Bare, Prefix, Tag}
+use Rattle.version_answers.specs.declared.spelling.Naming.{Naming}
+use Rattle.version_answers.specs.declared.spelling.Naming.TheVariants.{Bare, Prefix, Tag}
 use Rattle.version_commands.specs.declared.options.Question.{Question}
 use Rattle.version_commands.specs.declared.options.Question.TheVariants as question
-use Rattle.version_commands.specs.declared.options.Spelling.{Spelling}
-use Rattle.version_commands.specs.declared.options.Step.{Step}
-use Rattle.version_commands.specs.declared.options.Step.TheVariants as step
+use Rattle.version_answers.specs.declared.spelling.Spelling.{Spelling}
+use Rattle.version_answers.specs.declared.one.next.Step.{Step}
+use Rattle.version_answers.specs.declared.one.next.Step.TheVariants as step
 use Rattle.version_commands.specs.declared.options.Task.{Task}
 use Rattle.version_commands.specs.declared.options.Task.TheVariants as task
 use Rattle.version_commands.specs.declared.options.VersionPlace.{VersionPlace}

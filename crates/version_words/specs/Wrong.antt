@@ -1,6 +1,6 @@
 -- What is said of wrong words.
 use Rattle.std.specs.Prelude.{◌≡◌, ◌<◌, ◌++◌, ⊤, ℕ, List, codes, length, string_bytes}
-use Rattle.version_commands.specs.Quote.{quoted}
+use Rattle.version_answers.specs.message.Quote.{quoted}
 use Rattle.version_words.specs.declared.faults.WordsFault.{WordsFault}
 use Rattle.version_words.specs.declared.faults.WordsFault.TheVariants.{Memory, Usage}
 

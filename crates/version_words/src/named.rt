@@ -5,9 +5,10 @@ ghost use Rattle.std.specs.Char.{is_ascii};
 ghost use Rattle.std.specs.List.{list_all};
 ghost use Rattle.version_words.specs.Named.{count_named, invalid_asked, invalid_named, is_no_column, is_number, may_ask, number_named, operator_named, place_named, separators_named, stability_named, verb_named};
 
-use version_commands::{Invalid, Operator};
+use version_answers::Operator;
+use version_commands::Invalid;
+use version_order::is_digits;
 use version_tasks::Stability;
-use version_texts::is_digits;
 
 /// The command that words name.
 #[derive(Clone, Copy, Debug)]

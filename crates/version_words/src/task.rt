@@ -18,9 +18,9 @@ use crate::rows::{
 use crate::wrong::{wrong, wrong_operator, wrong_place};
 use clap::ArgMatches;
 use std::alloc::Global;
+use version_answers::{Naming, Spelling, Step};
 use version_commands::{
-    Arrangement, Choice, ColumnNames, EachOptions, LineOptions, Lists, Naming, Question, Spelling,
-    Step, Task, VersionPlace,
+    Arrangement, Choice, ColumnNames, EachOptions, LineOptions, Lists, Question, Task, VersionPlace,
 };
 use version_lines::{Column, Separators};
 

@@ -14,7 +14,8 @@ use crate::wrong::MORE;
 use clap::Error;
 use clap::error::ErrorKind;
 use std::alloc::{AllocError, Global};
-use version_commands::{Task, quoted};
+use version_answers::quoted;
+use version_commands::Task;
 
 /// Reads the words after the program's name: a task, or what is wrong with them and how they are used.
 pub fn read_words<'w>(alloc: Global, words: &'w [String]) -> Result<Task<'w>, WordsFault>

@@ -8,7 +8,7 @@ use crate::faults::WordsFault;
 use crate::named::Verb;
 use crate::near::similar;
 use std::alloc::{AllocError, Global};
-use version_commands::quoted;
+use version_answers::quoted;
 use version_schemes::Scheme;
 
 /// How the text of wrong words ends.

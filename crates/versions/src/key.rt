@@ -3,10 +3,10 @@
 ghost use Rattle.std.specs.Prelude.{◌≡◌, ◌++◌, [], map, IfNone, IfOk, IfSome, OnErr, OnOk, List, ℕ};
 ghost use Rattle.std.specs.Iterator.{item_count, YieldsFirst};
 ghost use Rattle.std.specs.Option.{option_map, unwrap_or};
-ghost use Rattle.version_rules.specs.grammar.DigitRun.{run_value};
-ghost use Rattle.version_rules.specs.order.Lists.{bytes_cmp, GrowsWithin};
+ghost use Rattle.version_order.specs.texts.DigitRun.{run_value};
+ghost use Rattle.version_order.specs.keys.Lists.{bytes_cmp, GrowsWithin};
 ghost use Rattle.version_parts.specs.MChunk.{plain_mchunk};
-ghost use Rattle.version_rules.specs.key.NumberBytes.{number_bytes};
+ghost use Rattle.version_order.specs.keys.NumberBytes.{number_bytes};
 ghost use Rattle.version_rules.specs.key.PartKey.{parts_bytes};
 ghost use Rattle.version_parts.specs.Pieces.{IsNext};
 ghost use Rattle.version_parts.specs.Release.{plain_release};

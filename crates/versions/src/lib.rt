@@ -39,9 +39,8 @@ pub use requirement::Requirement;
 pub use requirements::Requirements;
 pub use semver::SemVer;
 pub use version::Version;
+pub use version_order::{End, Kept};
 pub use version_parts::{Chunk, Chunks, Last, MChunk, Release, Sep, parsers};
-pub use version_rules::{
-    Asked, End, Ends, Kept, Kind, Kinds, Op, asks_for, ends_of, ends_without_version,
-};
+pub use version_rules::{Asked, Ends, Kind, Kinds, Op, asks_for, ends_of, ends_without_version};
 pub use version_texts::VersioningRef;
 pub use versioning::Versioning;

@@ -3,8 +3,8 @@
 ghost use Rattle.std.specs.Prelude.{◌≡◌, ◌++◌, string_bytes, IfOk, IsSome, OnErr};
 ghost use Rattle.std.specs.Fmt.{WritesOnOk};
 ghost use Rattle.std.specs.Option.{option_map};
-ghost use Rattle.version_rules.specs.grammar.Bytes.{hyphen, plus};
-ghost use Rattle.version_rules.specs.grammar.Front.{optional};
+ghost use Rattle.version_order.specs.texts.Bytes.{hyphen, plus};
+ghost use Rattle.version_order.specs.texts.Front.{optional};
 ghost use Rattle.version_rules.specs.grammar.Metadata.{meta_front};
 ghost use Rattle.version_parts.specs.Release.{plain_release};
 ghost use Rattle.version_rules.specs.grammar.Release.{release_front, release_text};
@@ -15,7 +15,7 @@ use std::fmt;
 use version_parts::{Release, ReleaseRef, scan};
 
 // Parses a prefix as a release; returns it and the rest, or None and the whole text.
-#[tactic(auto, unfolding(version_rules::specs::grammar::Front::optional))]
+#[tactic(auto, unfolding(version_order::specs::texts::Front::optional))]
 #[inline(always)]
 pub(crate) fn optional_release(i: &str) -> (Option<ReleaseRef<'_>>, &str)
     ensures { (result.0, result.1.now) ≡ optional release_front i.now }
@@ -27,7 +27,7 @@ pub(crate) fn optional_release(i: &str) -> (Option<ReleaseRef<'_>>, &str)
 }
 
 // Parses a prefix as metadata; returns it and the rest, or None and the whole text.
-#[tactic(auto, unfolding(version_rules::specs::grammar::Front::optional))]
+#[tactic(auto, unfolding(version_order::specs::texts::Front::optional))]
 #[inline(always)]
 pub(crate) fn optional_meta(i: &str) -> (Option<&str>, &str)
     ensures { (option_map (λ text. text.now) result.0, result.1.now) ≡ optional meta_front i.now }

@@ -4,7 +4,7 @@ ghost use Rattle.std.specs.Prelude.{◌≡◌, ◌++◌, List, ℕ, refl, IfOk};
 ghost use Rattle.std.specs.Cmp.{on_total, po, IsTotalOrder};
 ghost use Rattle.std.specs.Ordering.{as_partial_cmp, on};
 ghost use Rattle.std.specs.declared.cmp.Ordering.TheVariants.{Equal};
-ghost use Rattle.version_rules.specs.order.Lists.{bytes_cmp};
+ghost use Rattle.version_order.specs.keys.Lists.{bytes_cmp};
 ghost use Rattle.version_rules.specs.key.Key.{key_of, key_of_version, precedence, Key};
 ghost use Rattle.version_rules.specs.key.KeyBytes.{key_bytes};
 ghost use Rattle.versions.specs.Mess.{plain_mess};

@@ -6,7 +6,7 @@ ghost use Rattle.std.specs.Option.{is_some, option_map};
 ghost use Rattle.std.specs.Ordering.{as_partial_cmp, eq_by_cmp, on};
 ghost use Rattle.version_parts.specs.Front.{Reads};
 ghost use Rattle.version_parts.specs.Release.{plain_release};
-ghost use Rattle.version_rules.specs.order.Lists.{none_last_cmp};
+ghost use Rattle.version_order.specs.keys.Lists.{none_last_cmp};
 ghost use Rattle.version_rules.specs.order.ReleaseOrder.{release_cmp};
 ghost use Rattle.versions.specs.Errors.{IllegalSemver, ReadsOr};
 ghost use Rattle.versions.specs.SemVerLaws.{fed_alike};

@@ -6,10 +6,10 @@ ghost use Rattle.std.specs.Cmp.{eq_by_cmp_equiv, on_equiv, on_per, partial_equiv
 ghost use Rattle.std.specs.Option.{is_some, option_map};
 ghost use Rattle.std.specs.Ordering.{eq_by_cmp, on};
 ghost use Rattle.version_rules.specs.grammar.Body.{body_front};
-ghost use Rattle.version_rules.specs.grammar.Front.{optional};
+ghost use Rattle.version_order.specs.texts.Front.{optional};
 ghost use Rattle.version_parts.specs.Front.{Reads};
 ghost use Rattle.version_rules.specs.grammar.Last as plain;
-ghost use Rattle.version_rules.specs.laws.Order.{same_where_tied};
+ghost use Rattle.version_order.specs.keys.OrderLaws.{same_where_tied};
 ghost use Rattle.versions.specs.Errors.{IllegalVersion, ReadsOr};
 ghost use Rattle.versions.specs.BodyParts.{first_part, more_parts};
 ghost use Rattle.version_rules.specs.key.Key.{key_of_version};
@@ -326,7 +326,7 @@ fn scan_body_and_epoch(i: &str) -> Option<(Option<u32>, BodyRef<'_>, &str)>
 }
 
 // Parses a prefix as an epoch; returns it and the rest, or None and the whole text.
-#[tactic(auto, unfolding(version_rules::specs::grammar::Front::optional))]
+#[tactic(auto, unfolding(version_order::specs::texts::Front::optional))]
 #[inline(always)]
 fn optional_epoch(i: &str) -> (Option<u32>, &str)
     ensures { (result.0, result.1.now) ≡ optional epoch_front i.now }

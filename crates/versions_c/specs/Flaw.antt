@@ -1,11 +1,11 @@
 -- What is answered where a text is no version of a scheme.
 use Rattle.std.specs.Prelude.{ℕ, ℤ, Bool, true, false, List}
 use Rattle.version_schemes.specs.declared.scheme.Scheme.{Scheme}
-use Rattle.version_viable.specs.Flaw.{is_version, reason_at, reason_text}
-use Rattle.version_viable.specs.Viable.{IsLongestViable}
-use Rattle.version_viable.specs.declared.flaw.Mark.TheVariants.{Colon, Dot, Exclamation, Hyphen, Plus, Tilde, Underscore}
-use Rattle.version_viable.specs.declared.flaw.Reason.{Reason}
-use Rattle.version_viable.specs.declared.flaw.Reason.TheVariants.{Blank, Control, Empty, EmptyPart, LateColon, LeadingZero, NotAscii, NothingAfter, Other, Unfinished}
+use Rattle.version_schemes.specs.Flaw.{is_version, reason_at, reason_text}
+use Rattle.version_order.specs.Viable.{IsLongestViable}
+use Rattle.version_schemes.specs.declared.flaw.Mark.TheVariants.{Colon, Dot, Exclamation, Hyphen, Plus, Tilde, Underscore}
+use Rattle.version_schemes.specs.declared.flaw.Reason.{Reason}
+use Rattle.version_schemes.specs.declared.flaw.Reason.TheVariants.{Blank, Control, Empty, EmptyPart, LateColon, LeadingZero, NotAscii, NothingAfter, Other, Unfinished}
 use Rattle.versions_c.specs.Written.{IsWritten}
 use Rattle.versions_c.specs.declared.flaw.TheConstants as reason
 use Rattle.versions_c.specs.declared.status.TheConstants.{IS_VERSION, OK}

@@ -1,6 +1,6 @@
 -- Sets of versions in the caller's buffers, and what is answered of them.
 use Rattle.std.specs.Prelude.{◌≡◌, ◌≢◌, ◌⊎◌, ◌<◌, ◌≤◌, ◌∷◌, ⊤, ℕ, ℤ, Bool, false, true, IsSome, List, Option, Some, None, length, slice_range}
-use Rattle.version_schemes.specs.Scheme.{Rules}
+use Rattle.version_order.specs.Rules.{Rules}
 use Rattle.version_schemes.specs.declared.scheme.Scheme.{Scheme}
 use Rattle.version_sets.specs.Ends.{Rise, has}
 use Rattle.version_sets.specs.Form.{form_bytes}
@@ -9,8 +9,8 @@ use Rattle.version_sets.specs.Reading.{Reading, Right, Wrong, fault_of, set_has}
 use Rattle.version_sets.specs.declared.read.fault.Reason.{Reason}
 use Rattle.version_sets.specs.declared.read.fault.Reason.TheVariants.{NoMember, NoOperator, NoParts, NoVersion, NotBare, NotDoubled, NotVersion, OneBar, Slip, StarBehind}
 use Rattle.version_sets.specs.declared.read.slip.Slip.TheVariants.{LetterV, NoDigit, PartX}
-use Rattle.version_texts.specs.key.Sinks.{saturated}
-use Rattle.version_texts.specs.keyed.Keyed.{PlainKeyed}
+use Rattle.version_order.specs.keys.Sinks.{saturated}
+use Rattle.version_order.specs.Keyed.{PlainKeyed}
 use Rattle.versions_c.specs.Ranges.{one_if}
 use Rattle.versions_c.specs.Schemes.{reading_by, room_by}
 use Rattle.versions_c.specs.Written.{IsWritten}

@@ -1,5 +1,5 @@
 -- The places of texts, sorted by the texts' versions.
-use Rattle.std.specs.Prelude.{◌≡◌, ◌==◌, ℕ, ◌+◌, ◌-◌, ◌<◌, List, length, Option, slice_index}
+use Rattle.std.specs.Prelude.{◌≡◌, ◌==◌, ℕ, ◌+◌, ◌-◌, ◌<◌, List, if◌then◌else◌, length, Option, slice_index}
 use Rattle.std.specs.Cmp.Lexicographic.{slice_cmp}
 use Rattle.std.specs.List.{range_with_len}
 use Rattle.std.specs.List.Sorted.{IsPermutation}
@@ -8,14 +8,13 @@ use Rattle.std.specs.Ordering.{bool_cmp, nat_cmp, on, then_cmp}
 use Rattle.std.specs.declared.cmp.Ordering.{Ordering}
 use Rattle.std.specs.declared.cmp.Ordering.TheVariants.{Less}
 use Rattle.version_rules.specs.grammar.Kind.{versioning_kind}
-use Rattle.version_rules.specs.order.Lists.{bytes_cmp, none_last_cmp}
+use Rattle.version_order.specs.keys.Lists.{bytes_cmp, none_last_cmp}
 use Rattle.version_rules.specs.order.Orders.{versioning_cmp}
 use Rattle.version_rules.specs.grammar.Versioning.{versioning_of}
 use Rattle.version_rules.specs.declared.kind.Kind.{Kind}
 use Rattle.version_rules.specs.declared.kind.Kind.TheVariants.{Ideal}
-use Rattle.version_schemes.specs.Scheme.{rules}
+use Rattle.version_schemes.specs.Scheme.{is_mixed, rules}
 use Rattle.version_schemes.specs.declared.scheme.Scheme.{Scheme}
-use Rattle.version_schemes.specs.declared.scheme.Scheme.TheVariants.{Mixed}
 use Rattle.version_texts.specs.key.KeyTies.{kind_on, marked_number, texts_tie}
 use Rattle.versions_c.specs.Offsets.{AreOffsets, text_at}
 use Rattle.versions_c.specs.Schemes.{key_by}
@@ -80,8 +79,7 @@ lying_cmp keys key_offsets = then_cmp (on (λ i. text_at keys key_offsets i) key
 
 -- two places: in mixed by versions, whose order breaks the ties of precedence, and in others by keys
 abbrev pub place_cmp_in : Scheme → List ℕ → List ℕ → ℕ → ℕ → Ordering
-place_cmp_in Mixed = place_cmp
-place_cmp_in scheme = key_place_cmp (key_by (rules scheme).read_as)
+place_cmp_in scheme = if is_mixed scheme then place_cmp else key_place_cmp (key_by (rules scheme).read_as)
 
 -- the places of all texts in order
 abbrev pub AreInOrder : Scheme → List ℕ → List ℕ → List ℕ → Type 0

@@ -1,6 +1,6 @@
 -- Texts and keys in the caller's buffer.
 use Rattle.std.specs.Prelude.{◌≡◌, ℕ, ℤ, nat_le, List, ◌++◌, drop, length, if◌then◌else◌}
-use Rattle.version_texts.specs.key.Sinks.{saturated}
+use Rattle.version_order.specs.keys.Sinks.{saturated}
 use Rattle.versions_c.specs.declared.status.TheConstants.{OK, NO_ROOM}
 
 -- the status for bytes and the size of their buffer

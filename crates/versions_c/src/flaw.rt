@@ -2,15 +2,14 @@
 
 ghost use Rattle.std.specs.Prelude.{◌≡◌, ◌≢◌, None, false, true, IfSome};
 ghost use Rattle.version_schemes.specs.Scheme.{numbered};
-ghost use Rattle.version_viable.specs.Flaw.{is_version, reason_at};
-ghost use Rattle.version_viable.specs.Viable.{IsLongestViable};
-ghost use Rattle.version_viable.specs.declared.flaw.Reason.TheVariants.{NothingAfter};
+ghost use Rattle.version_schemes.specs.Flaw.{is_version, reason_at};
+ghost use Rattle.version_order.specs.Viable.{IsLongestViable};
+ghost use Rattle.version_schemes.specs.declared.flaw.Reason.TheVariants.{NothingAfter};
 ghost use Rattle.versions_c.specs.Flaw.{IsWhyWritten, reason_code, wrong_status};
 
 use crate::schemes::write_text;
 use crate::status::{IS_VERSION, NO_ROOM, NO_SCHEME, OK};
-use version_schemes::Scheme;
-use version_viable::{Flaw, Mark, Reason};
+use version_schemes::{Flaw, Mark, Reason, Scheme};
 
 /// The text is empty.
 pub const EMPTY: u32 = 1;

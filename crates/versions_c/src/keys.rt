@@ -3,8 +3,8 @@
 ghost use Rattle.std.specs.Prelude.{◌≡◌, ◌≢◌, ◌↔◌, ◌+◌, ◌<◌, ◌≤◌, ◌++◌, drop, length, slice_index, IfSome, IsTrue, List, None, ℕ};
 ghost use Rattle.version_rules.specs.grammar.Versioning.{versioning_of};
 ghost use Rattle.version_schemes.specs.Scheme.{numbered, rules};
-ghost use Rattle.version_texts.specs.key.Sinks.{put_at, saturated};
-ghost use Rattle.version_texts.specs.keyed.Keyed.{AreWithin};
+ghost use Rattle.version_order.specs.keys.Sinks.{put_at, saturated};
+ghost use Rattle.version_order.specs.Facts.{key_room};
 ghost use Rattle.versions_c.specs.Keys.{all_keys, key_status, keys_before, saturated_signed, spelled_key, AreKeyOffsets};
 ghost use Rattle.versions_c.specs.Written.{room_status};
 ghost use Rattle.versions_c.specs.Kinds.{kind_of};
@@ -15,9 +15,10 @@ ghost use Rattle.versions_c.specs.Sorting.{IsMarked};
 use crate::kinds::kind_number;
 use crate::offsets::{LARGEST, are_offsets, text_at};
 use crate::status::{BAD_OFFSETS, NO_ROOM, NO_SCHEME, NO_VERSION, OK};
+use version_order::SchemeVersion;
 use version_rules::Kind;
 use version_schemes::{Scheme, by_scheme, write_key};
-use version_texts::{Keyed, VersioningRef, mark_kind};
+use version_texts::{VersioningRef, mark_kind};
 
 /// The number of the scheme mixed.
 pub const MIXED: u32 = 1;
@@ -26,34 +27,18 @@ pub const MIXED: u32 = 1;
 #[unsafe(no_mangle)]
 pub extern "C" fn versions_key_bound(scheme: u32, text_len: usize, bound: &mut usize) -> i32
     ensures bound { IfSome (numbered scheme)
-        (λ scheme. (result ≡ OK) × (bound.new ≡ saturated ((rules scheme).most text_len))) }
+        (λ scheme. (result ≡ OK) × (bound.new ≡ saturated (key_room (rules scheme).facts text_len))) }
 
     // No text that is not longer has a longer key.
     ensures enough { IfSome (numbered scheme) (λ scheme. (text : List ℕ) → length text ≤ text_len
-        → IfSome (key_by (rules scheme).read_as text) (λ bytes. length bytes ≤ (rules scheme).most text_len)) }
+        → IfSome (key_by (rules scheme).read_as text) (λ bytes. length bytes ≤ key_room (rules scheme).facts text_len)) }
     ensures no_scheme { numbered scheme ≡ None → (result ≡ NO_SCHEME) × (bound.new ≡ bound.old) }
 {
     let Some(scheme) = Scheme::of_number(scheme) else {
         return NO_SCHEME;
     };
-    *bound = key_room_in(scheme, text_len);
+    *bound = scheme.facts().key_room(text_len);
     OK
-}
-
-// Returns how many bytes the key of a text of a length has at most in a scheme.
-fn key_room_in(scheme: Scheme, text_len: usize) -> usize
-    ensures room { result ≡ saturated ((rules scheme).most text_len) }
-    ensures enough { AreWithin (rules scheme).read_as (rules scheme).most }
-{
-    by_scheme!(scheme, key_room(text_len))
-}
-
-// Returns how many bytes the key of a text of a length has at most.
-fn key_room<'t, V: Keyed<'t>>(text_len: usize) -> usize
-    ensures room { result ≡ saturated (V.most text_len) }
-    ensures enough { AreWithin V.read_as V.most }
-{
-    V::key_room(text_len)
 }
 
 /// Writes the sort key of a version of a scheme.
@@ -84,12 +69,12 @@ pub extern "C" fn versions_key(scheme: u32, text: &[u8], key: &mut [u8], key_len
 
 // Writes the sort key of a version. Never inlined, so that the call for mixed needs no room on the stack for the others.
 #[inline(never)]
-fn put_key<'t, V: Keyed<'t>>(text: &'t [u8], key: &mut [u8], key_len: &mut usize) -> i32
-    ensures status { result ≡ key_status (key_by V.read_as text.now) (length key.old) }
-    ensures key { result ≡ OK → IfSome (key_by V.read_as text.now)
+fn put_key<'t, V: SchemeVersion<'t>>(text: &'t [u8], key: &mut [u8], key_len: &mut usize) -> i32
+    ensures status { result ≡ key_status (key_by V.rules.read_as text.now) (length key.old) }
+    ensures key { result ≡ OK → IfSome (key_by V.rules.read_as text.now)
         (λ bytes. key.new ≡ bytes ++ drop (length bytes) key.old) }
     ensures kept { result ≢ OK → key.new ≡ key.old }
-    ensures length { IfSome (key_by V.read_as text.now) (λ bytes. key_len.new ≡ saturated (length bytes)) }
+    ensures length { IfSome (key_by V.rules.read_as text.now) (λ bytes. key_len.new ≡ saturated (length bytes)) }
     ensures no_length { result ≢ OK → result ≢ NO_ROOM → key_len.new ≡ key_len.old }
 {
     let Some(end) = write_key::<V>(text, key, 0) else {
@@ -230,7 +215,7 @@ fn put_each_in(
 }
 
 // Writes the keys of all texts, if they fit, and their offsets, and returns the place after them.
-fn put_each<'t, V: Keyed<'t>>(
+fn put_each<'t, V: SchemeVersion<'t>>(
     texts: &'t [u8],
     offsets: &[u64],
     count: usize,
@@ -239,12 +224,12 @@ fn put_each<'t, V: Keyed<'t>>(
 ) -> usize
     requires offsets { AreOffsets offsets.now (length texts.now) count }
     requires room { length key_offsets.old ≡ count + 1 }
-    ensures end { result ≡ saturated (length (keys_before (key_by V.read_as) texts.now offsets.now count)) }
-    ensures keys { length (keys_before (key_by V.read_as) texts.now offsets.now count) ≤ length keys.old
-        → keys.new ≡ put_at keys.old 0 (keys_before (key_by V.read_as) texts.now offsets.now count) }
+    ensures end { result ≡ saturated (length (keys_before (key_by V.rules.read_as) texts.now offsets.now count)) }
+    ensures keys { length (keys_before (key_by V.rules.read_as) texts.now offsets.now count) ≤ length keys.old
+        → keys.new ≡ put_at keys.old 0 (keys_before (key_by V.rules.read_as) texts.now offsets.now count) }
     ensures key_offsets { (i : ℕ) → i ≤ count
         → slice_index key_offsets.new i
-        ≡ saturated_signed (length (keys_before (key_by V.read_as) texts.now offsets.now i)) }
+        ≡ saturated_signed (length (keys_before (key_by V.rules.read_as) texts.now offsets.now i)) }
 {
     let mut end: usize = 0;
     key_offsets[0] = 0;

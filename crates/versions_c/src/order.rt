@@ -2,15 +2,16 @@
 
 ghost use Rattle.std.specs.Prelude.{◌≡◌, ◌≢◌, IfSome, None, is_some};
 ghost use Rattle.version_rules.specs.grammar.Versioning.{versioning_of};
-ghost use Rattle.version_rules.specs.order.Lists.{bytes_cmp};
+ghost use Rattle.version_order.specs.keys.Lists.{bytes_cmp};
 ghost use Rattle.version_rules.specs.order.Orders.{versioning_cmp};
-ghost use Rattle.version_schemes.specs.Scheme.{numbered, rules, texts_order};
+ghost use Rattle.version_schemes.specs.Scheme.{numbered, rules};
 ghost use Rattle.versions_c.specs.Order.{pair_status, order_code};
 
 use crate::status::{NO_SCHEME, NO_VERSION_A, NO_VERSION_AB, NO_VERSION_B, OK};
 use std::cmp::Ordering;
+use version_order::SchemeVersion;
 use version_schemes::{Scheme, by_scheme};
-use version_texts::{Keyed, VersioningRef};
+use version_texts::VersioningRef;
 
 /// Writes how two versions of a scheme compare.
 #[unsafe(no_mangle)]
@@ -20,7 +21,7 @@ pub extern "C" fn versions_compare(scheme: u32, a: &[u8], b: &[u8], order: &mut 
 
     // They compare by the words of the scheme's system, in mixed by precedence, and so as their keys do.
     ensures order { IfSome (numbered scheme)
-        (λ scheme. IfSome (texts_order scheme a.now b.now) (λ found. order.new ≡ order_code found)) }
+        (λ scheme. IfSome ((rules scheme).texts_cmp a.now b.now) (λ found. order.new ≡ order_code found)) }
     ensures keys { IfSome (numbered scheme) (λ scheme. IfSome ((rules scheme).read_as a.now)
         (λ v. IfSome ((rules scheme).read_as b.now) (λ w. order.new ≡ order_code (bytes_cmp v.key w.key)))) }
     ensures no_scheme { numbered scheme ≡ None → result ≡ NO_SCHEME }
@@ -44,10 +45,10 @@ fn compare_in(scheme: Scheme, a: &[u8], b: &[u8], order: &mut i32) -> i32
 }
 
 // Writes how two versions compare.
-fn compare<'t, V: Keyed<'t>>(a: &'t [u8], b: &'t [u8], order: &mut i32) -> i32
-    ensures status { result ≡ pair_status (is_some (V.read_as a.now)) (is_some (V.read_as b.now)) }
-    ensures order { IfSome (V.read_as a.now)
-        (λ v. IfSome (V.read_as b.now) (λ w. order.new ≡ order_code (bytes_cmp v.key w.key))) }
+fn compare<'t, V: SchemeVersion<'t>>(a: &'t [u8], b: &'t [u8], order: &mut i32) -> i32
+    ensures status { result ≡ pair_status (is_some (V.rules.read_as a.now)) (is_some (V.rules.read_as b.now)) }
+    ensures order { IfSome (V.rules.read_as a.now)
+        (λ v. IfSome (V.rules.read_as b.now) (λ w. order.new ≡ order_code (bytes_cmp v.key w.key))) }
     ensures kept { result ≢ OK → order.new ≡ order.old }
 {
     let Some(a) = V::read(a) else {

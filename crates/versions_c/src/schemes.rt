@@ -1,13 +1,13 @@
 //! Schemes by their names and numbers, and their texts.
 
 ghost use Rattle.std.specs.Prelude.{◌≡◌, ◌≢◌, IfSome, None, is_some};
-ghost use Rattle.version_schemes.specs.Scheme.{numbered, rules, scheme_name, scheme_named, scheme_number};
+ghost use Rattle.version_schemes.specs.Scheme.{numbered, rules, scheme_named, scheme_number};
 ghost use Rattle.versions_c.specs.Ranges.{one_if};
 ghost use Rattle.versions_c.specs.Written.{IsWritten};
 
 use crate::status::{NO_ROOM, NO_SCHEME, OK};
+use version_order::SchemeVersion;
 use version_schemes::{Scheme, by_scheme};
-use version_texts::Keyed;
 
 /// Writes the number of the scheme that a text names.
 #[unsafe(no_mangle)]
@@ -29,7 +29,7 @@ pub extern "C" fn versions_scheme(name: &[u8], scheme: &mut u32) -> i32
 #[unsafe(no_mangle)]
 pub extern "C" fn versions_scheme_name(scheme: u32, name: &mut [u8], name_len: &mut usize) -> i32
     ensures name { IfSome (numbered scheme)
-        (λ scheme. IsWritten (scheme_name scheme) name.old name.new name_len.new result) }
+        (λ scheme. IsWritten (rules scheme).facts.name name.old name.new name_len.new result) }
     ensures no_scheme { numbered scheme ≡ None → result ≡ NO_SCHEME }
     ensures kept { result ≢ OK → name.new ≡ name.old }
     ensures no_length { result ≡ NO_SCHEME → name_len.new ≡ name_len.old }
@@ -70,8 +70,8 @@ pub extern "C" fn versions_has(scheme: u32, text: &[u8], has: &mut u8) -> i32
 }
 
 // Returns whether a text is a version.
-fn is_version<'t, V: Keyed<'t>>(text: &'t [u8]) -> bool
-    ensures { result ≡ is_some (V.read_as text.now) }
+fn is_version<'t, V: SchemeVersion<'t>>(text: &'t [u8]) -> bool
+    ensures { result ≡ is_some (V.rules.read_as text.now) }
 {
     V::read(text).is_some()
 }

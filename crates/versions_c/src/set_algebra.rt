@@ -16,9 +16,9 @@ use crate::offsets::{answer_each, are_offsets};
 use crate::status::{
     BAD_OFFSETS, NO_FORM, NO_INTERVAL, NO_ROOM, NO_SCHEME, NO_VERSION, OK, OTHER_SCHEME,
 };
+use version_order::SchemeVersion;
 use version_schemes::{Scheme, by_scheme};
 use version_sets::{Form, Merge, Rule, write_merge};
-use version_texts::Keyed;
 
 /// Writes the number of the scheme of a set.
 #[unsafe(no_mangle)]
@@ -61,9 +61,9 @@ pub extern "C" fn versions_set_has(form: &[u8], text: &[u8], answer: &mut u8) ->
 }
 
 // Writes whether a version is in a set.
-fn put_has<'t, V: Keyed<'t>>(set: &Form<'_>, text: &'t [u8], answer: &mut u8) -> i32
-    ensures status { result ≡ has_status (V.read_as text.now) }
-    ensures has { Rise (ends_of set.now) → IfSome (V.read_as text.now)
+fn put_has<'t, V: SchemeVersion<'t>>(set: &Form<'_>, text: &'t [u8], answer: &mut u8) -> i32
+    ensures status { result ≡ has_status (V.rules.read_as text.now) }
+    ensures has { Rise (ends_of set.now) → IfSome (V.rules.read_as text.now)
         (λ v. answer.new ≡ one_if (has (ends_of set.now) v.key)) }
     ensures kept { result ≢ OK → answer.new ≡ answer.old }
 {
@@ -113,8 +113,8 @@ fn has_code(scheme: Scheme, set: &Form<'_>, text: &[u8]) -> u8
 }
 
 // Returns the same for a version of one order.
-fn answer_for<'t, V: Keyed<'t>>(set: &Form<'_>, text: &'t [u8]) -> u8
-    ensures { Rise (ends_of set.now) → result ≡ has_code (ends_of set.now) (V.read_as text.now) }
+fn answer_for<'t, V: SchemeVersion<'t>>(set: &Form<'_>, text: &'t [u8]) -> u8
+    ensures { Rise (ends_of set.now) → result ≡ has_code (ends_of set.now) (V.rules.read_as text.now) }
 {
     match V::read(text) {
         Some(version) => set.has(&version) as u8,

@@ -8,16 +8,16 @@ ghost use Rattle.version_sets.specs.Form.{form_bytes};
 ghost use Rattle.version_sets.specs.Reading.{fault_of};
 ghost use Rattle.version_sets.specs.Reason.{reason_text};
 ghost use Rattle.version_sets.specs.declared.read.comparison.Comparison.TheVariants.{Equal};
-ghost use Rattle.version_texts.specs.key.Sinks.{saturated};
+ghost use Rattle.version_order.specs.keys.Sinks.{saturated};
 ghost use Rattle.versions_c.specs.Schemes.{reading_by, room_by};
 ghost use Rattle.versions_c.specs.Sets.{reason_code, wrong_set_status, IsRead};
 ghost use Rattle.versions_c.specs.Written.{IsWritten};
 
 use crate::schemes::write_text;
 use crate::status::{NO_ROOM, NO_SCHEME, NO_SET, NO_VERSION, NO_WRONG_MEMBER, OK};
-use version_schemes::{ByKey, Deb, Gem, Pypi, Rpm, Scheme, SemVer, VersioningRef, by_scheme};
+use version_order::SchemeVersion;
+use version_schemes::{Scheme, by_scheme};
 use version_sets::{Fault, Reason, Slip, find_fault, read_set, set_room, write_tied};
-use version_texts::Keyed;
 
 /// A member has to come.
 pub const NO_MEMBER: u32 = 1;
@@ -72,26 +72,16 @@ fn put_set(scheme: Scheme, text: &[u8], form: &mut [u8], form_len: &mut usize) -
     ensures kept { result ≢ OK → result ≢ NO_ROOM → form.new ≡ form.old }
     ensures no_length { result ≢ OK → result ≢ NO_ROOM → form_len.new ≡ form_len.old }
 {
-    let number = scheme.number();
-    match scheme {
-        Scheme::Mixed => put_set_of::<VersioningRef<'_>>(number, text, form, form_len),
-        Scheme::Deb => put_set_of::<ByKey<Deb<'_>>>(number, text, form, form_len),
-        Scheme::Rpm => put_set_of::<ByKey<Rpm<'_>>>(number, text, form, form_len),
-        Scheme::Pypi => put_set_of::<ByKey<Pypi<'_>>>(number, text, form, form_len),
-        Scheme::SemVer => put_set_of::<ByKey<SemVer<'_>>>(number, text, form, form_len),
-        Scheme::Gem => put_set_of::<ByKey<Gem<'_>>>(number, text, form, form_len),
-    }
+    by_scheme!(scheme, put_set_of(text, form, form_len))
 }
 
-// Writes the form of a set that a text is, with a number for its order.
-fn put_set_of<'t, V: Keyed<'t>>(
-    order: u8,
+// Writes the form of a set that a text is.
+fn put_set_of<'t, V: SchemeVersion<'t>>(
     text: &'t [u8],
     form: &mut [u8],
     form_len: &mut usize,
 ) -> i32
-    ensures set { IsRead (record { read_as = V.read_as; words = V.words; most = V.most }) order
-        text.now form.old form.new form_len.new result }
+    ensures set { IsRead V.rules V.rules.facts.number text.now form.old form.new form_len.new result }
     ensures kept { result ≢ OK → result ≢ NO_ROOM → form.new ≡ form.old }
     ensures no_length { result ≢ OK → result ≢ NO_ROOM → form_len.new ≡ form_len.old }
 {
@@ -99,7 +89,7 @@ fn put_set_of<'t, V: Keyed<'t>>(
     if find_fault::<V>(text).is_some() {
         return NO_SET;
     }
-    let Ok(length) = read_set::<V>(order, text, form) else {
+    let Ok(length) = read_set::<V>(V::facts().number, text, form) else {
         *form_len = set_room::<V>(text);
         return NO_ROOM;
     };
@@ -242,27 +232,21 @@ pub extern "C" fn versions_set_of_version(
     let Some(scheme) = Scheme::of_number(scheme) else {
         return NO_SCHEME;
     };
-    let number = scheme.number();
-    by_scheme!(scheme, put_tied(number, text, form, form_len))
+    by_scheme!(scheme, put_tied(text, form, form_len))
 }
 
-// Writes the form of the set of what ties with a version, with a number for its order.
-fn put_tied<'t, V: Keyed<'t>>(
-    order: u8,
-    text: &'t [u8],
-    form: &mut [u8],
-    form_len: &mut usize,
-) -> i32
-    ensures set { IfSome (V.read_as text.now)
-        (λ v. IsWritten (form_bytes order (ends_with Equal v)) form.old form.new form_len.new result) }
-    ensures no_version { V.read_as text.now ≡ None → result ≡ NO_VERSION }
+// Writes the form of the set of what ties with a version.
+fn put_tied<'t, V: SchemeVersion<'t>>(text: &'t [u8], form: &mut [u8], form_len: &mut usize) -> i32
+    ensures set { IfSome (V.rules.read_as text.now)
+        (λ v. IsWritten (form_bytes V.rules.facts.number (ends_with Equal v)) form.old form.new form_len.new result) }
+    ensures no_version { V.rules.read_as text.now ≡ None → result ≡ NO_VERSION }
     ensures kept { result ≢ OK → form.new ≡ form.old }
     ensures no_length { result ≢ OK → result ≢ NO_ROOM → form_len.new ≡ form_len.old }
 {
     let Some(version) = V::read(text) else {
         return NO_VERSION;
     };
-    *form_len = write_tied(order, version, form);
+    *form_len = write_tied(V::facts().number, version, form);
     if *form_len > form.len() {
         return NO_ROOM;
     }

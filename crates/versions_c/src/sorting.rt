@@ -16,8 +16,9 @@ use crate::keys::{is_always_room, put_keys, put_keys_in};
 use crate::offsets::{are_offsets, text_at};
 use crate::status::{BAD_OFFSETS, NO_ROOM, NO_SCHEME, OK};
 use std::cmp::Ordering;
+use version_order::compare_bytes;
 use version_schemes::Scheme;
-use version_texts::{compare_bytes, compare_key_ties, marked_kind, marked_number};
+use version_texts::{compare_key_ties, marked_kind, marked_number};
 
 /// Writes the places of all texts, sorted by the order of a scheme.
 #[unsafe(no_mangle)]

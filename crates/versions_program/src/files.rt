@@ -3,7 +3,8 @@
 use std::cell::Cell;
 use std::fs;
 use std::io::{self, Read, Write};
-use version_commands::{Fault, Files, Hint, Shown, Stage};
+use version_answers::Shown;
+use version_commands::{Fault, Files, Hint, Stage};
 use version_lines::{Trouble, read_onto, write_whole};
 
 /// The files of the system, and why it refused one. What they hold is not known to any contract.

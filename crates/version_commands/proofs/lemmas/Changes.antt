@@ -1,19 +1,19 @@
 -- Two lists that were read in turn, and what changed between them.
 use Rattle.std.proofs.Common.{◌+◌, ◌≡◌, ℕ, Bool, false, arith, List, [], ◌∷◌, Option, None, Some, map, refl, sym, ap, ◌∙◌, Bor}
 use Rattle.std.specs.List.{list_any}
-use Rattle.version_commands.specs.Cause.{ComesOfChanges, ComesOfEither, ComesOfOne}
-use Rattle.version_commands.specs.Fault.{ComesOfBad, ComesOfReading}
-use Rattle.version_commands.specs.Inputs.{ended, is_open, IsInput, Reading}
+use Rattle.version_commands.specs.faults.Cause.{ComesOfChanges, ComesOfEither, ComesOfOne}
+use Rattle.version_commands.specs.faults.Fault.{ComesOfBad, ComesOfReading}
+use Rattle.version_commands.specs.files.Inputs.{ended, is_open, IsInput, Reading}
 use Rattle.version_commands.specs.Lists.{bad_lines_of, difference_text, names_of, rows_of}
 use Rattle.version_commands.specs.Output.{AreChanges}
-use Rattle.version_commands.specs.Picked.{bad_lines, AreBadOf}
-use Rattle.version_commands.specs.Place.{reads_of}
+use Rattle.version_commands.specs.lines.Picked.{bad_lines, AreBadOf}
+use Rattle.version_commands.specs.lines.Place.{reads_of}
 use Rattle.version_commands.specs.declared.faults.Fault.{Fault}
 use Rattle.version_commands.specs.declared.faults.Fault.TheVariants.{BadLine}
 use Rattle.version_commands.specs.declared.options.Invalid.TheVariants.{Fail}
 use Rattle.version_commands.specs.declared.options.Lists.{Lists}
-use Rattle.version_commands.specs.declared.pick.BadLines.{BadLines}
-use Rattle.version_commands.proofs.lemmas.Fault.{bad-cases, lines-bad, reading-cases}
+use Rattle.version_commands.specs.declared.lines.pick.BadLines.{BadLines}
+use Rattle.version_commands.proofs.lemmas.faults.Fault.{bad-cases, lines-bad, reading-cases}
 use Rattle.version_lines.specs.Lines.{lines_of}
 use Rattle.version_lines.specs.Sort.{version_in}
 

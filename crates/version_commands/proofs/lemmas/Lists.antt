@@ -12,8 +12,8 @@ use Rattle.std.specs.Option.{option_map, option_or}
 use Rattle.std.specs.Ordering.{nat_cmp}
 use Rattle.std.specs.Str.{bytes_eq}
 use Rattle.version_commands.specs.Lists.{AreNames, Row, first_after, first_rows, lines_against, plain_row, rows_of_line, version_of}
-use Rattle.version_commands.specs.Picked.{has, kept_lines}
-use Rattle.version_commands.specs.Place.{reads_of}
+use Rattle.version_commands.specs.lines.Picked.{has, kept_lines}
+use Rattle.version_commands.specs.lines.Place.{reads_of}
 use Rattle.version_commands.specs.declared.options.Lists.{Lists}
 use Rattle.version_commands.specs.declared.lists.Named.{Named}
 use Rattle.version_commands.specs.declared.lists.Names.{Names}

@@ -20,7 +20,7 @@ use Rattle.version_texts.proofs.lemmas.key.KeyTies.{texts_tie_total}
 use Rattle.version_lines.specs.declared.sort.entry.Entry.{Entry}
 use Rattle.version_schemes.proofs.lemmas.Any.{any_total, in_one_scheme, is_of}
 use Rattle.version_schemes.specs.any.Order.{PlainAny, any_precedence}
-use Rattle.version_texts.proofs.lemmas.scan.Bytes.{AreBytes, sixteen_first}
+use Rattle.version_order.proofs.lemmas.Eights.{AreBytes, sixteen_first}
 use Rattle.version_lines.proofs.lemmas.Sorting.{AreAlike, in_order-map}
 use Rattle.version_lines.proofs.lemmas.Sorting.Turned.{turned_total}
 

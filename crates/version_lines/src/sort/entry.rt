@@ -10,11 +10,10 @@ ghost use Rattle.version_schemes.specs.any.AnyVersion.{plain_any};
 use crate::sort::by::{SortBy, turn};
 use std::alloc::AllocError;
 use std::cmp::Ordering;
+use version_order::{compare_bytes, first_eight};
 use version_rules::Kind;
 use version_schemes::AnyVersion;
-use version_texts::{
-    compare_bytes, compare_key_ties, first_eight, mark_kind, marked_kind, marked_number,
-};
+use version_texts::{compare_key_ties, mark_kind, marked_kind, marked_number};
 
 /// A line that has a version, the place of the key of this in the one list of all keys, the key's length with the kind
 /// marked on it, and the key's first bytes, by which most lines differ.

@@ -10,12 +10,12 @@ use Rattle.std.specs.Option.{option_cmp}
 use Rattle.std.specs.Ordering.{nat_cmp, ordering_then}
 use Rattle.std.specs.declared.cmp.Ordering.{Ordering}
 use Rattle.std.specs.declared.cmp.Ordering.TheVariants.{Equal}
-use Rattle.version_rules.proofs.lemmas.Codes.{writes_alone}
-use Rattle.version_rules.specs.key.Codes.{Writes}
+use Rattle.version_order.proofs.lemmas.Codes.{writes_alone}
+use Rattle.version_order.specs.keys.Codes.{Writes}
 use Rattle.version_parts.specs.Compare.{ComparesBytes, GoesOn}
-use Rattle.version_rules.specs.order.Lists.{bytes_cmp}
-use Rattle.version_rules.specs.laws.Order.{then_equal}
-use Rattle.version_rules.proofs.lemmas.Orders.{then_decided}
+use Rattle.version_order.specs.keys.Lists.{bytes_cmp}
+use Rattle.version_order.specs.keys.OrderLaws.{then_equal}
+use Rattle.version_order.proofs.lemmas.Orders.{then_decided}
 use Rattle.version_parts.specs.Pieces.{GonePast}
 
 -- ---- the order of two lists that begin alike

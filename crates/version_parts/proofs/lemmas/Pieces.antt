@@ -5,7 +5,7 @@ use Rattle.std.proofs.lemmas.Bool.Decides.{nat_tests}
 use Rattle.std.proofs.lemmas.Fmt.{decimal_is_IsNumeral}
 use Rattle.std.proofs.lemmas.List.Folds.{length-prefix_len}
 use Rattle.std.specs.Char.{is_ascii_alphabetic, is_ascii_digit}
-use Rattle.version_rules.specs.grammar.Bytes.{is_identifier_byte}
+use Rattle.version_order.specs.texts.Bytes.{is_identifier_byte}
 use Rattle.std.specs.Cmp.{first_so, second_so}
 use Rattle.std.specs.Fmt.{decimal}
 use Rattle.std.specs.List.{list_all, position_or_len, prefix_len, slice_get, take_while}
@@ -13,16 +13,16 @@ use Rattle.std.specs.Str.Parse.{digits_value}
 use Rattle.version_parts.specs.declared.key.place.AfterNumber.{AfterNumber}
 use Rattle.version_parts.specs.declared.key.place.AfterNumber.TheVariants.{Suffix, Text, Nothing}
 use Rattle.version_parts.specs.declared.key.place.Place.TheVariants.{Part, Split, Numbered, Number, Length, Digit, Rest}
-use Rattle.version_rules.specs.grammar.DigitRun.{number_front, starts_with_digit}
-use Rattle.version_rules.specs.grammar.Front.{begins}
-use Rattle.version_rules.specs.key.NumberBytes.{length_bytes, number_bytes}
+use Rattle.version_order.specs.texts.DigitRun.{number_front, starts_with_digit}
+use Rattle.version_order.specs.texts.Front.{begins}
+use Rattle.version_order.specs.keys.NumberBytes.{length_bytes, number_bytes}
 use Rattle.version_parts.specs.Pieces.{after_number_bytes, counted_bytes, place_bytes, run_bytes}
 use Rattle.version_rules.specs.key.Split.{numbered_bytes}
-use Rattle.version_rules.specs.key.TextBytes.{text_byte, text_bytes}
+use Rattle.version_order.specs.keys.TextBytes.{text_byte, text_bytes}
 use Rattle.version_rules.proofs.lemmas.DigitRun.{decimal-digits}
-use Rattle.version_rules.proofs.lemmas.NumberBytes.{length_bytes-long, length_bytes-short, number_bytes-digits, is_zero, digits_of_run}
-use Rattle.version_rules.proofs.lemmas.Front.Runs.{begins-drop, list_all-take_while, take_while-all}
-use Rattle.version_rules.proofs.lemmas.Bytes.{letter_other}
+use Rattle.version_order.proofs.lemmas.NumberBytes.{length_bytes-long, length_bytes-short, number_bytes-digits, is_zero, digits_of_run}
+use Rattle.version_order.proofs.lemmas.Front.Runs.{begins-drop, list_all-take_while, take_while-all}
+use Rattle.version_order.proofs.lemmas.Bytes.{letter_other}
 
 -- ---- parts and splits
 

@@ -3,7 +3,7 @@
 ghost use Rattle.std.specs.Prelude.{◌≡◌, ◌∷◌, ◌++◌, ◌+◌, ◌<◌, ◌≤◌, [], List, ℕ, drop, length, IsTrue, None, Some};
 ghost use Rattle.std.specs.Fmt.{decimal};
 ghost use Rattle.std.specs.Iterator.{item_count, YieldsFirst};
-ghost use Rattle.version_rules.specs.key.NumberBytes.{number_bytes};
+ghost use Rattle.version_order.specs.keys.NumberBytes.{number_bytes};
 ghost use Rattle.version_rules.specs.key.PartKey.{part_bytes, Number};
 ghost use Rattle.version_parts.specs.Pieces.{GonePast};
 

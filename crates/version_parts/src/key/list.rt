@@ -4,7 +4,7 @@ ghost use Rattle.std.specs.Prelude.{◌≡◌, ◌∷◌, ◌++◌, [], List, �
 ghost use Rattle.std.specs.Iterator.{item_count, YieldsFirst};
 ghost use Rattle.version_rules.specs.grammar.Chunk.{chunk_text, PlainChunk};
 ghost use Rattle.version_parts.specs.Chunk.{plain_chunk};
-ghost use Rattle.version_rules.specs.key.Codes.{items_bytes, list_bytes};
+ghost use Rattle.version_order.specs.keys.Codes.{items_bytes, list_bytes};
 ghost use Rattle.version_rules.specs.laws.PartKey.{chunk_begins, part_begins};
 ghost use Rattle.version_rules.specs.grammar.MChunk.{mchunk_text};
 ghost use Rattle.version_parts.specs.MChunk.{plain_mchunk};

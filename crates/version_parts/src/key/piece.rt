@@ -4,9 +4,9 @@ ghost use Rattle.std.specs.Prelude.{◌≡◌, ◌∷◌, ◌++◌, [], Some, No
 ghost use Rattle.std.specs.Iterator.{item_count, YieldsFirst};
 ghost use Rattle.version_rules.specs.grammar.Chunk.{chunk_text};
 ghost use Rattle.version_parts.specs.Chunk.{plain_chunk_ref};
-ghost use Rattle.version_rules.specs.grammar.DigitRun.{run_value};
-ghost use Rattle.version_rules.specs.order.Lists.{Growing, GrowsWithin};
-ghost use Rattle.version_rules.specs.key.NumberBytes.{number_bytes};
+ghost use Rattle.version_order.specs.texts.DigitRun.{run_value};
+ghost use Rattle.version_order.specs.keys.Lists.{Growing, GrowsWithin};
+ghost use Rattle.version_order.specs.keys.NumberBytes.{number_bytes};
 ghost use Rattle.version_rules.specs.key.PartKey.{part_bytes, part_key, Number};
 ghost use Rattle.version_parts.specs.Pieces.{GonePast, after_number_bytes, place_bytes};
 ghost use Rattle.version_rules.specs.order.ReleaseOrder.{chunk_bytes};

@@ -1,12 +1,12 @@
 //! Places in a piece: what the remaining text is read as, and the step to the next byte.
 
 ghost use Rattle.std.specs.Prelude.{◌≡◌, ◌++◌, [], List, ℕ, Some, None, IfNone, IfSome};
-ghost use Rattle.version_rules.specs.grammar.DigitRun.{starts_with_digit};
+ghost use Rattle.version_order.specs.texts.DigitRun.{starts_with_digit};
 ghost use Rattle.version_parts.specs.Pieces.{after_number_bytes, place_bytes, run_bytes, step_bytes};
-ghost use Rattle.version_rules.specs.key.TextBytes.{text_byte};
+ghost use Rattle.version_order.specs.keys.TextBytes.{text_byte};
 
 use crate::key::PartText;
-use version_rules::Class;
+use version_order::Class;
 
 // What is read after a number.
 #[derive(Clone, Copy)]

@@ -5,11 +5,11 @@ ghost use Rattle.std.specs.Char.{is_ascii_digit};
 ghost use Rattle.std.specs.Fmt.{decimal};
 ghost use Rattle.std.specs.Iterator.{item_count, YieldsFirst};
 ghost use Rattle.std.specs.List.{list_all, prefix_len};
-ghost use Rattle.version_rules.specs.grammar.Class.{contains};
+ghost use Rattle.version_order.specs.texts.Class.{contains};
 
 use crate::key::inline::InlineBytes;
 use std::marker::Model;
-use version_rules::{Class, run_length};
+use version_order::{Class, run_length};
 
 /// The remaining bytes of the printed text of a part: the digits of a number, a borrowed text, and the digits of a
 /// second number. Does not allocate.

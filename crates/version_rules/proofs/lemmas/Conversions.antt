@@ -1,8 +1,8 @@
 -- A strict version widened to a general one: its text spells that too, and it prints alike.
 use Rattle.std.proofs.Common.{◌≡◌, ◌∙◌, List, ℕ, [], ◌∷◌, ◌++◌, None, refl, append_assoc}
-use Rattle.version_rules.specs.grammar.Bytes.{dot}
+use Rattle.version_order.specs.texts.Bytes.{dot}
 use Rattle.version_rules.specs.grammar.Chunk.{PlainChunk, Numeric, SpellsPart}
-use Rattle.version_rules.specs.grammar.Grammar.{SpellsDotted}
+use Rattle.version_order.specs.texts.Grammar.{SpellsDotted}
 use Rattle.version_rules.specs.grammar.Conversions.{version_of_semver}
 use Rattle.version_rules.specs.grammar.SemVer.{PlainSemVer, SpellsSemVer, semver_text}
 use Rattle.version_rules.specs.grammar.Version.{SpellsEpoch, SpellsVersion, version_text}

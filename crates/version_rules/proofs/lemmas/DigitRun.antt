@@ -10,9 +10,9 @@ use Rattle.std.specs.Cmp.{first_so, second_so}
 use Rattle.std.specs.Fmt.{decimal}
 use Rattle.std.specs.List.{list_all, list_any, position_or_len}
 use Rattle.std.specs.Str.Parse.{digits_value}
-use Rattle.version_rules.specs.grammar.DigitRun.{is_digits, number_front, starts_with_digit}
+use Rattle.version_order.specs.texts.DigitRun.{is_digits, number_front, starts_with_digit}
 use Rattle.version_rules.specs.key.Split.{split_of}
-use Rattle.version_rules.proofs.lemmas.Front.Runs.{prefix_len-append}
+use Rattle.version_order.proofs.lemmas.Front.Runs.{prefix_len-append}
 
 begins : (digits rest : List ℕ) → starts_with_digit digits ≡ true
     → starts_with_digit (digits ++ rest) ≡ true

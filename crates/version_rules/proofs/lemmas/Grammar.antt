@@ -4,15 +4,15 @@ use Rattle.std.proofs.Common.{◌≡◌, ℕ, Bool, true, List, [], ◌∷◌, �
 use Rattle.std.specs.Char.{is_ascii_alphanumeric, is_ascii_digit}
 use Rattle.std.specs.List.{list_all}
 use Rattle.version_rules.specs.grammar.Body.{PlainBody, SpellsBody}
-use Rattle.version_rules.specs.grammar.Bytes.{dot, is_identifier_byte, is_metadata_byte}
+use Rattle.version_order.specs.texts.Bytes.{dot, is_identifier_byte, is_metadata_byte}
 use Rattle.version_rules.specs.grammar.Chunk.{Numeric, Alphanum, PlainChunk, SpellsChunk, SpellsChunkOf}
-use Rattle.version_rules.specs.grammar.Grammar.{SpellsDotted, SpellsEach, SpellsOptional}
+use Rattle.version_order.specs.texts.Grammar.{SpellsDotted, SpellsEach, SpellsOptional}
 use Rattle.version_rules.specs.grammar.MChunk.{PlainMChunk, SpellsMChunk}
 use Rattle.version_rules.specs.grammar.Metadata.{SpellsMetadata}
 use Rattle.version_rules.specs.grammar.Numeral.{SpellsNumeral}
 use Rattle.version_rules.specs.grammar.Release.{SpellsRelease}
 use Rattle.version_rules.proofs.lemmas.MChunk.{spelled_run}
-use Rattle.version_rules.proofs.lemmas.Front.Runs.{all_weaker}
+use Rattle.version_order.proofs.lemmas.Front.Runs.{all_weaker}
 
 digit_byte : (b : ℕ) → is_ascii_digit b ≡ true → is_metadata_byte b ≡ true
 digit_byte b h = rw h refl

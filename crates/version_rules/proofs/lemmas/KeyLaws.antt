@@ -1,10 +1,10 @@
 -- Precedence distinguishes all keys, and the bytes of keys compare as the keys do.
 use Rattle.std.specs.FinMap.{IsAntisymmetric, nat_cmp-IsAntisymmetric}
-use Rattle.version_rules.proofs.lemmas.Codes.{writes_on, writes_then}
-use Rattle.version_rules.proofs.lemmas.NumberBytes.{number_writes}
+use Rattle.version_order.proofs.lemmas.Codes.{writes_on, writes_then}
+use Rattle.version_order.proofs.lemmas.NumberBytes.{number_writes}
 use Rattle.version_rules.proofs.lemmas.PartKey.{list_writes, lists_same}
-use Rattle.version_rules.specs.laws.Order.{then_first, then_second}
-use Rattle.version_rules.specs.key.Codes.{Writes}
+use Rattle.version_order.specs.keys.OrderLaws.{then_first, then_second}
+use Rattle.version_order.specs.keys.Codes.{Writes}
 use Rattle.version_rules.proofs.lemmas.Tail.{tail_writes, tails_same}
 use Rattle.version_rules.specs.key.Key.{Key, precedence}
 use Rattle.version_rules.specs.key.KeyBytes.{key_bytes}

@@ -1,6 +1,6 @@
 -- Where a list is split.
 use Rattle.std.proofs.Common.{◌≡◌, List, [], ◌∷◌, ◌++◌, Some, refl}
-use Rattle.version_rules.specs.order.Lists.{split_last}
+use Rattle.version_order.specs.keys.Lists.{split_last}
 
 -- a list that ends with an item is split there
 pub split_last-append : {X : Type 0} (xs : List X) (x : X)

@@ -1,2 +1,3 @@
 -- What a requirement matches.
+
 pub mod Convex

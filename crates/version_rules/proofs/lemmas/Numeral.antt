@@ -1,6 +1,4 @@
 -- Numerals: the front of an unsigned number reads what is spelled, and nothing else.
-pub mod Digits
-pub mod Runs
 use Rattle.std.proofs.Common.{◌≡◌, ◌==◌, ◌^◌, ℕ, ◌<◌, true, false, List, [], ◌∷◌, ◌++◌, length, Some, None, nat_lt, refl, sym, ap, ◌∙◌, arith, inl, inr}
 use Rattle.std.proofs.lemmas.Bool.{cases_Bool, eqb-true, ltb-true, lt-ltb}
 use Rattle.std.proofs.lemmas.Fmt.{decimal-digits_value}
@@ -10,12 +8,14 @@ use Rattle.std.proofs.lemmas.Str.Parse.{digits_value_short}
 use Rattle.std.specs.List.{list_all}
 use Rattle.std.specs.Option.{option_and_then}
 use Rattle.std.specs.Str.Parse.{digits_value}
-use Rattle.version_rules.specs.grammar.Front.{after_mark, run_front}
+use Rattle.version_order.specs.texts.Front.{after_mark, run_front}
 use Rattle.version_rules.specs.grammar.Numeral.{HasNoLeadingZero, SpellsNumeral, unsigned_front, value_of_run}
-use Rattle.version_rules.specs.grammar.Reading.{EndsRun, IsComplete, IsPrinted, IsSound}
-use Rattle.version_rules.proofs.lemmas.Front.Repeated.{cases_Option}
+use Rattle.version_order.specs.texts.Reading.{EndsRun, IsComplete, IsPrinted, IsSound}
+use Rattle.version_order.proofs.lemmas.Front.Repeated.{cases_Option}
 use Rattle.version_rules.proofs.lemmas.Numeral.Runs.{digits_model}
-use Rattle.version_rules.proofs.lemmas.Front.Runs.{after_mark-Some, reads_run, run_front-reads}
+use Rattle.version_order.proofs.lemmas.Front.Runs.{after_mark-Some, reads_run, run_front-reads}
+pub mod Digits
+pub mod Runs
 
 zero_numeral : SpellsNumeral (48 ∷ []) 0
 zero_numeral = record { digits = refl; canonical = tt; value = refl; fits = omega arith }

@@ -2,13 +2,13 @@
 use Rattle.std.proofs.Common.{◌≡◌, ◌↔◌, List, Option}
 use Rattle.std.specs.declared.cmp.Ordering.TheVariants.{Equal}
 use Rattle.version_rules.proofs.lemmas.DigitRun.{split_of-digits, split_of-no_digit}
-use Rattle.version_rules.proofs.lemmas.NumberBytes.{length_bytes-long, length_bytes-short, number_bytes-decimal, number_bytes-zero, number_writes}
+use Rattle.version_order.proofs.lemmas.NumberBytes.{length_bytes-long, length_bytes-short, number_bytes-decimal, number_bytes-zero, number_writes}
 use Rattle.version_rules.proofs.lemmas.PartKey.{list_writes, lists_same, part_key-decimal, part_key-digits, part_key-word, part_writes}
 use Rattle.version_rules.proofs.lemmas.ReleaseOrder.{release_writes}
 use Rattle.version_rules.proofs.lemmas.Split.{split_writes}
-use Rattle.version_rules.proofs.lemmas.TextBytes.{text_writes}
+use Rattle.version_order.proofs.lemmas.TextBytes.{text_writes}
 use Rattle.version_rules.proofs.lemmas.WorkedParts.{worked_bytes, worked_order}
-use Rattle.version_rules.proofs.lemmas.Orders.{equal_where_same, then_same}
+use Rattle.version_order.proofs.lemmas.Orders.{equal_where_same, then_same}
 use Rattle.version_rules.specs.grammar.Chunk.{PlainChunk}
 use Rattle.version_rules.specs.key.PartKey.{PartKey, list_cmp, part_cmp}
 use Rattle.version_rules.specs.laws.Part.{list_total, part_total, parts_same, split_total, splits_same}

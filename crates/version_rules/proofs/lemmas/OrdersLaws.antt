@@ -3,10 +3,10 @@ use Rattle.std.proofs.Common.{◌≡◌, ◌↔◌, ℕ, List, ◌∷◌, ◌++�
 use Rattle.std.specs.Cmp.{tied_itself}
 use Rattle.std.specs.Ordering.{on, ordering_then}
 use Rattle.std.specs.declared.cmp.Ordering.TheVariants.{Equal}
-use Rattle.version_rules.proofs.lemmas.Codes.{writes_alone, writes_canonical, writes_no_prefix}
-use Rattle.version_rules.specs.laws.Order.{then_equal, then_second}
-use Rattle.version_rules.proofs.lemmas.Orders.{equal_where_same, then_decided, then_same}
-use Rattle.version_rules.specs.order.Lists.{bytes_cmp}
+use Rattle.version_order.proofs.lemmas.Codes.{writes_alone, writes_canonical, writes_no_prefix}
+use Rattle.version_order.specs.keys.OrderLaws.{then_equal, then_second}
+use Rattle.version_order.proofs.lemmas.Orders.{equal_where_same, then_decided, then_same}
+use Rattle.version_order.specs.keys.Lists.{bytes_cmp}
 use Rattle.version_rules.specs.grammar.MChunk.{PlainMChunk}
 use Rattle.version_rules.specs.key.PartKey.{PartKey}
 use Rattle.version_rules.proofs.lemmas.KeyLaws.{key_writes, keys_same}
@@ -18,7 +18,7 @@ use Rattle.version_rules.specs.key.Key.{Key, key_of, key_of_mess, key_of_semver,
 use Rattle.version_rules.specs.key.KeyBytes.{key_bytes}
 use Rattle.version_rules.specs.laws.Key.{precedence_total, sections_total, tail_total}
 use Rattle.version_rules.specs.grammar.Mess.{PlainMess, mess_plain_cmp}
-use Rattle.version_rules.specs.grammar.Sep.{PlainSep}
+use Rattle.version_order.specs.texts.Sep.{PlainSep}
 use Rattle.version_rules.specs.laws.Mess.{mess_total, messes_same}
 use Rattle.version_rules.specs.order.Orders.{mess_cmp, version_cmp, versioning_cmp}
 use Rattle.version_rules.specs.laws.Orders.{keys_tied, mess_cmp_total, version_cmp_total, versioning_cmp_total}

@@ -7,14 +7,14 @@ use Rattle.std.specs.FinMap.{IsAntisymmetric}
 use Rattle.std.specs.Fmt.{decimal}
 use Rattle.std.specs.Ordering.{nat_cmp, ordering_then}
 use Rattle.std.specs.Str.Parse.{digits_value}
-use Rattle.version_rules.proofs.lemmas.Codes.{ended_same, in_turn, writes_list}
+use Rattle.version_order.proofs.lemmas.Codes.{ended_same, in_turn, writes_list}
 use Rattle.version_rules.proofs.lemmas.DigitRun.{decimal-digits, number_front-digits, number_front-none}
-use Rattle.version_rules.proofs.lemmas.NumberBytes.{number_writes}
+use Rattle.version_order.proofs.lemmas.NumberBytes.{number_writes}
 use Rattle.version_rules.proofs.lemmas.Split.{split_writes}
-use Rattle.version_rules.specs.key.Codes.{Writes}
-use Rattle.version_rules.specs.grammar.DigitRun.{is_digits, starts_with_digit}
-use Rattle.version_rules.specs.order.Lists.{bytes_cmp, none_last_cmp}
-use Rattle.version_rules.specs.key.NumberBytes.{number_bytes}
+use Rattle.version_order.specs.keys.Codes.{Writes}
+use Rattle.version_order.specs.texts.DigitRun.{is_digits, starts_with_digit}
+use Rattle.version_order.specs.keys.Lists.{bytes_cmp, none_last_cmp}
+use Rattle.version_order.specs.keys.NumberBytes.{number_bytes}
 use Rattle.version_rules.specs.laws.Part.{parts_same}
 use Rattle.version_rules.specs.key.PartKey.{PartKey, Word, Number, list_cmp, part_bytes, part_cmp, part_key, parts_bytes, suffix_bytes, suffix_of}
 use Rattle.version_rules.specs.key.Split.{Split, split_cmp, split_of}

@@ -6,12 +6,12 @@ use Rattle.std.specs.Char.{digit_char}
 use Rattle.std.specs.Int.Digits.{AllBelowBase}
 use Rattle.std.specs.List.{AllByRecursion, flat_map}
 use Rattle.version_rules.specs.grammar.Chunk.{PlainChunk, Numeric, Alphanum}
-use Rattle.version_rules.specs.key.Codes.{list_bytes}
-use Rattle.version_rules.specs.key.NumberBytes.{length_bytes, number_bytes}
+use Rattle.version_order.specs.keys.Codes.{list_bytes}
+use Rattle.version_order.specs.keys.NumberBytes.{length_bytes, number_bytes}
 use Rattle.version_rules.specs.key.PartKey.{PartKey, Word, Number, part_bytes, parts_bytes}
 use Rattle.version_rules.specs.order.ReleaseOrder.{chunk_bytes, release_bytes}
 use Rattle.version_rules.specs.key.Split.{Split, numbered_bytes, split_bytes}
-use Rattle.version_rules.specs.key.TextBytes.{text_byte, text_bytes}
+use Rattle.version_order.specs.keys.TextBytes.{text_byte, text_bytes}
 use Rattle.version_rules.specs.key.PartTexts.{held_text, held_texts, part_text, parts_text, rest_text, split_text}
 
 -- each is a byte, by cases on the list

@@ -1,6 +1,5 @@
 -- Ranges of requirements: what a list matches is in its range, and a range that is exact has no
 -- other version.
-pub mod Series
 use Rattle.std.proofs.Common.{◌≡◌, ◌↔◌, ◌&&◌, ℕ, Bool, List, [], ◌∷◌, ◌++◌, fold, if◌then◌else◌, Option, Some, None, IsTrue, arith, refl, sym, ap, ◌∙◌, subst}
 use Rattle.std.proofs.lemmas.List.{append-nil}
 use Rattle.std.proofs.lemmas.List.Elements.{All-cons, All-nil, All-rest}
@@ -11,7 +10,7 @@ use Rattle.std.specs.Option.{IfSome}
 use Rattle.std.specs.Ordering.{is_lt, ordering_reverse, ordering_then}
 use Rattle.std.specs.declared.cmp.Ordering.{Ordering}
 use Rattle.std.specs.declared.cmp.Ordering.TheVariants.{Less, Equal, Greater}
-use Rattle.version_rules.specs.order.Lists.{bytes_cmp}
+use Rattle.version_order.specs.keys.Lists.{bytes_cmp}
 use Rattle.version_rules.proofs.lemmas.Matching.Convex.{back, not_below_stays}
 use Rattle.version_rules.proofs.lemmas.OrdersLaws.{key_bytes_alone, key_bytes_compare}
 use Rattle.version_rules.proofs.lemmas.SemVerOrder.{precedence_of_semvers}
@@ -24,12 +23,14 @@ use Rattle.version_rules.specs.key.KeyBytes.{key_bytes}
 use Rattle.version_rules.specs.grammar.Kind.{versioning_kind}
 use Rattle.version_rules.specs.requirement.Matching.{Matches, MatchesAll, MatchesOp}
 use Rattle.version_rules.specs.laws.Orders.{keys_tied}
-use Rattle.version_rules.specs.requirement.Range.{IsIn, PlainRange, after, all_kinds, bytes_of, common, common_kinds, earlier, earlier_high, everything, has_kind, kind_alone, later, nothing, op_range, range_of, range_without_version, requirement_range}
+use Rattle.version_rules.specs.requirement.Range.{IsIn, PlainRange, all_kinds, bytes_of, common, common_kinds, earlier, earlier_high, everything, has_kind, kind_alone, later, nothing, op_range, range_of, range_without_version, requirement_range}
+use Rattle.version_order.specs.Keyed.{after}
 use Rattle.version_rules.specs.requirement.Requirement.{PlainRequirement}
 use Rattle.version_rules.specs.order.SemVerOrder.{semver_cmp}
 use Rattle.version_rules.specs.grammar.Versioning.{PlainVersioning, Ideal, General, Complex, versioning_plain_cmp}
 use Rattle.version_rules.specs.declared.kind.Kind.TheVariants as kind
 use Rattle.version_rules.specs.declared.op.Op.TheVariants as op
+pub mod Series
 
 -- ---- comparisons of bytes
 

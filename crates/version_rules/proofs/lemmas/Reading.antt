@@ -2,8 +2,8 @@
 use Rattle.std.proofs.Common.{◌≡◌, ◌==◌, List, ℕ, [], length, Option, Some, None, refl, ap, inl, inr, append-nil, arith}
 use Rattle.std.proofs.lemmas.Bool.{cases_Bool, eqb-true}
 use Rattle.std.proofs.lemmas.List.{nil_from_length}
-use Rattle.version_rules.specs.grammar.Front.{Front, whole}
-use Rattle.version_rules.specs.grammar.Reading.{IsSound}
+use Rattle.version_order.specs.texts.Front.{Front, whole}
+use Rattle.version_order.specs.texts.Reading.{IsSound}
 
 -- a value is read from the whole text if the front leaves no rest
 pub whole-Some : {X : Type 0} (read : Option (X × List ℕ)) (x : X) → whole read ≡ Some x

@@ -2,12 +2,12 @@
 use Rattle.std.proofs.Common.{◌≡◌, ℕ, List, ◌++◌, Option, Some, None, refl}
 use Rattle.std.specs.Option.{option_cmp}
 use Rattle.std.specs.Ordering.{ordering_then}
-use Rattle.version_rules.proofs.lemmas.Codes.{writes_slice}
-use Rattle.version_rules.proofs.lemmas.NumberBytes.{number_writes}
-use Rattle.version_rules.proofs.lemmas.TextBytes.{text_writes}
+use Rattle.version_order.proofs.lemmas.Codes.{writes_slice}
+use Rattle.version_order.proofs.lemmas.NumberBytes.{number_writes}
+use Rattle.version_order.proofs.lemmas.TextBytes.{text_writes}
 use Rattle.version_rules.specs.grammar.Chunk.{PlainChunk, Numeric, Alphanum}
-use Rattle.version_rules.specs.key.Codes.{Writes}
-use Rattle.version_rules.specs.order.Lists.{bytes_cmp}
+use Rattle.version_order.specs.keys.Codes.{Writes}
+use Rattle.version_order.specs.keys.Lists.{bytes_cmp}
 use Rattle.version_rules.specs.laws.Release.{chunks_same}
 use Rattle.version_rules.specs.order.ReleaseOrder.{chunk_bytes, chunk_cmp, release_bytes, release_cmp}
 

@@ -7,12 +7,12 @@ use Rattle.std.proofs.lemmas.List.Folds.{list_all-append}
 use Rattle.std.specs.Cmp.{first_so, second_so}
 use Rattle.std.specs.List.{All, list_all}
 use Rattle.std.specs.Option.{option_map, option_map_or}
-use Rattle.version_rules.specs.grammar.Bytes.{is_metadata_byte}
-use Rattle.version_rules.specs.grammar.Front.{begins}
-use Rattle.version_rules.specs.grammar.Reading.{IsPrinted}
-use Rattle.version_rules.specs.grammar.Sep.{PlainSep, Colon, Hyphen, Plus, Underscore, Tilde, sep_byte}
-use Rattle.version_rules.proofs.lemmas.Front.Repeated.{cases_Option}
-use Rattle.version_rules.proofs.lemmas.Front.Runs.{all_weaker}
+use Rattle.version_order.specs.texts.Bytes.{is_metadata_byte}
+use Rattle.version_order.specs.texts.Front.{begins}
+use Rattle.version_order.specs.texts.Reading.{IsPrinted}
+use Rattle.version_order.specs.texts.Sep.{PlainSep, Colon, Hyphen, Plus, Underscore, Tilde, sep_byte}
+use Rattle.version_order.proofs.lemmas.Front.Repeated.{cases_Option}
+use Rattle.version_order.proofs.lemmas.Front.Runs.{all_weaker}
 use Rattle.version_rules.specs.declared.op.Op.{Op}
 use Rattle.version_rules.specs.requirement.Op.{op_front, op_text}
 use Rattle.version_rules.specs.requirement.Requirement.{PlainRequirement, RequirementOwns, SpellsOperand, SpellsRequirement, operand_of, requirement_of, requirement_text}

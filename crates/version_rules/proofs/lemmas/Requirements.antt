@@ -5,8 +5,8 @@ use Rattle.std.proofs.lemmas.List.Splits.{join_with_byte-slice_split, length-sli
 use Rattle.std.proofs.lemmas.Slice.Zip.{AllZip-long}
 use Rattle.std.specs.List.{AllZip, count_by, join_with_byte, list_all, slice_split}
 use Rattle.std.specs.Option.{is_some}
-use Rattle.version_rules.specs.grammar.Reading.{IsPrinted}
-use Rattle.version_rules.proofs.lemmas.Front.Repeated.{cases_Option}
+use Rattle.version_order.specs.texts.Reading.{IsPrinted}
+use Rattle.version_order.proofs.lemmas.Front.Repeated.{cases_Option}
 use Rattle.version_rules.specs.requirement.Requirement.{PlainRequirement, SpellsRequirement, requirement_of, requirement_text}
 use Rattle.version_rules.specs.requirement.Requirements.{SpellsRequirements, comma, every, requirements_of, requirements_text}
 use Rattle.version_rules.proofs.lemmas.Requirement.{requirement_of-Some, requirement_of-spells, requirement_printed, requirement_without_comma}

@@ -1,10 +1,10 @@
 -- On strict versions precedence is the order of strict versions.
 use Rattle.std.proofs.Common.{◌≡◌, List, Option, Some, None, refl}
 use Rattle.std.specs.Option.{option_map_or}
-use Rattle.version_rules.specs.laws.Order.{then_equal}
-use Rattle.version_rules.proofs.lemmas.Orders.{then_assoc}
+use Rattle.version_order.specs.keys.OrderLaws.{then_equal}
+use Rattle.version_order.proofs.lemmas.Orders.{then_assoc}
 use Rattle.version_rules.specs.grammar.Chunk.{PlainChunk}
-use Rattle.version_rules.specs.order.Lists.{none_last_cmp}
+use Rattle.version_order.specs.keys.Lists.{none_last_cmp}
 use Rattle.version_rules.specs.order.ReleaseOrder.{release_cmp}
 use Rattle.version_rules.specs.key.Key.{key_of_semver, precedence}
 use Rattle.version_rules.specs.grammar.SemVer.{PlainSemVer}

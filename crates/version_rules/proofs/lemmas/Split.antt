@@ -2,14 +2,14 @@
 use Rattle.std.proofs.Common.{◌≡◌, ℕ, List, ◌++◌, Option, Some, None, refl}
 use Rattle.std.specs.Option.{option_cmp}
 use Rattle.std.specs.Ordering.{ordering_then}
-use Rattle.version_rules.proofs.lemmas.Codes.{writes_on, writes_then}
-use Rattle.version_rules.proofs.lemmas.NumberBytes.{number_writes}
-use Rattle.version_rules.proofs.lemmas.TextBytes.{text_writes}
-use Rattle.version_rules.specs.key.Codes.{Writes}
-use Rattle.version_rules.specs.order.Lists.{bytes_cmp}
-use Rattle.version_rules.specs.key.NumberBytes.{number_bytes}
+use Rattle.version_order.proofs.lemmas.Codes.{writes_on, writes_then}
+use Rattle.version_order.proofs.lemmas.NumberBytes.{number_writes}
+use Rattle.version_order.proofs.lemmas.TextBytes.{text_writes}
+use Rattle.version_order.specs.keys.Codes.{Writes}
+use Rattle.version_order.specs.keys.Lists.{bytes_cmp}
+use Rattle.version_order.specs.keys.NumberBytes.{number_bytes}
 use Rattle.version_rules.specs.key.Split.{Split, numbered_bytes, numbered_cmp, split_bytes, split_cmp}
-use Rattle.version_rules.specs.key.TextBytes.{text_bytes}
+use Rattle.version_order.specs.keys.TextBytes.{text_bytes}
 
 numbered_writes : Writes numbered_cmp (λ n. number_bytes n.0 ++ text_bytes n.1)
 numbered_writes =

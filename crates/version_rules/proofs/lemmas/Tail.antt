@@ -3,12 +3,12 @@ use Rattle.std.proofs.Common.{◌≡◌, ℕ, List, ◌∷◌, ◌++◌, Option,
 use Rattle.std.specs.FinMap.{IsAntisymmetric, slice_cmp-IsAntisymmetric}
 use Rattle.std.specs.Option.{option_cmp}
 use Rattle.std.specs.Ordering.{ordering_then}
-use Rattle.version_rules.proofs.lemmas.Codes.{writes_slice}
+use Rattle.version_order.proofs.lemmas.Codes.{writes_slice}
 use Rattle.version_rules.proofs.lemmas.PartKey.{list_writes, lists_same}
 use Rattle.version_rules.proofs.lemmas.ReleaseOrder.{release_writes}
 use Rattle.version_rules.specs.laws.Release.{releases_same}
-use Rattle.version_rules.specs.key.Codes.{Writes, list_bytes}
-use Rattle.version_rules.specs.order.Lists.{bytes_cmp}
+use Rattle.version_order.specs.keys.Codes.{Writes, list_bytes}
+use Rattle.version_order.specs.keys.Lists.{bytes_cmp}
 use Rattle.version_rules.specs.key.PartKey.{PartKey, list_cmp}
 use Rattle.version_rules.specs.key.Tail.{Tail, PreReleased, Bare, Released, Sections, section_bytes, sections_cmp, tail_bytes, tail_cmp}
 

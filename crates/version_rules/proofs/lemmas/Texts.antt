@@ -7,7 +7,7 @@ use Rattle.std.specs.Option.{option_map_or}
 use Rattle.std.specs.Str.Parse.{digits_value}
 use Rattle.version_rules.proofs.lemmas.PartTexts.{Bytes, append_are_bytes, left_are_bytes, list_are_bytes, number_are_bytes, parts_are_bytes, release_are_bytes, right_are_bytes}
 use Rattle.version_rules.specs.grammar.Chunk.{PlainChunk, chunk_text}
-use Rattle.version_rules.specs.grammar.DigitRun.{number_front, starts_with_digit}
+use Rattle.version_order.specs.texts.DigitRun.{number_front, starts_with_digit}
 use Rattle.version_rules.specs.grammar.Last.{last_text}
 use Rattle.version_rules.specs.grammar.MChunk.{PlainMChunk, mchunk_text}
 use Rattle.version_rules.specs.key.PartKey.{PartKey, Word, Number, part_key, chunk_parts, section_parts, suffix_of}
@@ -15,7 +15,7 @@ use Rattle.version_rules.specs.key.Split.{split_of}
 use Rattle.version_rules.specs.key.PartTexts.{AreBytes, held_texts, part_text, parts_text, rest_text, split_text}
 use Rattle.version_rules.specs.key.Key.{Key, key_behind_epoch, key_of, key_of_sections, section_epoch, sections_tail}
 use Rattle.version_rules.specs.key.KeyBytes.{key_bytes}
-use Rattle.version_rules.specs.grammar.Sep.{PlainSep, Colon}
+use Rattle.version_order.specs.texts.Sep.{PlainSep, Colon}
 use Rattle.version_rules.specs.key.Tail.{Tail, PreReleased, Bare, Released, Sections, section_bytes, tail_bytes}
 use Rattle.version_rules.specs.key.Texts.{key_text, section_text, tail_text, texts_of}
 use Rattle.version_rules.specs.grammar.Versioning.{PlainVersioning, Ideal, General, Complex}

@@ -1,10 +1,9 @@
 -- Versions of any kind: a text parses as the version of the first kind that fits, and the version
 -- prints the text.
-pub mod Spelled
 use Rattle.std.proofs.Common.{◌≡◌, List, ℕ, Some, None, refl, inl, inr}
 use Rattle.std.specs.Str.{IsAscii}
-use Rattle.version_rules.specs.grammar.Reading.{IsPrinted}
-use Rattle.version_rules.proofs.lemmas.Front.Repeated.{cases_Option}
+use Rattle.version_order.specs.texts.Reading.{IsPrinted}
+use Rattle.version_order.proofs.lemmas.Front.Repeated.{cases_Option}
 use Rattle.version_rules.specs.grammar.Mess.{mess_of}
 use Rattle.version_rules.specs.grammar.SemVer.{PlainSemVer, SpellsSemVer, semver_of}
 use Rattle.version_rules.specs.grammar.Version.{PlainVersion, SpellsVersion, version_of}
@@ -12,6 +11,7 @@ use Rattle.version_rules.specs.grammar.Versioning.{PlainVersioning, Ideal, Gener
 use Rattle.version_rules.proofs.lemmas.Mess.{mess_of-Some, mess_of-spells, mess_ascii, mess_printed}
 use Rattle.version_rules.proofs.lemmas.SemVer.{semver_ascii, semver_of-Some, semver_of-spells, semver_printed}
 use Rattle.version_rules.proofs.lemmas.Version.{version_ascii, version_of-Some, version_of-spells, version_printed}
+pub mod Spelled
 
 -- a text parses as no strict version exactly if it spells none
 no_semver : (text : List ℕ) → ((w : PlainSemVer) → ¬ (SpellsSemVer text w)) → semver_of text ≡ None

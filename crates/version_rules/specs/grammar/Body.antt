@@ -1,12 +1,12 @@
 -- Bodies of general versions: one part or more, joined by dots. The last part is decomposed.
 use Rattle.std.specs.Prelude.{◌<◌, ◌++◌, ◌∷◌, ◌⊎◌, ℕ, List, [], length, Option, Some}
 use Rattle.std.specs.Option.{option_map, option_map_or}
-use Rattle.version_rules.specs.grammar.Bytes.{dot}
+use Rattle.version_order.specs.texts.Bytes.{dot}
 use Rattle.version_rules.specs.grammar.Chunk.{PlainChunk, SpellsPart, part_front}
-use Rattle.version_rules.specs.grammar.Front.{◌>>=◌, Front, dotted_front}
-use Rattle.version_rules.specs.grammar.Grammar.{SpellsDotted}
+use Rattle.version_order.specs.texts.Front.{◌>>=◌, Front, dotted_front}
+use Rattle.version_order.specs.texts.Grammar.{SpellsDotted}
 use Rattle.version_rules.specs.grammar.Last.{IsLastOf, LastOwns, Numeric, PlainLast, last_of, last_text}
-use Rattle.version_rules.specs.order.Lists.{split_last}
+use Rattle.version_order.specs.keys.Lists.{split_last}
 use Rattle.version_rules.specs.grammar.Release.{release_text}
 
 -- parts joined by dots

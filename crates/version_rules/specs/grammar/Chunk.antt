@@ -6,8 +6,8 @@ use Rattle.std.specs.Char.{is_ascii_alphabetic, is_ascii_alphanumeric, is_ascii_
 use Rattle.std.specs.Fmt.{decimal}
 use Rattle.std.specs.List.{list_all, prefix_len, take_while}
 use Rattle.std.specs.Option.{option_map}
-use Rattle.version_rules.specs.grammar.Bytes.{is_identifier_byte}
-use Rattle.version_rules.specs.grammar.Front.{◌>>=◌, Front, map_value}
+use Rattle.version_order.specs.texts.Bytes.{is_identifier_byte}
+use Rattle.version_order.specs.texts.Front.{◌>>=◌, Front, map_value}
 use Rattle.version_rules.specs.grammar.Numeral.{SpellsNumeral, unsigned_front}
 
 -- the value of a chunk, whether its text is owned or borrowed

@@ -6,7 +6,7 @@ use Rattle.std.specs.Fmt.{decimal}
 use Rattle.std.specs.List.{list_all}
 use Rattle.std.specs.Option.{option_map}
 use Rattle.version_rules.specs.grammar.Chunk.{PlainChunk}
-use Rattle.version_rules.specs.grammar.Front.{◌>>=◌, run_front, whole}
+use Rattle.version_order.specs.texts.Front.{◌>>=◌, run_front, whole}
 use Rattle.version_rules.specs.grammar.Numeral.{SpellsNumeral, unsigned_front}
 use Rattle.version_rules.specs.grammar.Chunk as chunk
 

@@ -7,11 +7,11 @@ use Rattle.std.specs.Option.{option_map, option_map_or}
 use Rattle.std.specs.Ordering.{nat_cmp, on, then_cmp}
 use Rattle.std.specs.Str.Parse.{digits_value}
 use Rattle.std.specs.declared.cmp.Ordering.{Ordering}
-use Rattle.version_rules.specs.grammar.Bytes.{dot}
-use Rattle.version_rules.specs.grammar.DigitRun.{is_digits}
-use Rattle.version_rules.specs.grammar.Front.{◌>>=◌, Front, after_mark, run_front}
-use Rattle.version_rules.specs.order.Lists.{bytes_cmp}
-use Rattle.version_rules.specs.grammar.Sep.{is_sep}
+use Rattle.version_order.specs.texts.Bytes.{dot}
+use Rattle.version_order.specs.texts.DigitRun.{is_digits}
+use Rattle.version_order.specs.texts.Front.{◌>>=◌, Front, after_mark, run_front}
+use Rattle.version_order.specs.keys.Lists.{bytes_cmp}
+use Rattle.version_order.specs.texts.Sep.{is_sep}
 
 -- the value of a messy chunk, whether its text is owned or borrowed; digits and a revision keep
 -- their value beside their text

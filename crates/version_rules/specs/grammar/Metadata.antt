@@ -2,8 +2,8 @@
 -- requires that no piece between dots is empty.
 use Rattle.std.specs.Prelude.{◌≡◌, ℕ, ◌<◌, List, length, true}
 use Rattle.std.specs.List.{list_all}
-use Rattle.version_rules.specs.grammar.Bytes.{is_metadata_byte, plus}
-use Rattle.version_rules.specs.grammar.Front.{Front, behind, run_front}
+use Rattle.version_order.specs.texts.Bytes.{is_metadata_byte, plus}
+use Rattle.version_order.specs.texts.Front.{Front, behind, run_front}
 
 -- the text is this metadata
 abbrev pub SpellsMetadata : List ℕ → List ℕ → Type 0

@@ -4,7 +4,7 @@ use Rattle.std.specs.Char.{is_ascii_digit}
 use Rattle.std.specs.List.{list_all}
 use Rattle.std.specs.Option.{option_map_or}
 use Rattle.std.specs.Str.Parse.{digits_value}
-use Rattle.version_rules.specs.grammar.Front.{◌>>=◌, Front, after_mark, run_front}
+use Rattle.version_order.specs.texts.Front.{◌>>=◌, Front, after_mark, run_front}
 
 -- one digit, or digits of which the first is not 0
 abbrev pub HasNoLeadingZero : List ℕ → Type 0

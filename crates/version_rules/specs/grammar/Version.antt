@@ -4,10 +4,10 @@ use Rattle.std.specs.Fmt.{decimal}
 use Rattle.std.specs.Option.{option_and_then}
 use Rattle.std.specs.List.{slice_get}
 use Rattle.version_rules.specs.grammar.Body.{BodyOwns, SpellsBody, body_front, body_text}
-use Rattle.version_rules.specs.grammar.Bytes.{colon, hyphen, plus}
+use Rattle.version_order.specs.texts.Bytes.{colon, hyphen, plus}
 use Rattle.version_rules.specs.grammar.Chunk.{PlainChunk, number_of}
-use Rattle.version_rules.specs.grammar.Front.{◌>>=◌, Front, after_mark, optional, whole}
-use Rattle.version_rules.specs.grammar.Grammar.{SpellsOptional}
+use Rattle.version_order.specs.texts.Front.{◌>>=◌, Front, after_mark, optional, whole}
+use Rattle.version_order.specs.texts.Grammar.{SpellsOptional}
 use Rattle.version_rules.specs.grammar.Last.{PlainLast, first_number}
 use Rattle.version_rules.specs.grammar.Metadata.{SpellsMetadata, meta_front}
 use Rattle.version_rules.specs.grammar.Numeral.{SpellsNumeral, unsigned_front}

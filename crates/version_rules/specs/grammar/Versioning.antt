@@ -3,7 +3,7 @@ use Rattle.std.specs.Prelude.{◌≡◌, ℕ, Bool, true, false, List, ◌==◌,
 use Rattle.std.specs.Option.{is_some, option_map, option_or}
 use Rattle.std.specs.Ordering.{nat_cmp}
 use Rattle.std.specs.declared.cmp.Ordering.{Ordering}
-use Rattle.version_rules.specs.grammar.Front.{Front, map_value}
+use Rattle.version_order.specs.texts.Front.{Front, map_value}
 use Rattle.version_rules.specs.grammar.Mess.{PlainMess, SpellsMess, mess_front, mess_of, mess_plain_cmp, mess_text, nth_number}
 use Rattle.version_rules.specs.grammar.SemVer.{PlainSemVer, SemVerOwns, SpellsSemVer, semver_front, semver_of, semver_text}
 use Rattle.version_rules.specs.order.SemVerOrder.{SameButMetadata, semver_cmp}

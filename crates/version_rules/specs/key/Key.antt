@@ -4,12 +4,12 @@ use Rattle.std.specs.Option.{option_map_or, unwrap_or}
 use Rattle.std.specs.Ordering.{nat_cmp, on, then_cmp}
 use Rattle.std.specs.Str.Parse.{digits_value}
 use Rattle.std.specs.declared.cmp.Ordering.{Ordering}
-use Rattle.version_rules.specs.grammar.DigitRun.{is_digits}
+use Rattle.version_order.specs.texts.DigitRun.{is_digits}
 use Rattle.version_rules.specs.grammar.Last.{last_text}
 use Rattle.version_rules.specs.grammar.MChunk.{PlainMChunk, mchunk_text}
 use Rattle.version_rules.specs.key.PartKey.{PartKey, Number, chunk_parts, list_cmp, part_key, section_parts}
 use Rattle.version_rules.specs.grammar.Mess.{PlainMess}
-use Rattle.version_rules.specs.grammar.Sep.{PlainSep, Colon}
+use Rattle.version_order.specs.texts.Sep.{PlainSep, Colon}
 use Rattle.version_rules.specs.grammar.SemVer.{PlainSemVer}
 use Rattle.version_rules.specs.key.Tail.{Tail, PreReleased, Bare, Released, Sections, tail_cmp}
 use Rattle.version_rules.specs.grammar.Version.{PlainVersion}

@@ -1,7 +1,7 @@
 -- The bytes of a key, which compare as precedence does.
 use Rattle.std.specs.Prelude.{ℕ, List, ◌++◌, map}
-use Rattle.version_rules.specs.key.Codes.{list_bytes}
-use Rattle.version_rules.specs.key.NumberBytes.{number_bytes}
+use Rattle.version_order.specs.keys.Codes.{list_bytes}
+use Rattle.version_order.specs.keys.NumberBytes.{number_bytes}
 use Rattle.version_rules.specs.key.PartKey.{parts_bytes, section_parts}
 use Rattle.version_rules.specs.key.Key.{Key}
 use Rattle.version_rules.specs.grammar.Mess.{Further}

@@ -5,11 +5,11 @@ use Rattle.std.specs.Ordering.{nat_cmp, ordering_then}
 use Rattle.std.specs.declared.cmp.Ordering.{Ordering}
 use Rattle.std.specs.declared.cmp.Ordering.TheVariants.{Less, Equal, Greater}
 use Rattle.version_rules.specs.grammar.Chunk.{PlainChunk, chunk_text}
-use Rattle.version_rules.specs.key.Codes.{list_bytes}
-use Rattle.version_rules.specs.grammar.DigitRun.{number_front}
-use Rattle.version_rules.specs.order.Lists.{ended_cmp, none_last_cmp}
+use Rattle.version_order.specs.keys.Codes.{list_bytes}
+use Rattle.version_order.specs.texts.DigitRun.{number_front}
+use Rattle.version_order.specs.keys.Lists.{ended_cmp, none_last_cmp}
 use Rattle.version_rules.specs.grammar.MChunk.{PlainMChunk, mchunk_text}
-use Rattle.version_rules.specs.key.NumberBytes.{number_bytes}
+use Rattle.version_order.specs.keys.NumberBytes.{number_bytes}
 use Rattle.version_rules.specs.key.Split.{Split, split_bytes, split_cmp, split_of}
 
 -- a word, or a number with a suffix or plain

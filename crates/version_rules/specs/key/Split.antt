@@ -5,10 +5,10 @@ use Rattle.std.specs.List.{before_first, position_or_len}
 use Rattle.std.specs.Option.{option_cmp}
 use Rattle.std.specs.Ordering.{nat_cmp, on, then_cmp}
 use Rattle.std.specs.declared.cmp.Ordering.{Ordering}
-use Rattle.version_rules.specs.grammar.DigitRun.{number_front}
-use Rattle.version_rules.specs.order.Lists.{bytes_cmp}
-use Rattle.version_rules.specs.key.NumberBytes.{number_bytes}
-use Rattle.version_rules.specs.key.TextBytes.{text_bytes}
+use Rattle.version_order.specs.texts.DigitRun.{number_front}
+use Rattle.version_order.specs.keys.Lists.{bytes_cmp}
+use Rattle.version_order.specs.keys.NumberBytes.{number_bytes}
+use Rattle.version_order.specs.keys.TextBytes.{text_bytes}
 
 -- the text before the first digit, and, if there is a digit, the number there with the text after
 -- it

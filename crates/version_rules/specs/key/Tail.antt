@@ -5,7 +5,7 @@ use Rattle.std.specs.Ordering.{nat_cmp, on, then_cmp}
 use Rattle.std.specs.declared.cmp.Ordering.{Ordering}
 use Rattle.std.specs.declared.cmp.Ordering.TheVariants.{Equal}
 use Rattle.version_rules.specs.grammar.Chunk.{PlainChunk}
-use Rattle.version_rules.specs.key.Codes.{list_bytes}
+use Rattle.version_order.specs.keys.Codes.{list_bytes}
 use Rattle.version_rules.specs.key.PartKey.{PartKey, list_cmp, parts_bytes}
 use Rattle.version_rules.specs.order.ReleaseOrder.{release_bytes, release_cmp}
 

@@ -7,7 +7,7 @@ use Rattle.std.specs.List.{list_all, prefix_len, take_while}
 use Rattle.std.specs.Option.{option_map}
 use Rattle.std.specs.Str.Parse.{digits_value}
 use Rattle.version_rules.specs.grammar.Chunk.{Numeric, chunk_front_of}
-use Rattle.version_rules.specs.grammar.Front.{◌>>=◌, Consumes, run_front, unless_empty}
+use Rattle.version_order.specs.texts.Front.{◌>>=◌, Consumes, run_front, unless_empty}
 use Rattle.version_rules.specs.grammar.MChunk.{chunk_before, mchunk_front}
 use Rattle.version_rules.specs.grammar.Numeral.{unsigned_front, value_of_run}
 

@@ -6,8 +6,8 @@ use Rattle.std.specs.FinMap.{IsAntisymmetric, nat_cmp-IsAntisymmetric}
 use Rattle.std.specs.Ordering.{nat_cmp, on, ordering_then, then_cmp}
 use Rattle.version_rules.specs.grammar.Last.{PlainLast, Numeric, Rc, Post, Alphanum}
 use Rattle.version_rules.specs.order.LastOrder.{last_plain_cmp, last_rank}
-use Rattle.version_rules.specs.order.Lists.{bytes_cmp}
-use Rattle.version_rules.specs.laws.Order.{bytes_same, then_equal, then_first, then_second}
+use Rattle.version_order.specs.keys.Lists.{bytes_cmp}
+use Rattle.version_order.specs.keys.OrderLaws.{bytes_same, then_equal, then_first, then_second}
 
 -- a last part as its rank, its first number, its text and its second number
 first : PlainLast → ℕ

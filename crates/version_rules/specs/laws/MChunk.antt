@@ -5,8 +5,8 @@ use Rattle.std.specs.Cmp.{IsTotalOrder, nat_cmp_total, on_total, then_total}
 use Rattle.std.specs.Cmp.Lexicographic.{nat_list_cmp_total}
 use Rattle.std.specs.FinMap.{IsAntisymmetric, nat_cmp-IsAntisymmetric}
 use Rattle.version_rules.specs.grammar.MChunk.{PlainMChunk, Digits, Rev, Plain, mchunk_plain_cmp, mchunk_rank, mchunk_text, mchunk_value}
-use Rattle.version_rules.specs.laws.Order.{bytes_same, then_first, then_second}
-use Rattle.version_rules.specs.grammar.Sep.{PlainSep, Colon, Hyphen, Plus, Underscore, Tilde, sep_plain_cmp, sep_rank}
+use Rattle.version_order.specs.keys.OrderLaws.{bytes_same, then_first, then_second}
+use Rattle.version_order.specs.texts.Sep.{PlainSep, Colon, Hyphen, Plus, Underscore, Tilde, sep_plain_cmp, sep_rank}
 
 pub sep_total : IsTotalOrder sep_plain_cmp
 sep_total = on_total sep_rank nat_cmp_total

@@ -3,7 +3,7 @@ use Rattle.std.specs.Cmp.{IsTotalOrder, on_total, then_total}
 use Rattle.std.specs.Cmp.Lexicographic.{lists_total}
 use Rattle.std.specs.FinMap.{IsAntisymmetric, slice_cmp-IsAntisymmetric}
 use Rattle.version_rules.specs.laws.MChunk.{mchunk_total, mchunks_same, sep_total, seps_same}
-use Rattle.version_rules.specs.laws.Order.{then_first, then_second}
+use Rattle.version_order.specs.keys.OrderLaws.{then_first, then_second}
 use Rattle.version_rules.specs.grammar.Mess.{Further, PlainMess, further_plain_cmp, mess_plain_cmp, section_plain_cmp}
 
 section_total : IsTotalOrder section_plain_cmp

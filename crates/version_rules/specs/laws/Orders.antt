@@ -3,7 +3,7 @@ use Rattle.std.proofs.Common.{◌≡◌}
 use Rattle.std.specs.Cmp.{IsTotalOrder, on_total, then_total, tied_itself}
 use Rattle.std.specs.Ordering.{eq_by_cmp}
 use Rattle.std.specs.declared.cmp.Ordering.TheVariants.{Equal}
-use Rattle.version_rules.specs.laws.Order.{ties_behind, ties_same}
+use Rattle.version_order.specs.keys.OrderLaws.{ties_behind, ties_same}
 use Rattle.version_rules.specs.key.Key.{key_of, key_of_mess, key_of_version, precedence}
 use Rattle.version_rules.specs.laws.Key.{precedence_total}
 use Rattle.version_rules.specs.grammar.Mess.{PlainMess, mess_plain_cmp}

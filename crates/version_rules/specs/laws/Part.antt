@@ -5,8 +5,8 @@ use Rattle.std.specs.Cmp.Lexicographic.{lists_total, nat_list_cmp_total, options
 use Rattle.std.specs.FinMap.{IsAntisymmetric, nat_cmp-IsAntisymmetric}
 use Rattle.std.specs.Option.{option_cmp}
 use Rattle.std.specs.Ordering.{nat_cmp, on, then_cmp}
-use Rattle.version_rules.specs.order.Lists.{none_last_cmp, with_end}
-use Rattle.version_rules.specs.laws.Order.{bytes_same, none_last_same, none_last_total, options_same, then_equal, then_first, then_second}
+use Rattle.version_order.specs.keys.Lists.{none_last_cmp, with_end}
+use Rattle.version_order.specs.keys.OrderLaws.{bytes_same, none_last_same, none_last_total, options_same, then_equal, then_first, then_second}
 use Rattle.version_rules.specs.key.PartKey.{PartKey, Word, Number, list_cmp, part_cmp}
 use Rattle.version_rules.specs.key.Split.{Split, numbered_cmp, split_cmp}
 

@@ -8,7 +8,7 @@ use Rattle.version_rules.specs.laws.Last.{last_total, lasts_same}
 use Rattle.version_rules.specs.order.LastOrder.{last_plain_cmp}
 use Rattle.version_rules.specs.grammar.MChunk.{PlainMChunk, mchunk_plain_cmp, mchunk_text}
 use Rattle.version_rules.specs.laws.MChunk.{mchunk_total, mchunks_same}
-use Rattle.version_rules.specs.laws.Order.{ties_same}
+use Rattle.version_order.specs.keys.OrderLaws.{ties_same}
 use Rattle.version_rules.specs.key.PartKey.{chunk_parts, part_key}
 use Rattle.version_rules.specs.laws.Part.{list_total, part_total}
 use Rattle.version_rules.specs.order.PartOrder.{as_part_cmp, chunks_cmp, last_cmp, mchunk_cmp}

@@ -5,8 +5,8 @@ use Rattle.std.specs.Cmp.Lexicographic.{lists_total, nat_list_cmp_total}
 use Rattle.std.specs.FinMap.{IsAntisymmetric, nat_cmp-IsAntisymmetric, slice_cmp-IsAntisymmetric}
 use Rattle.std.specs.Ordering.{nat_cmp, on, then_cmp}
 use Rattle.version_rules.specs.grammar.Chunk.{PlainChunk, Numeric, Alphanum}
-use Rattle.version_rules.specs.order.Lists.{bytes_cmp}
-use Rattle.version_rules.specs.laws.Order.{bytes_same, then_equal}
+use Rattle.version_order.specs.keys.Lists.{bytes_cmp}
+use Rattle.version_order.specs.keys.OrderLaws.{bytes_same, then_equal}
 use Rattle.version_rules.specs.order.ReleaseOrder.{chunk_cmp, release_cmp}
 
 -- a chunk as its class, its number and its text

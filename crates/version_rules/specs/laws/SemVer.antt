@@ -3,7 +3,7 @@ use Rattle.std.proofs.Common.{◌≡◌}
 use Rattle.std.specs.Cmp.{IsTotalOrder, nat_cmp_total, on_total, then_total}
 use Rattle.std.specs.FinMap.{nat_cmp-IsAntisymmetric}
 use Rattle.std.specs.declared.cmp.Ordering.TheVariants.{Equal}
-use Rattle.version_rules.specs.laws.Order.{none_last_same, none_last_total, then_first, then_second}
+use Rattle.version_order.specs.keys.OrderLaws.{none_last_same, none_last_total, then_first, then_second}
 use Rattle.version_rules.specs.laws.Release.{release_total, releases_same}
 use Rattle.version_rules.specs.grammar.SemVer.{PlainSemVer}
 use Rattle.version_rules.specs.order.SemVerOrder.{SameButMetadata, semver_cmp}

@@ -3,7 +3,7 @@ use Rattle.std.specs.Cmp.{IsTotalOrder, nat_cmp_total, on_total, then_total}
 use Rattle.std.specs.Cmp.Lexicographic.{nat_list_cmp_total, options_total}
 use Rattle.std.specs.FinMap.{IsAntisymmetric, nat_cmp-IsAntisymmetric}
 use Rattle.version_rules.specs.laws.Last.{last_total, lasts_same}
-use Rattle.version_rules.specs.laws.Order.{bytes_same, options_same, then_first, then_second}
+use Rattle.version_order.specs.keys.OrderLaws.{bytes_same, options_same, then_first, then_second}
 use Rattle.version_rules.specs.laws.Release.{release_total, releases_same}
 use Rattle.version_rules.specs.grammar.Version.{PlainVersion}
 use Rattle.version_rules.specs.order.VersionOrder.{version_plain_cmp}

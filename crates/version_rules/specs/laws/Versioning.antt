@@ -4,7 +4,7 @@ use Rattle.std.specs.Cmp.{IsTotalOrder, nat_cmp_total, on_total, then_total}
 use Rattle.std.specs.Cmp.Lexicographic.{options_total}
 use Rattle.std.specs.Option.{option_cmp}
 use Rattle.std.specs.Ordering.{nat_cmp, on, then_cmp}
-use Rattle.version_rules.specs.laws.Order.{then_equal}
+use Rattle.version_order.specs.keys.OrderLaws.{then_equal}
 use Rattle.version_rules.specs.grammar.Mess.{PlainMess, mess_plain_cmp}
 use Rattle.version_rules.specs.laws.Mess.{mess_total}
 use Rattle.version_rules.specs.grammar.SemVer.{PlainSemVer}

@@ -5,10 +5,10 @@ use Rattle.std.specs.Ordering.{nat_cmp}
 use Rattle.std.specs.declared.cmp.Ordering.{Ordering}
 use Rattle.std.specs.declared.cmp.Ordering.TheVariants.{Less, Greater}
 use Rattle.version_rules.specs.grammar.Chunk.{PlainChunk, Numeric, Alphanum}
-use Rattle.version_rules.specs.key.Codes.{list_bytes}
-use Rattle.version_rules.specs.order.Lists.{bytes_cmp}
-use Rattle.version_rules.specs.key.NumberBytes.{number_bytes}
-use Rattle.version_rules.specs.key.TextBytes.{text_bytes}
+use Rattle.version_order.specs.keys.Codes.{list_bytes}
+use Rattle.version_order.specs.keys.Lists.{bytes_cmp}
+use Rattle.version_order.specs.keys.NumberBytes.{number_bytes}
+use Rattle.version_order.specs.keys.TextBytes.{text_bytes}
 
 -- two chunks: numbers by value, numbers before texts, texts by bytes
 abbrev pub chunk_cmp : PlainChunk → PlainChunk → Ordering

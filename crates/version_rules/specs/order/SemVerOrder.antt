@@ -2,7 +2,7 @@
 use Rattle.std.specs.Prelude.{◌≡◌}
 use Rattle.std.specs.Ordering.{nat_cmp, on, then_cmp}
 use Rattle.std.specs.declared.cmp.Ordering.{Ordering}
-use Rattle.version_rules.specs.order.Lists.{none_last_cmp}
+use Rattle.version_order.specs.keys.Lists.{none_last_cmp}
 use Rattle.version_rules.specs.order.ReleaseOrder.{release_cmp}
 use Rattle.version_rules.specs.grammar.SemVer.{PlainSemVer}
 

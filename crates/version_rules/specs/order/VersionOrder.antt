@@ -3,7 +3,7 @@ use Rattle.std.specs.Option.{option_cmp}
 use Rattle.std.specs.Ordering.{nat_cmp, on, then_cmp}
 use Rattle.std.specs.declared.cmp.Ordering.{Ordering}
 use Rattle.version_rules.specs.order.LastOrder.{last_plain_cmp}
-use Rattle.version_rules.specs.order.Lists.{bytes_cmp}
+use Rattle.version_order.specs.keys.Lists.{bytes_cmp}
 use Rattle.version_rules.specs.order.ReleaseOrder.{release_cmp}
 use Rattle.version_rules.specs.grammar.Version.{PlainVersion}
 

@@ -2,14 +2,15 @@
 use Rattle.std.specs.Prelude.{ℕ, Bool, true, false, List, [], ◌∷◌, IfSome, IsTrue}
 use Rattle.std.specs.Option.{option_map}
 use Rattle.version_rules.specs.key.PartKey.{PartKey}
-use Rattle.version_rules.specs.declared.ends.End.{End}
+use Rattle.version_order.specs.declared.ends.End.{End}
 use Rattle.version_rules.specs.declared.ends.Ends.{Ends}
-use Rattle.version_rules.specs.declared.ends.Kept.{Kept}
-use Rattle.version_rules.specs.declared.ends.Kept.TheVariants.{All, ButLast, ButLastOrOnly, ThroughOther}
+use Rattle.version_order.specs.declared.ends.Kept.{Kept}
+use Rattle.version_order.specs.declared.ends.Kept.TheVariants.{All, ButLast, ButLastOrOnly, ThroughOther}
 use Rattle.version_rules.specs.key.Key.{Key}
 use Rattle.version_rules.specs.key.KeyBytes.{key_bytes}
-use Rattle.version_rules.specs.requirement.Range.{PlainRange, above_begun, after, begun, but_last, but_last_or_only, through_other}
-use Rattle.version_rules.specs.declared.ends.End.TheVariants as end
+use Rattle.version_rules.specs.requirement.Range.{PlainRange, above_begun, begun, but_last, but_last_or_only, through_other}
+use Rattle.version_order.specs.Keyed.{after}
+use Rattle.version_order.specs.declared.ends.End.TheVariants as end
 
 -- the parts that are kept of those of a body
 abbrev pub kept_parts : Kept → List PartKey → List PartKey

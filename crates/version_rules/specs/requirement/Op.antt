@@ -1,7 +1,7 @@
 -- The operators of requirements.
 use Rattle.std.specs.Prelude.{ℕ, List, [], ◌∷◌, Option, Some, None, codes}
 use Rattle.std.specs.Option.{option_map, option_or}
-use Rattle.version_rules.specs.grammar.Front.{◌>>=◌, Front, after_mark}
+use Rattle.version_order.specs.texts.Front.{◌>>=◌, Front, after_mark}
 use Rattle.version_rules.specs.declared.op.Op.{Op}
 use Rattle.version_rules.specs.declared.op.Op.TheVariants.{Exact, Greater, GreaterEq, Less, LessEq, Tilde, Caret, Wildcard}
 

@@ -3,9 +3,9 @@ use Rattle.std.specs.Prelude.{◌≡◌, ℕ, Bool, true, false, ◌&&◌, IsTru
 use Rattle.std.specs.Option.{option_map_or}
 use Rattle.std.specs.Ordering.{is_lt}
 use Rattle.std.specs.declared.cmp.Ordering.TheVariants.{Less}
-use Rattle.version_rules.specs.key.Codes.{items_bytes}
-use Rattle.version_rules.specs.order.Lists.{bytes_cmp, split_last}
-use Rattle.version_rules.specs.key.NumberBytes.{number_bytes}
+use Rattle.version_order.specs.keys.Codes.{items_bytes}
+use Rattle.version_order.specs.keys.Lists.{bytes_cmp, split_last}
+use Rattle.version_order.specs.keys.NumberBytes.{number_bytes}
 use Rattle.version_rules.specs.key.PartKey.{PartKey, part_bytes}
 use Rattle.version_rules.specs.declared.kind.Kind.{Kind}
 use Rattle.version_rules.specs.declared.op.Op.{Op}
@@ -18,6 +18,7 @@ use Rattle.version_rules.specs.requirement.Requirement.{PlainRequirement}
 use Rattle.version_rules.specs.requirement.VersionMatch.{is_plain_zero}
 use Rattle.version_rules.specs.grammar.Versioning.{PlainVersioning, Complex}
 use Rattle.version_rules.specs.declared.kind.Kind.TheVariants as kind
+use Rattle.version_order.specs.Keyed.{after}
 
 -- keys from a low bound up to a high one, which may be missing, of versions of some kinds; if it is
 -- exact, all these versions match
@@ -76,11 +77,6 @@ nothing = record { low = 0 ∷ []; high = Some (0 ∷ []); kinds = no_kinds; is_
 -- the bytes of a version's key
 abbrev pub bytes_of : PlainVersioning → List ℕ
 bytes_of v = key_bytes (key_of v)
-
--- the next bytes after those of a key: no key is a prefix of another, so every later key is above
--- them
-abbrev pub after : List ℕ → List ℕ
-after key = key ++ 0 ∷ []
 
 -- the bytes that the keys of an epoch begin with if their bodies begin with some parts
 abbrev pub begun : ℕ → List PartKey → List ℕ

@@ -1,7 +1,7 @@
 -- Requirements: an operator and a version.
 use Rattle.std.specs.Prelude.{◌≡◌, ℕ, List, [], ◌∷◌, ◌++◌, Option, Some, None}
 use Rattle.std.specs.Option.{IsSomeAnd, option_map, option_map_or}
-use Rattle.version_rules.specs.grammar.Front.{◌>>=◌, Front, map_value}
+use Rattle.version_order.specs.texts.Front.{◌>>=◌, Front, map_value}
 use Rattle.version_rules.specs.declared.op.Op.{Op}
 use Rattle.version_rules.specs.declared.op.Op.TheVariants.{Wildcard}
 use Rattle.version_rules.specs.requirement.Op.{op_front, op_text}

@@ -2,7 +2,7 @@
 use Rattle.std.specs.Prelude.{◌≡◌, ℕ, ◌<◌, eqb, List, [], ◌∷◌, length, map, Option, Some}
 use Rattle.std.specs.List.{AllZip, join_with_byte, slice_split}
 use Rattle.std.specs.Option.{option_map}
-use Rattle.version_rules.specs.grammar.Front.{◌>>=◌}
+use Rattle.version_order.specs.texts.Front.{◌>>=◌}
 use Rattle.version_rules.specs.requirement.Requirement.{PlainRequirement, SpellsRequirement, requirement_of, requirement_text}
 
 -- the byte between the members of a list

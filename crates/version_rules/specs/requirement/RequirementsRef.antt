@@ -1,7 +1,7 @@
 -- The members of a list of requirements, one before others, and whether they keep a version.
 use Rattle.std.specs.Prelude.{List, ◌∷◌, Option}
 use Rattle.std.specs.Option.{IsSomeAnd, option_map}
-use Rattle.version_rules.specs.grammar.Front.{◌>>=◌}
+use Rattle.version_order.specs.texts.Front.{◌>>=◌}
 use Rattle.version_rules.specs.requirement.Matching.{MatchesAll}
 use Rattle.version_rules.specs.requirement.Requirement.{PlainRequirement}
 use Rattle.version_rules.specs.grammar.Versioning.{PlainVersioning}

@@ -4,14 +4,14 @@ ghost use Rattle.std.specs.Prelude.{◌≡◌, ◌↔◌};
 ghost use Rattle.std.specs.Char.{is_ascii_alphanumeric, is_ascii_digit};
 ghost use Rattle.std.specs.Fmt.{decimal};
 ghost use Rattle.version_rules.specs.grammar.Body.{body_front, body_text, SpellsBody};
-ghost use Rattle.version_rules.specs.grammar.Bytes.{is_identifier_byte, is_metadata_byte};
+ghost use Rattle.version_order.specs.texts.Bytes.{is_identifier_byte, is_metadata_byte};
 ghost use Rattle.version_rules.specs.grammar.Chunk.{chunk_front, chunk_text, part_front, PlainChunk, SpellsChunk, SpellsPart};
-ghost use Rattle.version_rules.specs.grammar.Front.{dotted_front, run_front};
+ghost use Rattle.version_order.specs.texts.Front.{dotted_front, run_front};
 ghost use Rattle.version_rules.specs.grammar.Last.{last_of, last_text, IsLastOf, PlainLast};
 ghost use Rattle.version_rules.specs.grammar.MChunk.{mchunk_front, mchunk_text, EndsChunk, SpellsMChunk};
 ghost use Rattle.version_rules.specs.grammar.Metadata.{SpellsMetadata};
 ghost use Rattle.version_rules.specs.grammar.Numeral.{unsigned_front, SpellsNumeral};
-ghost use Rattle.version_rules.specs.grammar.Reading.{EndsList, EndsRun, IsComplete, IsKept, IsPrinted, IsSound, IsSoundBefore};
+ghost use Rattle.version_order.specs.texts.Reading.{EndsList, EndsRun, IsComplete, IsKept, IsPrinted, IsSound, IsSoundBefore};
 ghost use Rattle.version_rules.specs.grammar.Release.{release_text, SpellsRelease};
 
 // A number parses as numerals are spelled, and prints as its numeral.

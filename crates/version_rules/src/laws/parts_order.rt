@@ -10,18 +10,18 @@ ghost use Rattle.std.specs.Fmt.{decimal};
 ghost use Rattle.std.specs.Prelude.{ℕ, ◌≡◌, ◌↔◌, ◌+◌, ◌<◌, ◌^◌, ◌++◌, ◌∷◌, [], length, List, Option, true, false};
 ghost use Rattle.std.specs.declared.cmp.Ordering.TheVariants.{Equal};
 ghost use Rattle.version_rules.specs.grammar.Chunk.{PlainChunk};
-ghost use Rattle.version_rules.specs.key.Codes.{Writes};
-ghost use Rattle.version_rules.specs.grammar.DigitRun.{is_digits, starts_with_digit};
+ghost use Rattle.version_order.specs.keys.Codes.{Writes};
+ghost use Rattle.version_order.specs.texts.DigitRun.{is_digits, starts_with_digit};
 ghost use Rattle.version_rules.specs.grammar.Last.{PlainLast};
 ghost use Rattle.version_rules.specs.order.LastOrder.{last_plain_cmp};
-ghost use Rattle.version_rules.specs.order.Lists.{bytes_cmp};
+ghost use Rattle.version_order.specs.keys.Lists.{bytes_cmp};
 ghost use Rattle.version_rules.specs.grammar.MChunk.{PlainMChunk};
-ghost use Rattle.version_rules.specs.key.NumberBytes.{length_bytes, number_bytes};
+ghost use Rattle.version_order.specs.keys.NumberBytes.{length_bytes, number_bytes};
 ghost use Rattle.version_rules.specs.key.PartKey.{Number, PartKey, Word, list_cmp, part_bytes, part_cmp, part_key, parts_bytes, suffix_of};
 ghost use Rattle.version_rules.specs.order.PartOrder.{chunks_cmp, last_cmp, mchunk_cmp};
 ghost use Rattle.version_rules.specs.order.ReleaseOrder.{chunk_cmp, release_bytes, release_cmp};
 ghost use Rattle.version_rules.specs.key.Split.{Split, split_bytes, split_cmp, split_of};
-ghost use Rattle.version_rules.specs.key.TextBytes.{text_bytes};
+ghost use Rattle.version_order.specs.keys.TextBytes.{text_bytes};
 ghost use Rattle.version_rules.specs.worked.Parts.{WorkedBytes, WorkedOrder};
 
 // A length below 255 is one byte. A longer one is the byte 255, then the bytes of the length less 255.

@@ -12,17 +12,17 @@ use Rattle.version_rules.specs.declared.kind.Kind.TheVariants.{Ideal}
 use Rattle.version_rules.specs.grammar.Kind.{versioning_kind}
 use Rattle.version_rules.specs.grammar.Versioning.{PlainVersioning, versioning_of, versioning_text}
 use Rattle.version_rules.specs.key.Key.{key_of, precedence}
-use Rattle.version_rules.specs.key.Codes.{Writes}
-use Rattle.version_rules.specs.order.Lists.{bytes_cmp}
+use Rattle.version_order.specs.keys.Codes.{Writes}
+use Rattle.version_order.specs.keys.Lists.{bytes_cmp}
 use Rattle.version_rules.specs.order.Orders.{versioning_cmp}
 use Rattle.version_texts.proofs.lemmas.key.KeyTies.{texts_alike, texts_tie_total}
 use Rattle.version_texts.specs.key.KeyTies.{texts_tie}
-use Rattle.version_texts.specs.keyed.Keyed.{PlainKeyed}
-use Rattle.version_texts.specs.keyed.Mixed.{mixed}
-use Rattle.version_schemes.proofs.lemmas.Orders.{order_by_keys, orders_by_keys}
-use Rattle.version_schemes.proofs.lemmas.Some.{keys_some}
-use Rattle.version_schemes.specs.Scheme.{rules, scheme_number, texts_order}
-use Rattle.version_schemes.specs.Texts.{compared}
+use Rattle.version_order.specs.Keyed.{PlainKeyed}
+use Rattle.version_texts.specs.Mixed.{mixed}
+use Rattle.version_order.proofs.lemmas.Keyed.{order_by_keys}
+use Rattle.version_schemes.proofs.lemmas.Table.{compare_by_keys, keys_some}
+use Rattle.version_schemes.specs.Scheme.{rules, scheme_number}
+use Rattle.version_order.specs.Rules.{compared}
 use Rattle.version_schemes.specs.any.Order.{PlainAny, any_cmp, any_of, any_precedence, with_key}
 use Rattle.version_schemes.specs.declared.scheme.Scheme.{Scheme}
 use Rattle.version_schemes.specs.declared.scheme.Scheme.TheVariants.{Mixed}
@@ -88,9 +88,9 @@ by_code writes a b v w same here there =
 
 -- texts of a scheme compare by its words
 pub texts_by_words : (scheme : Scheme) (one other : List ℕ)
-    → compared (any_of scheme) any_precedence one other ≡ texts_order scheme one other
+    → compared (any_of scheme) any_precedence one other ≡ (rules scheme).texts_cmp one other
 texts_by_words scheme one other =
-    by_reads ((rules scheme).read_as one) ((rules scheme).read_as other) ∙ sym (orders_by_keys scheme one other)
+    by_reads ((rules scheme).read_as one) ((rules scheme).read_as other) ∙ sym (compare_by_keys scheme one other)
   where
     by_reads : (v w : Option PlainKeyed)
         → option_and_then (λ a. option_map (λ b. any_precedence a b) (option_map (with_key scheme other) w))

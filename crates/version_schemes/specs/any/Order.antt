@@ -1,5 +1,5 @@
 -- Versions of any scheme.
-use Rattle.std.specs.Prelude.{ℕ, List, [], Option}
+use Rattle.std.specs.Prelude.{ℕ, List, Option, if◌then◌else◌}
 use Rattle.std.specs.Option.{option_map, option_map_or}
 use Rattle.std.specs.Ordering.{nat_cmp, on, then_cmp}
 use Rattle.std.specs.declared.cmp.Ordering.{Ordering}
@@ -7,12 +7,11 @@ use Rattle.version_rules.specs.declared.kind.Kind.{Kind}
 use Rattle.version_rules.specs.declared.kind.Kind.TheVariants.{Ideal}
 use Rattle.version_rules.specs.grammar.Kind.{versioning_kind}
 use Rattle.version_rules.specs.grammar.Versioning.{versioning_of}
-use Rattle.version_rules.specs.order.Lists.{bytes_cmp}
-use Rattle.version_schemes.specs.Scheme.{rules, scheme_number}
+use Rattle.version_order.specs.keys.Lists.{bytes_cmp}
+use Rattle.version_schemes.specs.Scheme.{is_mixed, rules, scheme_number}
 use Rattle.version_schemes.specs.declared.scheme.Scheme.{Scheme}
-use Rattle.version_schemes.specs.declared.scheme.Scheme.TheVariants.{Deb, Gem, Mixed, Pypi, Rpm, SemVer}
 use Rattle.version_texts.specs.key.KeyTies.{texts_tie}
-use Rattle.version_texts.specs.keyed.Keyed.{PlainKeyed}
+use Rattle.version_order.specs.Keyed.{PlainKeyed}
 
 -- a version: its scheme, its text, its key, and the kind that breaks ties of keys with the text. Where a scheme
 -- has no kinds, nothing breaks these: all are strict.
@@ -24,16 +23,7 @@ pub record PlainAny : Type 0 where
 
 -- the kind of the version that a text is
 abbrev pub kind_in : Scheme → List ℕ → Kind
-kind_in Mixed text = option_map_or versioning_kind (versioning_of text) Ideal
-kind_in Deb text = Ideal
-kind_in Rpm text = Ideal
-kind_in Pypi text = Ideal
-kind_in SemVer text = Ideal
-kind_in Gem text = Ideal
-
--- and its key, empty where it is no version
-abbrev pub key_in : Scheme → List ℕ → List ℕ
-key_in scheme text = option_map_or (λ v. v.key) ((rules scheme).read_as text) []
+kind_in scheme text = if is_mixed scheme then option_map_or versioning_kind (versioning_of text) Ideal else Ideal
 
 abbrev pub with_key : Scheme → List ℕ → PlainKeyed → PlainAny
 with_key scheme text version =

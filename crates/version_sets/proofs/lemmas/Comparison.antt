@@ -7,14 +7,13 @@ use Rattle.std.specs.List.Sorted.{IsStrictlySortedBy}
 use Rattle.std.specs.Ordering.{MatchOrdering, nat_cmp}
 use Rattle.std.specs.declared.cmp.Ordering.{Ordering}
 use Rattle.std.specs.declared.cmp.Ordering.TheVariants.{Less, Equal, Greater}
-use Rattle.version_rules.specs.declared.ends.Kept.{Kept}
-use Rattle.version_rules.specs.order.Lists.{bytes_cmp}
-use Rattle.version_rules.specs.requirement.Range.{after}
-use Rattle.version_texts.specs.keyed.Keyed.{BeginsKey, PlainKeyed}
+use Rattle.version_order.specs.declared.ends.Kept.{Kept}
+use Rattle.version_order.specs.keys.Lists.{bytes_cmp}
+use Rattle.version_order.specs.Keyed.{after, BeginsKey, PlainKeyed}
 use Rattle.version_sets.specs.Comparison.{asks_parts, before_star, ends_with, is_star}
 use Rattle.version_sets.specs.Ends.{Rise}
 use Rattle.version_sets.specs.declared.read.comparison.Comparison.{Comparison}
-use Rattle.version_rules.specs.declared.ends.Kept.TheVariants as kept
+use Rattle.version_order.specs.declared.ends.Kept.TheVariants as kept
 use Rattle.version_sets.specs.declared.read.comparison.Comparison.TheVariants as comparison
 
 -- ---- before a star

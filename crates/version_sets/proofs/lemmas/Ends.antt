@@ -11,8 +11,8 @@ use Rattle.std.specs.List.Sorted.{IsStrictlySortedBy}
 use Rattle.std.specs.List.{AllByRecursion}
 use Rattle.std.specs.declared.cmp.Ordering.{Ordering}
 use Rattle.std.specs.declared.cmp.Ordering.TheVariants.{Less, Equal, Greater}
-use Rattle.version_rules.specs.laws.Order.{bytes_same}
-use Rattle.version_rules.specs.order.Lists.{bytes_cmp}
+use Rattle.version_order.specs.keys.OrderLaws.{bytes_same}
+use Rattle.version_order.specs.keys.Lists.{bytes_cmp}
 use Rattle.version_sets.specs.Ends.{AreMerged, Rise, has}
 use Rattle.version_sets.specs.Merge.{kept, merged}
 

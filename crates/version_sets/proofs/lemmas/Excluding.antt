@@ -2,8 +2,8 @@
 use Rattle.std.proofs.Common.{◌≡◌, ◌∙◌, ◌≤◌, ◌+◌, ◌<◌, ◌||◌, ◌&&◌, ℕ, suc, Bool, true, false, not, List, [], ◌∷◌, length, Option, Some, None, IfSome, ap, arith, refl, subst, sym}
 use Rattle.std.specs.List.{list_all}
 use Rattle.std.specs.Option.{is_some}
-use Rattle.version_texts.specs.declared.keyed.Words.{Words}
-use Rattle.version_texts.specs.keyed.Keyed.{PlainKeyed}
+use Rattle.version_order.specs.declared.facts.Operators.{Operators}
+use Rattle.version_order.specs.Keyed.{PlainKeyed}
 use Rattle.version_sets.specs.Comparison.{ends_with}
 use Rattle.version_sets.specs.Ends.{has}
 use Rattle.version_sets.specs.Excluding.{AreLeft, EndsAt, StandsBefore, first_out, found_or, leave_out, left_read, room_left, span_of, steps_left, with_found}
@@ -34,7 +34,7 @@ pub record IsAsked (member : List (List ℕ) → Member) (given : Asked) (rest :
   pub is : given ≡ With comparison version
   pub has_more : IsMore (member (ends_with comparison version)) rest first others
 
-pub is_asked : (read_as : List ℕ → Option PlainKeyed) (words : Words) (start place end : ℕ) (given : Asked)
+pub is_asked : (read_as : List ℕ → Option PlainKeyed) (words : Operators) (start place end : ℕ) (given : Asked)
     (rest : Reading) (first : List Member) (others : List (List Member))
     → answered read_as words start place end given rest ≡ Right first others
     → IsAsked (λ ends. record { start = start; end = end; ends = ends }) given rest first others
@@ -77,7 +77,7 @@ once_found (Some span) next other e = refl
 -- ---- alternatives
 
 -- what an alternative leaves out stands before what those behind it do
-pub behind_one : (read_as : List ℕ → Option PlainKeyed) (words : Words) (key : List ℕ) (found : Option Span)
+pub behind_one : (read_as : List ℕ → Option PlainKeyed) (words : Operators) (key : List ℕ) (found : Option Span)
     (here : Pieces) (after : Option Pieces)
     → ((first : List Member) (others : List (List Member)) → left_read read_as words Wanted here ≡ Right first others
     → (found ≡ first_out key first) × AreLeft read_as words after others)

@@ -5,21 +5,21 @@ use Rattle.std.specs.FinMap.{nat_cmp-IsAntisymmetric}
 use Rattle.std.specs.Ordering.{is_eq, is_ge, is_gt, is_le, is_lt, ordering_then}
 use Rattle.std.specs.declared.cmp.Ordering.{Ordering}
 use Rattle.std.specs.declared.cmp.Ordering.TheVariants.{Less, Equal, Greater}
-use Rattle.version_rules.proofs.lemmas.Codes.{writes_alone}
+use Rattle.version_order.proofs.lemmas.Codes.{writes_alone}
 use Rattle.version_rules.proofs.lemmas.KeyLaws.{key_writes}
-use Rattle.version_rules.proofs.lemmas.NumberBytes.{number_writes}
+use Rattle.version_order.proofs.lemmas.NumberBytes.{number_writes}
 use Rattle.version_rules.proofs.lemmas.PartKey.{lists_same, part_writes}
 use Rattle.version_rules.specs.grammar.Versioning.{PlainVersioning}
-use Rattle.version_rules.specs.key.Codes.{Writes, items_bytes}
+use Rattle.version_order.specs.keys.Codes.{Writes, items_bytes}
 use Rattle.version_rules.specs.key.Key.{Key, key_of, precedence}
 use Rattle.version_rules.specs.key.KeyBytes.{key_bytes}
-use Rattle.version_rules.specs.key.NumberBytes.{number_bytes}
+use Rattle.version_order.specs.keys.NumberBytes.{number_bytes}
 use Rattle.version_rules.specs.key.PartKey.{PartKey, Number, Word, part_bytes, part_cmp, parts_bytes}
 use Rattle.version_rules.specs.key.Tail.{tail_bytes}
 use Rattle.version_rules.specs.laws.Part.{part_total}
-use Rattle.version_rules.specs.order.Lists.{bytes_cmp}
-use Rattle.version_rules.specs.requirement.Range.{after, begun}
-use Rattle.version_texts.specs.keyed.Keyed.{BeginsKey, PlainKeyed}
+use Rattle.version_order.specs.keys.Lists.{bytes_cmp}
+use Rattle.version_rules.specs.requirement.Range.{begun}
+use Rattle.version_order.specs.Keyed.{after, BeginsKey, PlainKeyed}
 use Rattle.version_sets.specs.Comparison.{ends_with}
 use Rattle.version_sets.specs.Ends.{has}
 use Rattle.version_sets.specs.Members.{AreByOrder, BeginsWith}

@@ -2,7 +2,7 @@
 use Rattle.std.proofs.Common.{◌≡◌, ◌∙◌, ◌+◌, ◌≤◌, ◌==◌, ◌&&◌, ◌⊎◌, ℕ, suc, Bool, true, false, List, [], ◌∷◌, ◌++◌, length, ap, arith, inl, inr, refl, sym}
 use Rattle.std.proofs.lemmas.Bool.{cases_Bool, eqb-true, ne_eqb}
 use Rattle.std.specs.List.{list_all}
-use Rattle.version_rules.specs.grammar.Front.{begins}
+use Rattle.version_order.specs.texts.Front.{begins}
 use Rattle.version_sets.specs.Pieces.{PlainPiece, Bar, Bars, Comma, Word, is_bar, is_blank, is_comma, is_word_byte, pieces, with_byte, with_piece}
 
 -- ---- bytes

@@ -2,7 +2,7 @@
 use Rattle.std.proofs.Common.{◌≡◌, ◌∙◌, ◌+◌, ◌≤◌, ◌&&◌, ◌||◌, ℕ, zero, suc, Bool, true, false, List, [], ◌∷◌, ◌++◌, append-nil, append_assoc, ap, arith, drop, length, length-append, refl, sym, take}
 use Rattle.std.proofs.lemmas.List.{take-append-drop, take_at}
 use Rattle.std.specs.List.{list_all}
-use Rattle.version_texts.specs.key.Sinks.{put_at}
+use Rattle.version_order.specs.keys.Sinks.{put_at}
 use Rattle.version_sets.specs.Ends.{Rise, has}
 use Rattle.version_sets.specs.Form.{form_bytes}
 use Rattle.version_sets.specs.Pile.{IsPile, through}

@@ -1,6 +1,6 @@
 -- Bytes written into a buffer one by one.
 use Rattle.std.proofs.Common.{◌≡◌, ◌≤◌, ℕ, zero, suc, List, [], ◌∷◌, ap, arith, length, refl, set}
-use Rattle.version_texts.specs.key.Sinks.{put_at}
+use Rattle.version_order.specs.keys.Sinks.{put_at}
 
 -- the next byte, and what follows it
 pub put_set : (room : List ℕ) (place byte : ℕ) (more : List ℕ)

@@ -4,14 +4,14 @@ use Rattle.std.specs.Prelude.{⊤}
 use Rattle.std.proofs.lemmas.Bool.{cases_Bool}
 use Rattle.std.proofs.lemmas.List.{length-map}
 use Rattle.std.specs.List.{concat}
-use Rattle.version_rules.proofs.lemmas.Front.Repeated.{cases_Option}
-use Rattle.version_rules.specs.declared.ends.End.{End}
-use Rattle.version_rules.specs.grammar.Front.{after_mark}
+use Rattle.version_order.proofs.lemmas.Front.Repeated.{cases_Option}
+use Rattle.version_order.specs.declared.ends.End.{End}
+use Rattle.version_order.specs.texts.Front.{after_mark}
 use Rattle.version_rules.specs.requirement.Op.{after_word}
 use Rattle.version_sets.specs.declared.read.slip.Slip.{Slip as Slips}
-use Rattle.version_texts.specs.declared.keyed.Words.{Words}
-use Rattle.version_texts.specs.declared.keyed.Words.TheVariants.{Doubled, Parts, Plain}
-use Rattle.version_texts.specs.keyed.Keyed.{AreWithin, PlainKeyed, end_of}
+use Rattle.version_order.specs.declared.facts.Operators.{Operators}
+use Rattle.version_order.specs.declared.facts.Operators.TheVariants.{Doubled, Parts, Plain}
+use Rattle.version_order.specs.Keyed.{AreWithin, PlainKeyed, end_of}
 use Rattle.version_sets.specs.Comparison.{asks_bare, asks_doubled, asks_parts, before_star, bytes_of, comparison_ends, comparison_front, ends_with, first_word, has_doubled, has_parts, starred, words}
 use Rattle.version_sets.specs.Form.{form_bytes}
 use Rattle.version_sets.specs.Pieces.{PlainPiece, Bar, Bars, Comma, Word}
@@ -220,19 +220,19 @@ all_room most Come place at Bar e = cc e
 -- ---- what was asked
 
 -- a version that a text not longer is read as, with parts where the comparison asks for these
-pub record IsRead (read_as : List ℕ → Option PlainKeyed) (words : Words) (text : List ℕ) (c : Comparison)
+pub record IsRead (read_as : List ℕ → Option PlainKeyed) (words : Operators) (text : List ℕ) (c : Comparison)
     (version : PlainKeyed) : Type 0 where
   pub front : List ℕ
   pub read : read_as front ≡ Some version
   pub shorter : length front ≤ length text
   pub allowed_is : asks_parts c ≡ true → words ≡ Parts
 
-are_parts : (words : Words) → has_parts words ≡ true → words ≡ Parts
+are_parts : (words : Operators) → has_parts words ≡ true → words ≡ Parts
 are_parts Parts e = refl
 are_parts Plain e = cc e
 are_parts Doubled e = cc e
 
-module _ (read_as : List ℕ → Option PlainKeyed) (words : Words) where
+module _ (read_as : List ℕ → Option PlainKeyed) (words : Operators) where
   allowed_read : (c other : Comparison) (version plain : PlainKeyed) → allowed read_as words c version ≡ With other plain
       → (c ≡ other) × (version ≡ plain) × (asks_parts c ≡ true → words ≡ Parts)
   allowed_read c other version plain e = by (asks_parts c) (has_parts words) refl refl
@@ -347,7 +347,7 @@ few_ends comparison.Prefix = omega arith
 few_ends comparison.NotPrefix = omega arith
 
 -- a member has no more bytes than its word has room for
-pub member_small : (order : ℕ) (read_as : List ℕ → Option PlainKeyed) (most : ℕ → ℕ) (words : Words)
+pub member_small : (order : ℕ) (read_as : List ℕ → Option PlainKeyed) (most : ℕ → ℕ) (words : Operators)
     (c other : Comparison) (text word : List ℕ) (plain : PlainKeyed)
     → AreWithin read_as most → asked read_as words c text ≡ With other plain → length text ≤ length word
     → length (form_bytes order (ends_with other plain)) ≤ piece_room most (Word word)
@@ -364,7 +364,7 @@ member_small order read_as most words c other text word plain within e longer =
     )
 
 -- the member that a piece asks for fits into the room that is asked for the piece
-pub asked_small : (order : ℕ) (read_as : List ℕ → Option PlainKeyed) (most : ℕ → ℕ) (words : Words) (state : State)
+pub asked_small : (order : ℕ) (read_as : List ℕ → Option PlainKeyed) (most : ℕ → ℕ) (words : Operators) (state : State)
     (place : ℕ) (piece : PlainPiece) (c other : Comparison) (from at : ℕ) (text : List ℕ) (plain : PlainKeyed)
     → AreWithin read_as most → step state place piece ≡ Asks c from at text
     → asked read_as words c text ≡ With other plain

@@ -1,8 +1,8 @@
 -- Bytes written into a buffer, piece by piece.
 use Rattle.std.proofs.Common.{◌≡◌, ◌∙◌, ◌+◌, ◌*◌, ℕ, List, [], ◌∷◌, ◌++◌, append-nil, ap, arith, length, refl, sym}
 use Rattle.std.specs.List.{concat, flat_map}
-use Rattle.version_texts.specs.key.Sinks.{put_at, put_both, put_nothing}
-use Rattle.version_texts.proofs.lemmas.key.Sinks.{put_behind}
+use Rattle.version_order.specs.keys.Sinks.{put_at, put_both, put_nothing}
+use Rattle.version_order.proofs.lemmas.Sinks.{put_behind}
 use Rattle.version_sets.specs.Form.{form_bytes, number, places}
 use Rattle.version_sets.proofs.lemmas.Form.{number_length, row_size}
 

@@ -7,7 +7,7 @@ ghost use Rattle.version_sets.specs.Form.{form_bytes, number};
 ghost use Rattle.version_sets.specs.Whole.{is_above, AreLeft};
 
 use crate::form::Form;
-use version_texts::compare_bytes;
+use version_order::compare_bytes;
 
 impl<'a> Form<'a> {
     ghost use Rattle.version_sets.specs.Set.{ends_of};

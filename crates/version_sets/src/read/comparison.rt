@@ -4,7 +4,7 @@ ghost use Rattle.std.specs.Prelude.{◌≡◌, ◌≤◌, length, IfSome};
 ghost use Rattle.std.specs.Option.{option_map};
 ghost use Rattle.version_sets.specs.Comparison.{asks_bare, asks_doubled, asks_parts, comparison_ends, comparison_front, starred};
 
-use version_rules::{End, Kept};
+use version_order::{End, Kept};
 
 /// How a version compares with that of a member.
 #[derive(Clone, Copy, Debug, PartialEq, Eq)]

@@ -10,9 +10,10 @@ ghost use Rattle.version_sets.specs.Pieces.{pieces, Word};
 ghost use Rattle.version_sets.specs.Reading.{asked, piece_room, pieces_room, read_set, set_room, Member, Right, With};
 ghost use Rattle.version_sets.specs.declared.read.comparison.Comparison.{Comparison as Comparisons};
 ghost use Rattle.version_sets.specs.declared.read.steps.State.TheVariants.{Wanted};
-ghost use Rattle.version_texts.specs.declared.keyed.Words.{Words};
-ghost use Rattle.version_texts.specs.declared.keyed.Words.TheVariants.{Parts};
-ghost use Rattle.version_texts.specs.keyed.Keyed.{AreWithin, PlainKeyed};
+ghost use Rattle.version_order.specs.declared.facts.Operators.{Operators};
+ghost use Rattle.version_order.specs.declared.facts.Operators.TheVariants.{Parts};
+ghost use Rattle.version_order.specs.Facts.{key_room};
+ghost use Rattle.version_order.specs.Keyed.{PlainKeyed};
 
 use crate::form::Form;
 use crate::read::comparison::Comparison;
@@ -20,7 +21,7 @@ use crate::read::member::{asked, write_member};
 use crate::read::piece_room;
 use crate::read::pieces::Pieces;
 use crate::read::steps::{State, Step};
-use version_texts::Keyed;
+use version_order::SchemeVersion;
 
 /// Where a member of a set stands in its text: from its operator to the end of its version, in bytes from 0.
 #[derive(Clone, Copy, Debug, PartialEq, Eq)]
@@ -43,7 +44,7 @@ pub struct Alternatives<'t> {
 impl<'t> Alternatives<'t> {
     /// Returns all alternatives of a text. Does not allocate.
     pub fn of(text: &'t [u8]) -> Alternatives<'t>
-        ensures all { (read_as : List ℕ → Option PlainKeyed) (words : Words) (first : List Member)
+        ensures all { (read_as : List ℕ → Option PlainKeyed) (words : Operators) (first : List Member)
             (others : List (List Member)) → read_set read_as words text.now ≡ Right first others
             → AreLeft read_as words result.left (first ∷ others) }
         ensures end { EndsAt (length text.now) result.left }
@@ -60,17 +61,17 @@ impl<'t> Alternatives<'t> {
     /// Returns the first member that leaves a version out, of the next alternative that does. None where no other one
     /// does: none at all of a set that has the version, of one that has it not as many as it has alternatives. A room in
     /// which the set can be read is enough, and is overwritten. Does not allocate.
-    pub fn next_excluding<V: Keyed<'t>>(
+    pub fn next_excluding<V: SchemeVersion<'t>>(
         &mut self,
         version: &V,
         room: &mut [u8],
     ) -> Result<Option<Span>, NoRoom>
         ensures some { IfOk result (λ found. IfSome found (λ span. (all : List (List Member))
-            → AreLeft V.read_as V.words self.old.left all → (rest : List (List Member))
-            × AreLeft V.read_as V.words self.new.left rest
+            → AreLeft V.rules.read_as V.rules.facts.operators self.old.left all → (rest : List (List Member))
+            × AreLeft V.rules.read_as V.rules.facts.operators self.new.left rest
             × (leave_out (V.plain version.now).key all ≡ span ∷ leave_out (V.plain version.now).key rest))) }
         ensures none { IfOk result (λ found. IfNone found ((all : List (List Member))
-            → AreLeft V.read_as V.words self.old.left all → leave_out (V.plain version.now).key all ≡ [])) }
+            → AreLeft V.rules.read_as V.rules.facts.operators self.old.left all → leave_out (V.plain version.now).key all ≡ [])) }
 
         // A member stands in the text. After the last one nothing is left, and where the room is too small nothing that
         // leaves the version out is passed.
@@ -79,12 +80,12 @@ impl<'t> Alternatives<'t> {
         ensures end { (end : ℕ) → EndsAt end self.old.left → EndsAt end self.new.left }
         ensures ended { IfOk result (λ found. IfNone found (self.new.left ≡ None)) }
         ensures stays { IfErr result (λ _. (all : List (List Member))
-            → AreLeft V.read_as V.words self.old.left all → (rest : List (List Member))
-            × AreLeft V.read_as V.words self.new.left rest
+            → AreLeft V.rules.read_as V.rules.facts.operators self.old.left all → (rest : List (List Member))
+            × AreLeft V.rules.read_as V.rules.facts.operators self.new.left rest
             × (leave_out (V.plain version.now).key all ≡ leave_out (V.plain version.now).key rest)) }
         ensures nearer { IfOk result (λ found.
             IfSome found (λ _. steps_left self.new.left < steps_left self.old.left)) }
-        ensures room { IfErr result (λ _. length room.old < room_left V.most self.old.left) }
+        ensures room { IfErr result (λ _. length room.old < room_left (key_room V.rules.facts) self.old.left) }
         ensures same { length room.new ≡ length room.old }
     {
         while let Some(pieces) = self.left {
@@ -100,30 +101,28 @@ impl<'t> Alternatives<'t> {
 
 // Returns the first member of the next alternative that leaves a version out, if one does, and what is left of the
 // text behind that alternative, if others follow.
-fn first_excluding<'t, V: Keyed<'t>>(
+fn first_excluding<'t, V: SchemeVersion<'t>>(
     left: Pieces<'t>,
     version: &V,
     room: &mut [u8],
 ) -> Result<(Option<Span>, Option<Pieces<'t>>), NoRoom>
     requires place { left.place + length left.left.now < 2 ^ 64 }
     ensures read { IfOk result (λ found. (first : List Member) (others : List (List Member))
-        → left_read V.read_as V.words Wanted left.entry ≡ Right first others
+        → left_read V.rules.read_as V.rules.facts.operators Wanted left.entry ≡ Right first others
         → (found.0 ≡ first_out (V.plain version.now).key first)
-        × AreLeft V.read_as V.words found.1 others) }
+        × AreLeft V.rules.read_as V.rules.facts.operators found.1 others) }
     ensures end { IfOk result (λ found. IfSome found.1 (λ after. after.place + length after.left.now
         ≡ left.entry.place + length left.entry.left.now)) }
     ensures within { IfOk result (λ found. IfSome found.0
         (StandsBefore (left.entry.place + length left.entry.left.now))) }
     ensures nearer { IfOk result (λ found.
         IfSome found.1 (λ after. length after.left.now < length left.entry.left.now)) }
-    ensures room { IfOk result (λ found. IfSome found.1 (λ after. pieces_room V.most (pieces after.place after.left.now)
-        ≤ pieces_room V.most (pieces left.entry.place left.entry.left.now))) }
+    ensures room { IfOk result (λ found. IfSome found.1 (λ after. pieces_room (key_room V.rules.facts) (pieces after.place after.left.now)
+        ≤ pieces_room (key_room V.rules.facts) (pieces left.entry.place left.entry.left.now))) }
     ensures err { IfErr result (λ _.
-        length room.old < pieces_room V.most (pieces left.entry.place left.entry.left.now)) }
+        length room.old < pieces_room (key_room V.rules.facts) (pieces left.entry.place left.entry.left.now)) }
     ensures same { length room.new ≡ length room.old }
 {
-    // Called for what it promises of every text.
-    V::key_room(0);
     let mut pieces = left;
     let mut state = State::Wanted;
     let mut found = None;
@@ -151,17 +150,16 @@ fn first_excluding<'t, V: Keyed<'t>>(
 }
 
 // Whether a comparison with the version that a text is leaves a version out.
-fn excludes<'t, V: Keyed<'t>>(
+fn excludes<'t, V: SchemeVersion<'t>>(
     comparison: Comparison,
     text: &'t [u8],
     version: &V,
     room: &mut [u8],
 ) -> bool
-    requires enough { AreWithin V.read_as V.most }
     requires room { (word : List ℕ) × (length text.now ≤ length word)
-        × (piece_room V.most (Word word) ≤ length room.old) }
+        × (piece_room (key_room V.rules.facts) (Word word) ≤ length room.old) }
     ensures excludes { (c : Comparisons) (other : PlainKeyed)
-        → asked V.read_as V.words comparison text.now ≡ With c other
+        → asked V.rules.read_as V.rules.facts.operators comparison text.now ≡ With c other
         → result ≡ not (has (ends_with c other) (V.plain version.now).key) }
     ensures same { length room.new ≡ length room.old }
 {
@@ -172,9 +170,13 @@ fn excludes<'t, V: Keyed<'t>>(
 }
 
 // Whether a member leaves a version out.
-fn leaves_out<'t, V: Keyed<'t>>(member: (Comparison, V), version: &V, room: &mut [u8]) -> bool
+fn leaves_out<'t, V: SchemeVersion<'t>>(
+    member: (Comparison, V),
+    version: &V,
+    room: &mut [u8],
+) -> bool
     requires room { length (form_bytes 0 (ends_with member.0 (V.plain member.1))) ≤ length room.old }
-    requires parts { asks_parts member.0 ≡ true → V.words ≡ Parts }
+    requires parts { asks_parts member.0 ≡ true → V.rules.facts.operators ≡ Parts }
     ensures out { result ≡ not (has (ends_with member.0 (V.plain member.1)) (V.plain version.now).key) }
     ensures same { length room.new ≡ length room.old }
 {

@@ -11,13 +11,13 @@ use crate::read::fault::Fault;
 use crate::read::member::asked;
 use crate::read::pieces::{Piece, Pieces};
 use crate::read::steps::{State, Step};
-use version_texts::Keyed;
+use version_order::SchemeVersion;
 
 /// Returns where the first wrong piece of a text begins and why it is no set of an order, or None where it is one. Takes
 /// time linear in the text, and no room. Does not allocate.
-pub fn find_fault<'t, V: Keyed<'t>>(text: &'t [u8]) -> Option<Fault>
+pub fn find_fault<'t, V: SchemeVersion<'t>>(text: &'t [u8]) -> Option<Fault>
     ensures { option_map (λ fault. (fault.place, fault.reason)) result
-        ≡ fault_of (read_set V.read_as V.words text.now) }
+        ≡ fault_of (read_set V.rules.read_as V.rules.facts.operators text.now) }
 {
     let mut pieces = Pieces {
         left: text,
@@ -40,12 +40,16 @@ pub fn find_fault<'t, V: Keyed<'t>>(text: &'t [u8]) -> Option<Fault>
 }
 
 // Returns the state behind a piece, or where and why it is wrong.
-fn after<'t, V: Keyed<'t>>(state: State, place: usize, piece: Piece<'t>) -> Result<State, Fault>
+fn after<'t, V: SchemeVersion<'t>>(
+    state: State,
+    place: usize,
+    piece: Piece<'t>,
+) -> Result<State, Fault>
     requires { place + piece_length (plain_piece piece) < 2 ^ 64 }
     ensures ok { IfOk result (λ next. (rest : States → Reading)
-        → fault_of (after_step V.read_as V.words rest (step state place (plain_piece piece.entry))) ≡ fault_of (rest next)) }
+        → fault_of (after_step V.rules.read_as V.rules.facts.operators rest (step state place (plain_piece piece.entry))) ≡ fault_of (rest next)) }
     ensures err { IfErr result (λ fault. (rest : States → Reading)
-        → after_step V.read_as V.words rest (step state place (plain_piece piece.entry)) ≡ Wrong fault.place fault.reason) }
+        → after_step V.rules.read_as V.rules.facts.operators rest (step state place (plain_piece piece.entry)) ≡ Wrong fault.place fault.reason) }
 {
     match state.step(place, piece) {
         Step::Wrong(fault) => Err(fault),

@@ -1,28 +1,29 @@
 //! Members with a version: the version that is asked for, and the set that they are by themselves.
 
-ghost use Rattle.std.specs.Prelude.{◌≡◌, ◌+◌, ◌*◌, ◌≤◌, ◌∷◌, [], length, ℕ};
+ghost use Rattle.std.specs.Prelude.{◌≡◌, ◌+◌, ◌*◌, ◌≤◌, ◌∷◌, [], length, IfOk, ℕ};
 ghost use Rattle.std.specs.List.{concat, flat_map};
 ghost use Rattle.std.specs.Option.{option_map};
 ghost use Rattle.version_sets.specs.Comparison.{before_star, bytes_of, ends_with};
 ghost use Rattle.version_sets.specs.Form.{form_bytes, number, places};
 ghost use Rattle.version_sets.specs.Reading.{asked, plain_asked, with_version};
 ghost use Rattle.version_sets.specs.declared.read.comparison.Comparison.TheVariants.{Equal};
-ghost use Rattle.version_texts.specs.key.Sinks.{put_at, saturated, IsWritten};
-ghost use Rattle.version_texts.specs.keyed.Keyed.{end_of};
+ghost use Rattle.version_order.specs.keys.Sinks.{put_at, saturated, IsWritten};
+ghost use Rattle.version_order.specs.Facts.{key_room};
+ghost use Rattle.version_order.specs.Keyed.{end_of, AreWithin};
 
 use crate::read::comparison::Comparison;
 use crate::read::fault::Reason;
 use crate::read::slip::slip_of;
 use crate::write::{number, write_at, write_head};
-use version_rules::End;
-use version_texts::{Count, Keyed, Room, Words};
+use version_order::{Count, End, Operators, Room, SchemeVersion, put_end};
 
 // Returns a comparison with the text of its version, behind which `.*` may stand, or why there is none.
-pub(crate) fn asked<'t, V: Keyed<'t>>(
+pub(crate) fn asked<'t, V: SchemeVersion<'t>>(
     comparison: Comparison,
     text: &'t [u8],
 ) -> Result<(Comparison, V), Reason>
-    ensures { plain_asked V.plain result ≡ asked V.read_as V.words comparison text.now }
+    ensures asked { plain_asked V.plain result ≡ asked V.rules.read_as V.rules.facts.operators comparison text.now }
+    ensures within { IfOk result (λ _. AreWithin V.rules.read_as (key_room V.rules.facts)) }
 {
     let (comparison, text) = match before_star(text) {
         Some(front) => (comparison.starred().ok_or(Reason::StarBehind)?, front),
@@ -40,21 +41,22 @@ fn before_star(text: &[u8]) -> Option<&[u8]>
 
 // Returns a comparison with the version that a text is, or why there is none.
 #[inline(always)]
-fn with_version<'t, V: Keyed<'t>>(
+fn with_version<'t, V: SchemeVersion<'t>>(
     comparison: Comparison,
     text: &'t [u8],
 ) -> Result<(Comparison, V), Reason>
-    ensures { plain_asked V.plain result ≡ with_version V.read_as V.words comparison text.now }
+    ensures asked { plain_asked V.plain result ≡ with_version V.rules.read_as V.rules.facts.operators comparison text.now }
+    ensures within { IfOk result (λ _. AreWithin V.rules.read_as (key_room V.rules.facts)) }
 {
     let version = V::read(text).ok_or(Reason::NotVersion)?;
     if let Some(slip) = slip_of(&version, text) {
         return Err(Reason::Slip(slip));
     }
-    let words = V::words();
-    if comparison.asks_parts() && !matches!(words, Words::Parts) {
+    let words = V::facts().operators;
+    if comparison.asks_parts() && !matches!(words, Operators::Parts) {
         return Err(Reason::NoParts);
     }
-    if comparison.asks_doubled() && !matches!(words, Words::Doubled) {
+    if comparison.asks_doubled() && !matches!(words, Operators::Doubled) {
         return Err(Reason::NotDoubled);
     }
     if comparison.asks_bare() && !version.is_bare() {
@@ -64,7 +66,7 @@ fn with_version<'t, V: Keyed<'t>>(
 }
 
 // Writes the set of a comparison with a version into a buffer from a place on, and returns the place after it.
-pub(crate) fn write_member<'t, V: Keyed<'t>>(
+pub(crate) fn write_member<'t, V: SchemeVersion<'t>>(
     order: u8,
     member: (Comparison, V),
     room: &mut [u8],
@@ -85,7 +87,7 @@ pub(crate) fn write_member<'t, V: Keyed<'t>>(
 /// Writes the set of what ties with a version of an order into a buffer, with a number for the order, if it fits there.
 /// The version may be any one: of a value that is given none is a slip. Returns how many bytes the set has. Does not
 /// allocate.
-pub fn write_tied<'t, V: Keyed<'t>>(order: u8, version: V, room: &mut [u8]) -> usize
+pub fn write_tied<'t, V: SchemeVersion<'t>>(order: u8, version: V, room: &mut [u8]) -> usize
     ensures length { result ≡ saturated (length (form_bytes order (ends_with Equal (V.plain version)))) }
     ensures bytes { IsWritten room.old 0 (form_bytes order (ends_with Equal (V.plain version))) room.new }
 {
@@ -97,18 +99,18 @@ pub fn write_tied<'t, V: Keyed<'t>>(order: u8, version: V, room: &mut [u8]) -> u
 }
 
 // Returns how many bytes the set of what ties with a version has.
-fn tied_length<'t, V: Keyed<'t>>(version: V) -> usize
+fn tied_length<'t, V: SchemeVersion<'t>>(version: V) -> usize
     ensures { (order : ℕ) → result ≡ saturated (length (form_bytes order (ends_with Equal (V.plain version)))) }
 {
     let mut count = Count { length: 25 };
-    version.put_end(End::Key, &mut count);
-    version.put_end(End::AfterKey, &mut count);
+    put_end(&version, End::Key, &mut count);
+    put_end(&version, End::AfterKey, &mut count);
     count.length()
 }
 
 // Writes the ends of a version, one behind another, and apart from them where each is over. Returns how many bytes they
 // have.
-fn write_ends<'t, V: Keyed<'t>>(
+fn write_ends<'t, V: SchemeVersion<'t>>(
     version: V,
     ends: &[End],
     numbers: &mut [u8],
@@ -133,13 +135,13 @@ fn write_ends<'t, V: Keyed<'t>>(
 
 // Writes an end of a version into a buffer from a place on, and returns the place after it.
 #[inline(always)]
-fn write_end<'t, V: Keyed<'t>>(version: V, end: End, room: &mut [u8], start: usize) -> usize
+fn write_end<'t, V: SchemeVersion<'t>>(version: V, end: End, room: &mut [u8], start: usize) -> usize
     requires { start + length (end_of end (V.plain version)) ≤ length room.old }
     ensures bytes { room.new ≡ put_at room.old start (end_of end (V.plain version)) }
     ensures end { result ≡ start + length (end_of end (V.plain version)) }
 {
     let mut sink = Room { room, end: start };
-    version.put_end(end, &mut sink);
+    put_end(&version, end, &mut sink);
     sink.end
 }
 

@@ -2,7 +2,7 @@
 
 ghost use Rattle.std.specs.Prelude.{◌≡◌, ◌∷◌, ◌++◌, ◌<◌, ◌≤◌, ◌+◌, ◌^◌, [], IfNone, IfSome, MatchOption, false, length, true, ℕ};
 ghost use Rattle.std.specs.List.{list_all};
-ghost use Rattle.version_rules.specs.grammar.Front.{begins};
+ghost use Rattle.version_order.specs.texts.Front.{begins};
 ghost use Rattle.version_sets.specs.Pieces.{is_bar, is_blank, is_word_byte, piece_length, pieces, plain_piece};
 
 /// A piece of a text.

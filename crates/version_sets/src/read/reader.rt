@@ -10,8 +10,8 @@ ghost use Rattle.version_sets.specs.Reading.{after_step, piece_room, Reading, Wr
 ghost use Rattle.version_sets.specs.Steps.{step};
 ghost use Rattle.version_sets.specs.declared.read.steps.State.{State as States};
 ghost use Rattle.version_sets.specs.declared.read.steps.State.TheVariants.{Come};
-ghost use Rattle.version_texts.specs.key.Sinks.{put_at};
-ghost use Rattle.version_texts.specs.keyed.Keyed.{AreWithin};
+ghost use Rattle.version_order.specs.keys.Sinks.{put_at};
+ghost use Rattle.version_order.specs.Facts.{key_room};
 
 use crate::merge::Rule;
 use crate::read::fault::Fault;
@@ -19,7 +19,7 @@ use crate::read::member::{asked, write_all, write_member};
 use crate::read::pieces::Piece;
 use crate::read::pile::Pile;
 use crate::read::steps::{State, Step};
-use version_texts::Keyed;
+use version_order::SchemeVersion;
 
 /// What is read so far: the alternatives that are done end where the members of the next one begin.
 #[derive(Clone, Copy)]
@@ -49,7 +49,7 @@ impl Reader {
     }
 
     // Takes a piece in a state, and returns the next state.
-    pub fn take<'t, V: Keyed<'t>>(
+    pub fn take<'t, V: SchemeVersion<'t>>(
         &mut self,
         room: &mut [u8],
         state: State,
@@ -57,21 +57,20 @@ impl Reader {
         piece: Piece<'t>,
     ) -> Result<State, Fault>
         requires fits { Fits self.old }
-        requires enough { AreWithin V.read_as V.most }
         requires come { state ≡ Come → 1 ≤ self.old.members.depth }
         requires place { place + piece_length (plain_piece piece) < 2 ^ 64 }
-        requires room { 2 * (self.old.end + piece_room V.most (plain_piece piece)) ≤ length room.old }
+        requires room { 2 * (self.old.end + piece_room (key_room V.rules.facts) (plain_piece piece)) ≤ length room.old }
         ensures fits { Fits self.new }
         ensures ok { IfOk result (λ next. (whole : Reading) (rest : States → Reading) (done own : List ℕ → Bool)
             → Holds room.old self.old done own
-            → Continues whole done own (after_step V.read_as V.words rest (step state place (plain_piece piece.entry)))
+            → Continues whole done own (after_step V.rules.read_as V.rules.facts.operators rest (step state place (plain_piece piece.entry)))
             → (done_after own_after : List ℕ → Bool) × Holds room.new self.new done_after own_after
             × Continues whole done_after own_after (rest next)) }
         ensures err { IfErr result (λ fault. (whole : Reading) (rest : States → Reading) (done own : List ℕ → Bool)
-            → Continues whole done own (after_step V.read_as V.words rest (step state place (plain_piece piece.entry)))
+            → Continues whole done own (after_step V.rules.read_as V.rules.facts.operators rest (step state place (plain_piece piece.entry)))
             → whole ≡ Wrong fault.place fault.reason) }
         ensures come { IfOk result (λ next. next ≡ Come → 1 ≤ self.new.members.depth) }
-        ensures end { self.new.end ≤ self.old.end + piece_room V.most (plain_piece piece.entry) }
+        ensures end { self.new.end ≤ self.old.end + piece_room (key_room V.rules.facts) (plain_piece piece.entry) }
         ensures same { (length room.new ≡ length room.old) × (self.new.order ≡ self.old.order) }
     {
         match state.step(place, piece) {

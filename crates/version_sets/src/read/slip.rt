@@ -5,7 +5,7 @@ ghost use Rattle.std.specs.Char.{is_ascii_digit};
 ghost use Rattle.std.specs.List.{list_any};
 ghost use Rattle.version_sets.specs.Slips.{begins_with_v, behind_digits, behind_epoch, has_part_x, is_x, part_ends, slip_of, ties};
 
-use version_texts::Keyed;
+use version_order::SchemeVersion;
 
 /// What a version may have been meant as.
 #[derive(Clone, Copy, Debug, PartialEq, Eq)]
@@ -20,8 +20,8 @@ pub enum Slip {
 
 // Returns what the text of a version may have been meant as: a tag, unless the version is the same without its `v`, a
 // pattern or a word. None if it looks like a version.
-pub(crate) fn slip_of<'t, V: Keyed<'t>>(version: &V, text: &'t [u8]) -> Option<Slip>
-    ensures { result ≡ slip_of V.read_as (V.plain version.now) text.now }
+pub(crate) fn slip_of<'t, V: SchemeVersion<'t>>(version: &V, text: &'t [u8]) -> Option<Slip>
+    ensures { result ≡ slip_of V.rules.read_as (V.plain version.now) text.now }
 {
     if counts_v(version, text) {
         return Some(Slip::LetterV);
@@ -36,8 +36,8 @@ pub(crate) fn slip_of<'t, V: Keyed<'t>>(version: &V, text: &'t [u8]) -> Option<S
 }
 
 // Whether a text begins with `v` or `V` and a digit, and is another version without that letter.
-fn counts_v<'t, V: Keyed<'t>>(version: &V, text: &'t [u8]) -> bool
-    ensures { result ≡ (begins_with_v text.now && not (ties (V.plain version.now) (V.read_as (drop 1 text.now)))) }
+fn counts_v<'t, V: SchemeVersion<'t>>(version: &V, text: &'t [u8]) -> bool
+    ensures { result ≡ (begins_with_v text.now && not (ties (V.plain version.now) (V.rules.read_as (drop 1 text.now)))) }
 {
     match text.split_first() {
         Some((_, rest)) => begins_with_v(text) && !ties_with(version, rest),
@@ -56,8 +56,8 @@ fn begins_with_v(text: &[u8]) -> bool
 }
 
 // Whether a text is a version that ties with another.
-fn ties_with<'t, V: Keyed<'t>>(version: &V, text: &'t [u8]) -> bool
-    ensures { result ≡ ties (V.plain version.now) (V.read_as text.now) }
+fn ties_with<'t, V: SchemeVersion<'t>>(version: &V, text: &'t [u8]) -> bool
+    ensures { result ≡ ties (V.plain version.now) (V.rules.read_as text.now) }
 {
     match V::read(text) {
         Some(other) => other.compare(version).is_eq(),

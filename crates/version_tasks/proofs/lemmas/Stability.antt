@@ -2,7 +2,7 @@
 use Rattle.std.proofs.Common.{◌≡◌, ◌-◌, ◌∙◌, ℕ, List, [], ◌∷◌, ◌++◌, length, take, Option, Some, None, ap, arith, append_assoc, append-nil, length-append}
 use Rattle.std.proofs.lemmas.List.{take_at}
 use Rattle.std.specs.Option.{option_map}
-use Rattle.version_rules.specs.grammar.Bytes.{plus}
+use Rattle.version_order.specs.texts.Bytes.{plus}
 use Rattle.version_rules.specs.grammar.SemVer.{PlainSemVer, optional_text, semver_text}
 use Rattle.version_rules.specs.grammar.Version.{PlainVersion, version_text}
 use Rattle.version_rules.specs.grammar.Versioning.{PlainVersioning, Ideal, General, Complex, versioning_text}

@@ -5,7 +5,7 @@ use Rattle.std.proofs.Common.{◌≡◌, ◌<◌, ◌&&◌, ◌∙◌, if◌then
 use Rattle.std.specs.Char.{is_ascii_digit}
 use Rattle.std.specs.Option.{is_some, option_map, option_or, IfSome}
 use Rattle.std.specs.Str.{bytes_eq}
-use Rattle.version_rules.specs.grammar.Front.{◌>>=◌}
+use Rattle.version_order.specs.texts.Front.{◌>>=◌}
 use Rattle.version_rules.specs.grammar.Versioning.{versioning_of, versioning_text}
 use Rattle.version_rules.proofs.lemmas.Versioning.{versioning_of-spells, versioning_printed}
 use Rattle.version_texts.specs.versioning_ref.VersioningRef.{plain_versioning_ref}

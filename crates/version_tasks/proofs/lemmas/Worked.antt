@@ -3,7 +3,7 @@ use Rattle.std.proofs.Common.{refl}
 use Rattle.std.specs.Fmt.{digits}
 use Rattle.version_rules.specs.grammar.Body.{body_front}
 use Rattle.version_rules.specs.grammar.Chunk.{chunk_front_of}
-use Rattle.version_rules.specs.grammar.Front.{dotted_front, optional, repeated, run_front}
+use Rattle.version_order.specs.texts.Front.{dotted_front, optional, repeated, run_front}
 use Rattle.version_rules.specs.grammar.Last.{numbered_last}
 use Rattle.version_rules.specs.grammar.MChunk.{mchunk_front, variant_of}
 use Rattle.version_rules.specs.grammar.Mess.{further_front, mess_front, mess_of}

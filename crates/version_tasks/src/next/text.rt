@@ -7,7 +7,7 @@ ghost use Rattle.version_texts.specs.versioning_ref.VersioningRef.{version_in};
 
 use itoa::Buffer;
 use std::{fmt, str};
-use version_texts::{Count, Room, Sink, put_all};
+use version_order::{Count, Room, Sink, put_all};
 
 /// A version that comes next after another, which borrows from the text of that one. It writes its own text.
 #[derive(Clone, Copy)]
@@ -28,7 +28,7 @@ impl<'a> Next<'a> {
     ghost use Rattle.std.specs.Prelude.{length};
     ghost use Rattle.version_rules.specs.grammar.Versioning.{versioning_text};
     ghost use Rattle.version_tasks.specs.NextRef.{plain_next};
-    ghost use Rattle.version_texts.specs.key.Sinks.{saturated, IsWritten};
+    ghost use Rattle.version_order.specs.keys.Sinks.{saturated, IsWritten};
 
     /// Returns how many bytes its text has. Does not allocate.
     pub fn length(&self) -> usize

@@ -7,7 +7,7 @@ ghost use Rattle.version_tasks.specs.NextPreText.{numbers_text, pre_text, pre_ve
 
 use itoa::Buffer;
 use std::{fmt, str};
-use version_texts::{Count, Room, Sink, put_all};
+use version_order::{Count, Room, Sink, put_all};
 
 /// A pre-release that comes next after another version, which borrows its word. It writes its own text.
 #[derive(Clone, Copy)]
@@ -27,7 +27,7 @@ impl<'a> NextPre<'a> {
     ghost use Rattle.std.specs.Prelude.{length};
     ghost use Rattle.version_rules.specs.grammar.Versioning.{versioning_text};
     ghost use Rattle.version_tasks.specs.NextPreRef.{plain_next_pre};
-    ghost use Rattle.version_texts.specs.key.Sinks.{saturated, IsWritten};
+    ghost use Rattle.version_order.specs.keys.Sinks.{saturated, IsWritten};
 
     /// Returns how many bytes its text has. Does not allocate.
     pub fn length(&self) -> usize

@@ -1,5 +1,4 @@
-pub mod Bytes
 pub mod Class
-pub mod General
 pub mod Shape
+pub mod Splits
 pub mod TextKind

@@ -3,4 +3,4 @@ use Rattle.std.specs.Prelude.{ℕ, ◌+◌, ◌*◌}
 
 -- a size that is enough for the key of any text of a length
 abbrev pub room_for : ℕ → ℕ
-room_for len = 3 * len + 5
+room_for len = len * 3 + 5

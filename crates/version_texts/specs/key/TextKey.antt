@@ -1,13 +1,12 @@
 -- The key of a version, read off its text by its shape.
-use Rattle.std.specs.Prelude.{◌==◌, ℕ, List, [], ◌∷◌, ◌++◌, map, if◌then◌else◌}
+use Rattle.std.specs.Prelude.{ℕ, List, [], ◌∷◌, ◌++◌, map, if◌then◌else◌}
 use Rattle.std.specs.Char.{is_ascii_digit}
 use Rattle.std.specs.List.{list_all, slice_split}
 use Rattle.std.specs.Str.Parse.{digits_value}
-use Rattle.version_rules.specs.grammar.Bytes.{dot}
 use Rattle.version_rules.specs.grammar.Chunk.{PlainChunk, Numeric, Alphanum}
-use Rattle.version_rules.specs.key.NumberBytes.{number_bytes}
+use Rattle.version_order.specs.keys.NumberBytes.{number_bytes}
 use Rattle.version_rules.specs.key.PartKey.{PartKey, part_key, parts_bytes}
-use Rattle.version_rules.specs.grammar.Sep.{is_sep}
+use Rattle.version_order.specs.texts.Sep.{is_sep}
 use Rattle.version_rules.specs.key.Key.{Key}
 use Rattle.version_rules.specs.key.Tail.{Tail}
 use Rattle.version_texts.specs.order.Piece.{sign_of}
@@ -17,10 +16,7 @@ use Rattle.version_texts.specs.declared.scan.shape.TailKind.{TailKind}
 use Rattle.version_texts.specs.declared.scan.shape.TailKind.TheVariants.{PreRelease, Nothing, Release, Sections}
 use Rattle.version_texts.specs.scan.Shape.{body_in, epoch_in, tail_in}
 use Rattle.version_rules.specs.key.Tail as tail
-
--- the pieces of a text between its dots
-abbrev pub pieces : List ℕ → List (List ℕ)
-pieces = slice_split (λ b. b == dot)
+use Rattle.version_order.specs.texts.Pieces.{pieces}
 
 -- the parts of a body or of a section
 abbrev pub parts_of : List ℕ → List PartKey

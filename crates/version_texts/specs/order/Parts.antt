@@ -2,7 +2,7 @@
 use Rattle.std.specs.Prelude.{ℕ, List, [], map, Option, Some, None}
 use Rattle.std.specs.Borrow.{Bor}
 use Rattle.version_rules.specs.key.PartKey.{PartKey, part_key}
-use Rattle.version_texts.specs.order.Piece.{behind_piece, first_piece, further_pieces, is_dot}
+use Rattle.version_order.specs.texts.Pieces.{behind_piece, first_piece, further_pieces, is_dot}
 use Rattle.version_texts.specs.key.TextKey.{parts_of}
 
 -- the parts of a text; none without a text

@@ -7,14 +7,14 @@ use Rattle.std.specs.Option.{option_cmp, option_map_or}
 use Rattle.std.specs.Ordering.{nat_cmp, on, then_cmp}
 use Rattle.std.specs.declared.cmp.Ordering.{Ordering}
 use Rattle.std.specs.declared.cmp.Ordering.TheVariants.{Less, Equal, Greater}
-use Rattle.version_rules.specs.grammar.Bytes.{dot}
-use Rattle.version_rules.specs.grammar.Front.{begins}
-use Rattle.version_rules.specs.order.Lists.{bytes_cmp, split_last}
-use Rattle.version_rules.specs.grammar.Sep.{sep_of, sep_rank}
+use Rattle.version_order.specs.texts.Bytes.{dot, is_section_byte}
+use Rattle.version_order.specs.texts.Front.{begins}
+use Rattle.version_order.specs.keys.Lists.{bytes_cmp, split_last}
+use Rattle.version_order.specs.texts.Sep.{sep_of, sep_rank}
 use Rattle.version_texts.specs.versioning_ref.Numbers.{after_letters}
-use Rattle.version_texts.specs.order.Piece.{behind_digits}
-use Rattle.version_texts.specs.scan.Shape.{body_start, from_body, is_section_byte}
-use Rattle.version_texts.specs.key.TextKey.{pieces}
+use Rattle.version_order.specs.texts.DigitRun.{behind_digits}
+use Rattle.version_texts.specs.scan.Shape.{body_start, from_body}
+use Rattle.version_order.specs.texts.Pieces.{pieces}
 use Rattle.version_texts.specs.scan.TextKind.{is_numeral}
 
 -- ---- messy versions

@@ -1,7 +1,7 @@
 -- Two members of a list of requirements that exclude each other.
 use Rattle.std.specs.Prelude.{◌≡◌, ◌⊎◌, ℕ, ◌+◌, IfSome, IsSomeAnd, List, length}
 use Rattle.std.specs.declared.cmp.Ordering.TheVariants.{Less}
-use Rattle.version_rules.specs.order.Lists.{bytes_cmp}
+use Rattle.version_order.specs.keys.Lists.{bytes_cmp}
 use Rattle.version_rules.specs.requirement.Range.{PlainRange, common, kind_alone, no_kinds, requirement_range}
 use Rattle.version_rules.specs.declared.kind.Kind.{Kind}
 use Rattle.version_rules.specs.declared.kinds.Kinds.{Kinds}

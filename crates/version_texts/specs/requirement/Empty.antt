@@ -1,7 +1,7 @@
 -- Ranges that no version is in.
 use Rattle.std.specs.Prelude.{◌≡◌, ◌⊎◌, IsSomeAnd}
 use Rattle.std.specs.declared.cmp.Ordering.TheVariants.{Less}
-use Rattle.version_rules.specs.order.Lists.{bytes_cmp}
+use Rattle.version_order.specs.keys.Lists.{bytes_cmp}
 use Rattle.version_rules.specs.requirement.Range.{PlainRange, no_kinds}
 
 -- the range has a high end, and its low end is not below it

@@ -2,10 +2,10 @@
 use Rattle.std.specs.Prelude.{◌≡◌, ◌⊎◌, ℕ, Bool, true, false, List, [], ◌∷◌, ◌++◌, Option, Some, None}
 use Rattle.version_rules.specs.key.Key.{Key}
 use Rattle.version_rules.specs.key.Tail.{tail_bytes}
-use Rattle.version_rules.specs.declared.ends.End.{End}
-use Rattle.version_rules.specs.declared.ends.Kept.{Kept}
-use Rattle.version_rules.specs.declared.ends.Kept.TheVariants.{All}
-use Rattle.version_rules.specs.declared.ends.End.TheVariants as end
+use Rattle.version_order.specs.declared.ends.End.{End}
+use Rattle.version_order.specs.declared.ends.Kept.{Kept}
+use Rattle.version_order.specs.declared.ends.Kept.TheVariants.{All}
+use Rattle.version_order.specs.declared.ends.End.TheVariants as end
 
 -- the bytes of an end for which no version counts
 abbrev pub fixed_bytes : End → Option (List ℕ)

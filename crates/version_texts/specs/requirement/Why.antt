@@ -2,7 +2,7 @@
 use Rattle.std.specs.Prelude.{◌≡◌, ℕ, ◌+◌, IsTrue, IfSome, List, ◌++◌, codes, length}
 use Rattle.std.specs.declared.cmp.Ordering.TheVariants.{Less}
 use Rattle.version_rules.specs.grammar.Kind.{versioning_kind}
-use Rattle.version_rules.specs.order.Lists.{bytes_cmp}
+use Rattle.version_order.specs.keys.Lists.{bytes_cmp}
 use Rattle.version_rules.specs.requirement.Matching.{Matches}
 use Rattle.version_rules.specs.requirement.Range.{PlainRange, IsIn, bytes_of, has_kind, requirement_range}
 use Rattle.version_rules.specs.requirement.Requirement.{PlainRequirement}

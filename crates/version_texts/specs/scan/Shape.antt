@@ -1,12 +1,12 @@
 -- Where the pieces of a version lie in its text.
 use Rattle.std.specs.Prelude.{◌≡◌, ◌==◌, ◌&&◌, ◌||◌, ◌+◌, ◌-◌, ◌<◌, ◌≤◌, ℕ, Bool, true, List, drop, length, not, slice_range, take, Option, if◌then◌else◌}
-use Rattle.std.specs.Char.{is_ascii_alphanumeric, is_ascii_digit}
+use Rattle.std.specs.Char.{is_ascii_digit}
 use Rattle.std.specs.List.{list_all, prefix_len}
 use Rattle.std.specs.Option.{option_map}
-use Rattle.version_rules.specs.grammar.Bytes.{colon, dot, hyphen, is_metadata_byte, plus}
-use Rattle.version_rules.specs.grammar.DigitRun.{starts_with_digit}
-use Rattle.version_rules.specs.grammar.Front.{begins}
-use Rattle.version_rules.specs.grammar.Sep.{is_sep}
+use Rattle.version_order.specs.texts.Bytes.{colon, hyphen, is_metadata_byte, plus, is_section_byte}
+use Rattle.version_order.specs.texts.DigitRun.{starts_with_digit}
+use Rattle.version_order.specs.texts.Front.{begins}
+use Rattle.version_order.specs.texts.Sep.{is_sep}
 use Rattle.version_rules.specs.declared.kind.Kind.{Kind}
 use Rattle.version_rules.specs.grammar.Kind.{versioning_kind}
 use Rattle.version_rules.specs.grammar.Versioning.{versioning_of}
@@ -14,10 +14,6 @@ use Rattle.version_texts.specs.declared.scan.shape.Shape.{Shape}
 use Rattle.version_texts.specs.declared.scan.shape.TailKind.{TailKind}
 use Rattle.version_texts.specs.declared.scan.shape.TailKind.TheVariants.{PreRelease, Nothing, Release, Sections}
 use Rattle.version_rules.specs.declared.kind.Kind.TheVariants as kind
-
--- a letter, a digit or a dot: the bytes of a body, and of a section
-abbrev pub is_section_byte : ℕ → Bool
-is_section_byte b = is_ascii_alphanumeric b || b == dot
 
 -- the length of the digits that a text begins with
 abbrev pub digits_len : List ℕ → ℕ

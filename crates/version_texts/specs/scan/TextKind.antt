@@ -3,18 +3,14 @@ use Rattle.std.specs.Prelude.{◌==◌, ◌&&◌, ◌||◌, ◌+◌, ◌^◌, �
 use Rattle.std.specs.Char.{is_ascii_alphanumeric, is_ascii_digit}
 use Rattle.std.specs.List.{list_all, prefix_len, slice_split, take_while}
 use Rattle.std.specs.Str.Parse.{digits_value}
-use Rattle.version_rules.specs.grammar.Bytes.{hyphen, is_identifier_byte, is_metadata_byte, plus}
-use Rattle.version_rules.specs.grammar.DigitRun.{is_digits}
-use Rattle.version_rules.specs.grammar.Front.{begins}
+use Rattle.version_order.specs.texts.Bytes.{hyphen, is_identifier_byte, is_metadata_byte, plus, is_section_byte}
+use Rattle.version_order.specs.texts.DigitRun.{is_digits}
+use Rattle.version_order.specs.texts.Front.{begins, is_run}
 use Rattle.version_rules.specs.declared.kind.Kind.{Kind}
-use Rattle.version_rules.specs.grammar.Class.{is_mark}
-use Rattle.version_texts.specs.scan.Shape.{behind_body, body_start, from_body, is_section_byte}
-use Rattle.version_texts.specs.key.TextKey.{pieces}
+use Rattle.version_order.specs.texts.Class.{is_mark}
+use Rattle.version_texts.specs.scan.Shape.{behind_body, body_start, from_body}
+use Rattle.version_order.specs.texts.Pieces.{pieces}
 use Rattle.version_rules.specs.declared.kind.Kind.TheVariants as kind
-
--- a nonempty text of bytes that pass the test
-abbrev pub is_run : (ℕ → Bool) → List ℕ → Bool
-is_run test text = not (length text == 0) && list_all test text
 
 -- digits without a leading zero, of value below 2 ^ 32
 unfoldable pub is_numeral : List ℕ → Bool

@@ -3,7 +3,7 @@ use Rattle.std.specs.Prelude.{◌+◌, ℕ, List, [], ◌∷◌, ◌++◌, lengt
 use Rattle.std.specs.Fmt.{decimal}
 use Rattle.std.specs.Option.{option_map}
 use Rattle.version_rules.specs.grammar.Body.{body_text}
-use Rattle.version_rules.specs.grammar.Bytes.{hyphen, plus}
+use Rattle.version_order.specs.texts.Bytes.{hyphen, plus}
 use Rattle.version_rules.specs.grammar.Release.{release_text}
 use Rattle.version_rules.specs.key.Key.{mess_epoch}
 use Rattle.version_rules.specs.grammar.Mess.{joined_section}

@@ -4,11 +4,11 @@ use Rattle.std.specs.Borrow.{Bor}
 use Rattle.std.specs.Char.{is_ascii_alphabetic, is_ascii_digit}
 use Rattle.std.specs.List.{before_first, prefix_len, slice_split, take_while}
 use Rattle.std.specs.Str.Parse.{digits_value}
-use Rattle.version_rules.specs.grammar.Bytes.{colon}
+use Rattle.version_order.specs.texts.Bytes.{colon}
 use Rattle.version_rules.specs.grammar.MChunk.{value_of_digits}
-use Rattle.version_rules.specs.grammar.Sep.{is_sep}
-use Rattle.version_texts.specs.order.Piece.{behind_digits}
-use Rattle.version_texts.specs.key.TextKey.{pieces}
+use Rattle.version_order.specs.texts.Sep.{is_sep}
+use Rattle.version_order.specs.texts.DigitRun.{behind_digits}
+use Rattle.version_order.specs.texts.Pieces.{pieces}
 use Rattle.version_texts.specs.scan.TextKind.{is_numeral}
 
 -- the largest epoch that is given as a number where numbers have a sign: the largest of 64 bits

@@ -5,7 +5,7 @@ ghost use Rattle.version_rules.specs.key.Key.{key_of};
 ghost use Rattle.version_rules.specs.key.KeyBytes.{key_bytes};
 ghost use Rattle.version_rules.specs.grammar.Versioning.{versioning_of, PlainVersioning};
 ghost use Rattle.version_texts.specs.key.KeyRoom.{room_for};
-ghost use Rattle.version_texts.specs.key.Sinks.{saturated};
+ghost use Rattle.version_order.specs.keys.Sinks.{saturated};
 
 use std::alloc::AllocError;
 

@@ -3,18 +3,17 @@
 ghost use Rattle.std.specs.Prelude.{◌≡◌, ◌+◌, ◌≤◌, length};
 ghost use Rattle.version_rules.specs.requirement.Ends.{end_bytes};
 ghost use Rattle.version_rules.specs.key.KeyBytes.{key_bytes};
-ghost use Rattle.version_rules.specs.order.Lists.{bytes_cmp};
+ghost use Rattle.version_order.specs.keys.Lists.{bytes_cmp};
 ghost use Rattle.version_rules.specs.key.Tail.{tail_bytes};
 ghost use Rattle.version_texts.specs.scan.Shape.{tail_in, Fits};
-ghost use Rattle.version_texts.specs.key.Sinks.{put_at};
+ghost use Rattle.version_order.specs.keys.Sinks.{put_at};
 ghost use Rattle.version_texts.specs.key.TextKey.{tail_of, text_key};
 
-use crate::key::sinks::{Beside, Room};
 use crate::key::{put_front, put_tail, tail_at};
 use crate::requirement::range::put_end;
 use crate::scan::shape::Shape;
 use std::cmp::Ordering;
-use version_rules::End;
+use version_order::{Beside, End, Room};
 
 // Writes the key of a version into a buffer from a place on, and returns the place after it. The tail has a sink of its
 // own, here and in a comparison: so the compiler keeps both in registers.

@@ -1,10 +1,10 @@
 //! What ends a part, and the runs of bytes in it.
 
 ghost use Rattle.std.specs.Prelude.{◌≡◌};
-ghost use Rattle.version_rules.specs.grammar.Front.{begins};
+ghost use Rattle.version_order.specs.texts.Front.{begins};
 ghost use Rattle.version_texts.specs.order.Piece.{delimits, in_run};
 
-use version_rules::is_sign;
+use version_order::is_sign;
 
 /// What ends a part: a dot in a body, a dot or a sign in sections.
 #[derive(Clone, Copy)]

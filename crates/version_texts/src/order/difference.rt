@@ -8,9 +8,9 @@ ghost use Rattle.version_texts.specs.key.TextKey.{parts_of, text_key};
 use crate::key::body_at;
 use crate::order::delimiters::Delimiters;
 use crate::order::part::compare_parts_to;
-use crate::order::piece::behind_first;
 use crate::order::{compare_epochs, compare_tails};
 use crate::scan::shape::Shape;
+use version_order::behind_first;
 
 /// Where two versions differ first.
 #[derive(Clone, Copy, Debug, PartialEq, Eq)]

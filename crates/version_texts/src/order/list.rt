@@ -7,11 +7,9 @@ ghost use Rattle.version_rules.specs.key.Tail.{sections_cmp};
 ghost use Rattle.version_texts.specs.key.TextKey.{lists_of, parts_of, sections_of};
 
 use crate::order::delimiters::Delimiters;
-use crate::order::digits::compare_if_numbers;
 use crate::order::part::compare_parts_to;
-use crate::order::piece::{after_mark, behind_first};
 use std::cmp::Ordering;
-use version_rules::{Class, begins_with};
+use version_order::{Class, after_byte, begins_with, behind_first, compare_if_numbers};
 
 // Compares two lists of parts. The first place where they differ decides:
 // word < end of the list < number.
@@ -94,7 +92,7 @@ fn compare_lists(delimiters: Delimiters, x: &[u8], y: &[u8]) -> Ordering
             return parts.order;
         }
         let (rest, other_rest) = (parts.rest, parts.other_rest);
-        match (after_mark(b'.', rest), after_mark(b'.', other_rest)) {
+        match (after_byte(b'.', rest), after_byte(b'.', other_rest)) {
             (Some(more), Some(others)) => {
                 a = more;
                 b = others;

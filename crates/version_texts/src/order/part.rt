@@ -4,19 +4,19 @@ ghost use Rattle.std.specs.Prelude.{◌≡◌, Some, false};
 ghost use Rattle.std.specs.List.{before_first};
 ghost use Rattle.std.specs.Option.{option_cmp};
 ghost use Rattle.std.specs.declared.cmp.Ordering.TheVariants.{Equal};
-ghost use Rattle.version_rules.specs.grammar.DigitRun.{number_front};
-ghost use Rattle.version_rules.specs.grammar.Front.{begins};
-ghost use Rattle.version_rules.specs.order.Lists.{bytes_cmp, none_last_cmp};
+ghost use Rattle.version_order.specs.texts.DigitRun.{number_front};
+ghost use Rattle.version_order.specs.texts.Front.{begins};
+ghost use Rattle.version_order.specs.keys.Lists.{bytes_cmp, none_last_cmp};
 ghost use Rattle.version_rules.specs.key.PartKey.{part_cmp, part_key, suffix_of};
 ghost use Rattle.version_rules.specs.key.Split.{numbered_cmp, split_cmp, split_of};
 ghost use Rattle.version_texts.specs.declared.order.delimiters.Run.TheVariants.{Word};
-ghost use Rattle.version_texts.specs.order.Piece.{delimits, from_first, in_run};
+ghost use Rattle.version_texts.specs.order.Piece.{delimits, in_run};
+ghost use Rattle.version_order.specs.texts.Pieces.{from_first};
 
 use crate::order::delimiters::{Delimiters, Run};
-use crate::order::digits::compare_numbers;
-use crate::order::run::{Compared, compare_runs};
+use crate::order::run::compare_runs;
 use std::cmp::Ordering;
-use version_rules::{Class, begins_with};
+use version_order::{Class, Compared, begins_with, compare_numbers};
 
 // Compares two texts by their first parts, which go to the ends that are given. If these are equal, returns what
 // follows them.

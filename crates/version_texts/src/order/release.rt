@@ -5,18 +5,15 @@ ghost use Rattle.std.specs.Char.{is_ascii_digit};
 ghost use Rattle.std.specs.List.{list_all};
 ghost use Rattle.std.specs.Ordering.{nat_cmp};
 ghost use Rattle.std.specs.declared.cmp.Ordering.TheVariants.{Equal, Greater};
-ghost use Rattle.version_rules.specs.grammar.DigitRun.{run_value};
+ghost use Rattle.version_order.specs.texts.DigitRun.{run_value};
 ghost use Rattle.version_rules.specs.order.ReleaseOrder.{chunk_cmp, release_cmp};
-ghost use Rattle.version_texts.specs.order.Piece.{behind_piece, first_piece};
+ghost use Rattle.version_order.specs.texts.Pieces.{behind_piece, first_piece};
 ghost use Rattle.version_texts.specs.key.TextKey.{chunk_of, chunks_of};
 
 use crate::order::delimiters::Delimiters;
-use crate::order::digits::compare_numbers;
 use crate::order::part::compare_texts;
-use crate::order::piece::{behind_first, piece_is_empty};
-use crate::order::run::Compared;
 use std::cmp::Ordering;
-use version_rules::{Class, split_run};
+use version_order::{Class, Compared, behind_first, compare_numbers, piece_is_empty, split_run};
 
 /// Compares two releases chunk by chunk: numbers by value, which come before texts, and texts by bytes. A prefix comes
 /// before the longer release. Does not allocate.

@@ -3,35 +3,12 @@
 ghost use Rattle.std.specs.Prelude.{◌≡◌, drop};
 ghost use Rattle.std.specs.List.{prefix_len, take_while};
 ghost use Rattle.std.specs.declared.cmp.Ordering.TheVariants.{Equal};
-ghost use Rattle.version_rules.specs.order.Lists.{bytes_cmp};
+ghost use Rattle.version_order.specs.keys.Lists.{bytes_cmp};
 ghost use Rattle.version_texts.specs.order.Piece.{in_run};
 
 use crate::order::delimiters::Run;
 use std::cmp::Ordering;
-
-/// How two texts compare by what they begin with, and what follows that if it is equal.
-#[derive(Clone, Copy)]
-pub struct Compared<'t> {
-    pub order: Ordering,
-    pub rest: &'t [u8],
-    pub other_rest: &'t [u8],
-}
-
-impl<'t> Compared<'t> {
-    /// An order, and what follows.
-    #[inline(always)]
-    pub fn new(order: Ordering, rest: &'t [u8], other_rest: &'t [u8]) -> Compared<'t>
-        ensures order { result.order ≡ order }
-        ensures rest { result.rest.now ≡ rest.now }
-        ensures other_rest { result.other_rest.now ≡ other_rest.now }
-    {
-        Compared {
-            order,
-            rest,
-            other_rest,
-        }
-    }
-}
+use version_order::Compared;
 
 // Compares the runs at the starts of two texts by bytes. A prefix comes before the longer run.
 #[inline(always)]

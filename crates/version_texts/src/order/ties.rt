@@ -2,14 +2,13 @@
 
 ghost use Rattle.std.specs.Prelude.{◌≡◌, ◌≤◌, length};
 ghost use Rattle.std.specs.Ordering.{ordering_then};
-ghost use Rattle.version_rules.specs.order.Lists.{bytes_cmp};
+ghost use Rattle.version_order.specs.keys.Lists.{bytes_cmp};
 ghost use Rattle.version_texts.specs.scan.Shape.{body_start};
 ghost use Rattle.version_texts.specs.order.Ties.{bodies_tie, byte_place, general_tie, is_lettered, is_numbered, last_tie, messy_tie};
 
-use crate::order::piece::after_mark;
 use crate::scan::numeral::spells_numeral;
 use std::cmp::Ordering;
-use version_rules::{COLON, Class, begins_with, rank_at, run_end, split_run};
+use version_order::{COLON, Class, after_byte, begins_with, rank_at, run_end, split_run};
 
 // Compares two general versions: no epoch first, then their parts, then what follows these. Reads the texts up to the
 // part in which they differ.
@@ -49,7 +48,7 @@ fn compare_bodies(x: &[u8], y: &[u8]) -> Ordering
     'parts: loop {
         let (part, rest) = split_run(a, Class::Alphanumeric);
         let (other, other_rest) = split_run(b, Class::Alphanumeric);
-        match (after_mark(b'.', rest), after_mark(b'.', other_rest)) {
+        match (after_byte(b'.', rest), after_byte(b'.', other_rest)) {
             (Some(more), Some(others)) => {
                 let order = part.cmp(other);
                 if order != Ordering::Equal {

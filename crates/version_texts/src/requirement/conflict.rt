@@ -2,7 +2,7 @@
 
 ghost use Rattle.std.specs.Prelude.{◌≡◌, ◌↔◌, is_some, IfSome, IsSome, IsSomeAnd, IsTrue, Some};
 ghost use Rattle.std.specs.declared.cmp.Ordering.TheVariants.{Less};
-ghost use Rattle.version_rules.specs.order.Lists.{bytes_cmp};
+ghost use Rattle.version_order.specs.keys.Lists.{bytes_cmp};
 ghost use Rattle.version_rules.specs.requirement.Range.{common_kinds, has_kind, no_kinds, range_of, requirement_range};
 ghost use Rattle.version_rules.specs.requirement.Requirements.{requirements_of};
 ghost use Rattle.std.specs.Option.{option_map};

@@ -2,9 +2,9 @@
 
 ghost use Rattle.std.specs.Prelude.{◌≡◌, ◌++◌, IfNone, IsSome, List, ℕ};
 ghost use Rattle.std.specs.Option.{option_map};
-ghost use Rattle.version_rules.specs.key.Codes.{items_bytes};
+ghost use Rattle.version_order.specs.keys.Codes.{items_bytes};
 ghost use Rattle.version_rules.specs.requirement.Ends.{end_bytes};
-ghost use Rattle.version_rules.specs.order.Lists.{bytes_cmp};
+ghost use Rattle.version_order.specs.keys.Lists.{bytes_cmp};
 ghost use Rattle.version_rules.specs.key.PartKey.{part_bytes};
 ghost use Rattle.version_texts.specs.requirement.EndOrder.{after_key, fixed_bytes, is_key, kept_of, mark_of, Begins, IsOfPart};
 ghost use Rattle.version_texts.specs.order.Parts.{parts_behind};
@@ -15,12 +15,11 @@ use crate::key::body_at;
 use crate::key::whole::compare_end;
 use crate::order::delimiters::Delimiters;
 use crate::order::part::compare_parts_to;
-use crate::order::piece::behind_first;
 use crate::order::{compare, compare_epochs};
 use crate::requirement::range::kept_parts;
 use crate::scan::shape::Shape;
 use std::cmp::Ordering;
-use version_rules::{Class, End, Kept, begins_with};
+use version_order::{Class, End, Kept, begins_with, behind_first};
 
 /// Compares two ends of ranges by the texts and the shapes of their versions.
 pub fn compare_ends(

@@ -8,14 +8,13 @@ ghost use Rattle.version_rules.specs.requirement.Range.{requirement_range, IsIn}
 ghost use Rattle.version_rules.specs.requirement.Requirements.{comma, requirements_of};
 ghost use Rattle.version_texts.specs.requirement.Inexact.{inexact_part, inexact_pieces, is_inexact};
 ghost use Rattle.version_texts.specs.requirement.Members.{cut_at_commas, pieces_of};
-ghost use Rattle.version_texts.specs.key.Sinks.{saturated, IsWritten};
+ghost use Rattle.version_order.specs.keys.Sinks.{saturated, IsWritten};
 ghost use Rattle.version_texts.specs.versioning_ref.VersioningRef.{plain_versioning_ref};
 
-use crate::key::sink::{Sink, put_all};
-use crate::key::sinks::{Count, Room};
 use crate::requirement::members::Members;
 use crate::requirement::requirement_ref::RequirementRef;
 use crate::versioning_ref::VersioningRef;
+use version_order::{Count, Room, Sink, put_all};
 
 /// Writes the members of a list that need not match each version in their range, joined by commas, into a buffer, if
 /// they fit there. Returns how many bytes they are. For a version in the range of the list these members decide. Does

@@ -5,8 +5,8 @@ ghost use Rattle.version_texts.specs.requirement.MemberPlace.{text_between};
 ghost use Rattle.version_texts.specs.requirement.Members.{cut_at_commas, list_of, pieces_of};
 ghost use Rattle.std.specs.Option.{is_some};
 
-use crate::order::piece::place_of;
 use crate::requirement::requirement_ref::RequirementRef;
+use version_order::place_of;
 
 /// The pieces of a text between its commas, one after another.
 #[derive(Clone, Copy)]

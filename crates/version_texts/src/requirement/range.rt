@@ -7,12 +7,11 @@ ghost use Rattle.version_texts.specs.order.Parts.{parts_behind};
 ghost use Rattle.version_texts.specs.scan.Shape.{Fits};
 ghost use Rattle.version_texts.specs.key.TextKey.{parts_of, text_key};
 
-use crate::key::sink::Sink;
 use crate::key::{body_at, epoch_at, put_begun, put_key};
-use crate::order::piece::{behind_first, split_piece};
 use crate::requirement::matching::parts::TextParts;
 use crate::scan::shape::Shape;
-use version_rules::{End, Kept, Parts};
+use version_order::{End, Kept, Sink, behind_first, split_piece};
+use version_rules::Parts;
 
 // The text before its last dot, or None if it has no dot.
 fn before_last_dot(text: &[u8]) -> Option<&[u8]>
@@ -65,7 +64,7 @@ pub(crate) fn kept_parts(body: &[u8], kept: Kept) -> Option<&[u8]>
 
 // Writes the epoch and the kept parts of a version, by its text and its shape.
 #[inline(always)]
-fn put_kept<S: Sink>(sink: &mut S, text: &[u8], shape: Shape, kept: Kept)
+pub(crate) fn put_kept<S: Sink>(sink: &mut S, text: &[u8], shape: Shape, kept: Kept)
     requires shape { Fits text.now shape }
     requires fits { S.fits sink.old (begun (text_key text.now shape).epoch
         (kept_parts kept (text_key text.now shape).body)) }

@@ -5,21 +5,21 @@ ghost use Rattle.std.specs.Option.{option_map};
 ghost use Rattle.std.specs.declared.cmp.Ordering.TheVariants.{Less};
 ghost use Rattle.version_rules.specs.requirement.Ends.{end_bytes};
 ghost use Rattle.version_rules.specs.key.Key.{key_of};
-ghost use Rattle.version_rules.specs.order.Lists.{bytes_cmp};
+ghost use Rattle.version_order.specs.keys.Lists.{bytes_cmp};
 ghost use Rattle.version_rules.specs.requirement.Range.{bytes_of, common, earlier_high, later, range_of, requirement_range, IsIn};
 ghost use Rattle.version_rules.specs.requirement.Requirements.{comma, requirements_of};
 ghost use Rattle.version_texts.specs.requirement.Empty.{IsCrossed};
 ghost use Rattle.version_texts.specs.requirement.RangeRef.{bound_bytes, high_length, low_bytes, plain_range_ref, IsParsed};
 ghost use Rattle.version_texts.specs.requirement.RequirementRef.{plain_requirement_ref};
-ghost use Rattle.version_texts.specs.key.Sinks.{saturated, IsWritten};
+ghost use Rattle.version_order.specs.keys.Sinks.{saturated, IsWritten};
 ghost use Rattle.version_texts.specs.versioning_ref.VersioningRef.{plain_versioning_ref};
 
-use crate::order::piece::place_of;
 use crate::requirement::members::Members;
 use crate::requirement::requirement_ref::RequirementRef;
 use crate::versioning_ref::VersioningRef;
 use std::cmp::Ordering;
-use version_rules::{End, Kinds, ends_of};
+use version_order::{End, place_of};
+use version_rules::{Kinds, ends_of};
 
 // The length of a list that isn't halved.
 const SHORT: usize = 256;

@@ -11,12 +11,12 @@ ghost use Rattle.version_rules.specs.requirement.Requirements.{requirements_of};
 ghost use Rattle.version_rules.specs.requirement.RequirementsRef.{Keeps};
 ghost use Rattle.version_rules.specs.grammar.Versioning.{versioning_of};
 
-use crate::order::piece::after_mark;
 use crate::requirement::members::{Members, split_first};
 use crate::requirement::others::Others;
 use crate::requirement::requirement_ref::RequirementRef;
 use crate::versioning_ref::VersioningRef;
 use std::marker::Model;
+use version_order::after_byte;
 use version_rules::Op;
 
 // The length of a list whose members are asked in turn about one version. Of a longer one the range is asked first.
@@ -179,7 +179,7 @@ fn begins_with(text: &[u8], front: &[u8]) -> bool
 {
     let mut left = text;
     for byte in front {
-        match after_mark(*byte, left) {
+        match after_byte(*byte, left) {
             Some(behind) => left = behind,
             None => return false,
         }

@@ -4,18 +4,17 @@ ghost use Rattle.std.specs.Prelude.{◌≡◌, ◌↔◌, is_some, length, IfSom
 ghost use Rattle.version_rules.specs.requirement.Matching.{Matches, MatchesAll};
 ghost use Rattle.version_rules.specs.requirement.Requirements.{requirements_of};
 ghost use Rattle.version_texts.specs.requirement.RangeRef.{plain_range_ref};
-ghost use Rattle.version_texts.specs.key.Sinks.{saturated, IsWritten};
+ghost use Rattle.version_order.specs.keys.Sinks.{saturated, IsWritten};
 ghost use Rattle.version_texts.specs.versioning_ref.VersioningRef.{plain_versioning_ref};
 ghost use Rattle.version_texts.specs.requirement.Why.{excluded_text, reason_text, words_after, words_between, IsExcluded, IsWhy};
 
-use crate::key::sink::{Sink, put_all};
-use crate::key::sinks::{Count, Room};
 use crate::requirement::first_failing::{ListTest, first_failing};
 use crate::requirement::members::text_between;
 use crate::requirement::range_ref::{RangeRef, is_below, is_from};
 use crate::requirement::requirement_ref::RequirementRef;
 use crate::requirement::requirements_ref::list_matches;
 use crate::versioning_ref::VersioningRef;
+use version_order::{Count, Room, Sink, put_all};
 
 /// Why a requirement does not match a version: the first of these that is so.
 #[derive(Clone, Copy, Debug, PartialEq, Eq)]

@@ -2,12 +2,12 @@
 
 ghost use Rattle.std.specs.Prelude.{◌≡◌, ◌^◌, None, Some, if◌then◌else◌, nat_lt, true};
 ghost use Rattle.std.specs.Str.Parse.{digits_value};
-ghost use Rattle.version_rules.specs.grammar.DigitRun.{is_digits};
+ghost use Rattle.version_order.specs.texts.DigitRun.{is_digits};
 ghost use Rattle.version_rules.specs.grammar.MChunk.{value_of_digits};
 ghost use Rattle.version_texts.specs.versioning_ref.Numbers.{numeral_value};
 ghost use Rattle.version_texts.specs.scan.TextKind.{is_numeral};
 
-use version_rules::{Class, begins_with, split_run};
+use version_order::is_digits;
 
 /// Returns whether digits are a numeral.
 #[inline(always)]
@@ -73,12 +73,4 @@ pub fn numeral_value(text: &[u8]) -> Option<u32>
     } else {
         None
     }
-}
-
-/// Returns whether a text is digits, one or more. Does not allocate.
-pub fn is_digits(text: &[u8]) -> bool
-    ensures { result ≡ is_digits text.now }
-{
-    let (_, rest) = split_run(text, Class::Digit);
-    begins_with(text, Class::Digit) && rest.is_empty()
 }

@@ -4,14 +4,14 @@ ghost use Rattle.std.specs.Prelude.{◌≡◌, ◌==◌, ◌∷◌, Some, drop, 
 ghost use Rattle.version_rules.specs.grammar.Versioning.{versioning_nth};
 ghost use Rattle.version_texts.specs.versioning_ref.Numbers.{body_number, chunk_number, last_number, pieces_left, section_in};
 ghost use Rattle.version_texts.specs.scan.Shape.{shape_of};
-ghost use Rattle.version_texts.specs.key.TextKey.{pieces};
+ghost use Rattle.version_order.specs.texts.Pieces.{pieces};
 ghost use Rattle.version_texts.specs.versioning_ref.VersioningRef.{version_in};
 
 use crate::key::body_at;
-use crate::order::piece::{after_mark, behind_first, split_piece};
 use crate::scan::numeral::{numeral_value, small_number};
 use crate::scan::shape::Shape;
-use version_rules::{Class, Kind, split_run};
+use version_order::{Class, after_byte, behind_first, split_piece, split_run};
+use version_rules::Kind;
 
 /// The largest epoch that is given as a number where numbers have a sign, as in SQL: a larger one is given as this.
 pub const LARGEST_EPOCH: u64 = 0x7FFF_FFFF_FFFF_FFFF;
@@ -68,7 +68,7 @@ fn section(text: &[u8]) -> &[u8]
     let mut left = text;
     'sections: loop {
         let (section, rest) = split_run(left, Class::NotSign);
-        match after_mark(b':', rest) {
+        match after_byte(b':', rest) {
             Some(more) => left = more,
             None => return section,
         }

@@ -1,7 +1,7 @@
 -- The parts of a body in a key, from what remains of them.
 use Rattle.std.proofs.Common.{◌≡◌, ℕ, List, [], ◌∷◌, ◌++◌, map, Some, None, sym, ap, ◌∙◌, append_assoc, append-nil}
 use Rattle.version_parts.specs.Chunk.{plain_chunk}
-use Rattle.version_rules.specs.key.Codes.{items_bytes}
+use Rattle.version_order.specs.keys.Codes.{items_bytes}
 use Rattle.version_rules.specs.key.PartKey.{PartKey, chunk_parts, part_bytes, parts_bytes}
 use Rattle.version_parts.specs.declared.chunk.Chunk.{Chunk}
 use Rattle.version_parts.proofs.lemmas.PartKey.Lists.{chunk_parts-map, key_of_chunk}

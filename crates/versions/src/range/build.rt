@@ -1,7 +1,7 @@
 //! Ranges built from the ends that operators ask for.
 
 ghost use Rattle.std.specs.Prelude.{◌≡◌, ◌∷◌, ◌++◌, IfOk, IsTrue, OnOk, Some};
-ghost use Rattle.version_rules.specs.key.Codes.{items_bytes};
+ghost use Rattle.version_order.specs.keys.Codes.{items_bytes};
 ghost use Rattle.version_rules.specs.key.PartKey.{part_bytes};
 ghost use Rattle.versions.specs.BodyParts.{first_part, more_parts};
 ghost use Rattle.version_rules.specs.requirement.Ends.{end_bytes, is_whole, kept_parts, range_from, AreWhole};
@@ -10,7 +10,7 @@ ghost use Rattle.version_rules.specs.grammar.Kind.{versioning_kind};
 ghost use Rattle.version_rules.specs.requirement.Range.{begun};
 ghost use Rattle.versions.specs.Range.{plain_range};
 ghost use Rattle.versions.specs.Versioning.{plain_versioning};
-ghost use Rattle.version_rules.specs.declared.ends.Kept.TheVariants.{ButLastOrOnly};
+ghost use Rattle.version_order.specs.declared.ends.Kept.TheVariants.{ButLastOrOnly};
 ghost use Rattle.version_rules.specs.declared.kind.Kind.TheVariants.{Complex};
 
 use crate::numbers::Numbers;
@@ -18,9 +18,10 @@ use crate::parts::BodyParts;
 use crate::range::Range;
 use crate::versioning::Versioning;
 use std::alloc::{AllocError, Global};
+use version_order::{End, Kept};
 use version_parts::key::PieceBytes;
 use version_parts::{Chunk, Last};
-use version_rules::{End, Ends, Kept, Parts};
+use version_rules::{Ends, Parts};
 
 // Returns the range that has these ends, by the key of a version.
 pub(crate) fn range_from(

@@ -4,7 +4,7 @@ pub mod Rooms
 use Rattle.std.proofs.Common.{ℕ, List, Option}
 use Rattle.std.specs.Option.{option_map}
 use Rattle.version_rules.specs.grammar.Versioning.{PlainVersioning}
-use Rattle.version_texts.specs.keyed.Mixed.{mixed}
+use Rattle.version_texts.specs.Mixed.{mixed}
 
 -- the key of what a text is read as in mixed
 abbrev pub key_of_read : Option PlainVersioning → Option (List ℕ)

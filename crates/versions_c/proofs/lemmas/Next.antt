@@ -3,8 +3,8 @@ use Rattle.std.proofs.Common.{◌≡◌, ◌<◌, ◌≤◌, ◌^◌, ℕ, List,
 use Rattle.std.proofs.lemmas.Bool.Decides.{nat_tests}
 use Rattle.version_rules.specs.grammar.Versioning.{PlainVersioning, versioning_text}
 use Rattle.version_tasks.specs.Next.{IsLeastAfter}
-use Rattle.version_texts.specs.key.Sinks.{put_at, saturated}
-use Rattle.version_texts.proofs.lemmas.key.Sinks.{put_fits}
+use Rattle.version_order.specs.keys.Sinks.{put_at, saturated}
+use Rattle.version_order.proofs.lemmas.Sinks.{put_fits}
 use Rattle.versions_c.specs.Next.{IsAnswered}
 use Rattle.versions_c.specs.declared.status.TheConstants.{OK}
 

@@ -6,7 +6,7 @@ use Rattle.std.proofs.lemmas.List.{length-append}
 use Rattle.std.specs.List.{AllZip, join_with_byte}
 use Rattle.std.specs.Option.{option_map_or}
 use Rattle.std.specs.Ordering.{is_lt}
-use Rattle.version_rules.specs.order.Lists.{bytes_cmp}
+use Rattle.version_order.specs.keys.Lists.{bytes_cmp}
 use Rattle.version_rules.specs.key.PartKey.{PartKey}
 use Rattle.version_texts.proofs.lemmas.requirement.RangeRef.{narrowed}
 use Rattle.version_texts.specs.requirement.RangeRef.{high_length}

@@ -3,18 +3,18 @@ use Rattle.std.proofs.Common.{◌≡◌, ◌∙◌, ◌+◌, ◌<◌, ◌≤◌,
 use Rattle.std.specs.Option.{option_map, unwrap_or}
 use Rattle.std.specs.Prelude.{option_and_then}
 use Rattle.std.specs.declared.cmp.Ordering.{Ordering}
-use Rattle.version_rules.specs.declared.ends.End.TheVariants.{AfterKey}
-use Rattle.version_rules.specs.grammar.Versioning.{versioning_of}
+use Rattle.version_order.specs.declared.ends.End.TheVariants.{AfterKey}
+use Rattle.version_rules.specs.grammar.Versioning.{PlainVersioning, versioning_of}
 use Rattle.version_rules.specs.key.Key.{key_of}
 use Rattle.version_rules.specs.key.KeyBytes.{key_bytes}
-use Rattle.version_rules.specs.order.Lists.{bytes_cmp}
-use Rattle.version_schemes.proofs.lemmas.Orders.{map_twice, orders_by_keys}
-use Rattle.version_schemes.specs.Scheme.{rules, texts_order}
+use Rattle.version_order.specs.keys.Lists.{bytes_cmp}
+use Rattle.version_schemes.proofs.lemmas.Table.{compare_by_keys}
+use Rattle.version_schemes.specs.Scheme.{rules}
 use Rattle.version_schemes.specs.declared.scheme.Scheme.{Scheme}
-use Rattle.version_texts.proofs.lemmas.key.Sinks.{put_fits}
-use Rattle.version_texts.specs.key.Sinks.{saturated, IsWritten}
-use Rattle.version_texts.specs.keyed.Keyed.{AreWithin, PlainKeyed}
-use Rattle.version_texts.specs.keyed.Mixed.{mixed}
+use Rattle.version_order.proofs.lemmas.Sinks.{put_fits}
+use Rattle.version_order.specs.keys.Sinks.{saturated, IsWritten}
+use Rattle.version_order.specs.Keyed.{AreWithin, PlainKeyed}
+use Rattle.version_texts.specs.Mixed.{mixed}
 use Rattle.versions_c.proofs.lemmas.Keys.Putting.{ArePut, no_more_key, one_more_key}
 use Rattle.versions_c.specs.Keys.{keys_before, spelled_key}
 use Rattle.versions_c.specs.Offsets.{text_at}
@@ -66,15 +66,20 @@ key_fits read_as most within text n short = by (read_as text) refl
 
 -- the key in mixed is that of the version which a text spells
 pub key_is_spelled : (text : List ℕ) → option_map (λ v. key_bytes (key_of v)) (versioning_of text) ≡ spelled_key text
-key_is_spelled text = map_twice (λ (v : PlainKeyed). v.key) mixed (versioning_of text)
+key_is_spelled text = by (versioning_of text)
+  where
+    by : (read : Option PlainVersioning)
+        → option_map (λ v. key_bytes (key_of v)) read ≡ option_map (λ (v : PlainKeyed). v.key) (option_map mixed read)
+    by None = refl
+    by (Some v) = refl
 
 -- what holds of how two keys compare holds of how their texts do, by the words of the scheme
 pub by_words : (scheme : Scheme) (one other : List ℕ) (P : Ordering → Type 0)
     → IfSome ((rules scheme).read_as one)
     (λ v. IfSome ((rules scheme).read_as other) (λ w. P (bytes_cmp v.key w.key)))
-    → IfSome (texts_order scheme one other) P
+    → IfSome ((rules scheme).texts_cmp one other) P
 by_words scheme one other P holds =
-    subst (λ found. IfSome found P) (sym (orders_by_keys scheme one other))
+    subst (λ found. IfSome found P) (sym (compare_by_keys scheme one other))
     (by ((rules scheme).read_as one) ((rules scheme).read_as other) holds)
   where
     by : (a b : Option PlainKeyed) → IfSome a (λ v. IfSome b (λ w. P (bytes_cmp v.key w.key)))

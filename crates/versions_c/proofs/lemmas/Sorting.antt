@@ -21,8 +21,8 @@ use Rattle.std.specs.Option.{option_map, option_map_or, unwrap_or}
 use Rattle.std.specs.Ordering.{is_lt, ordering_reverse, ordering_then}
 use Rattle.std.specs.declared.cmp.Ordering.{Ordering}
 use Rattle.std.specs.declared.cmp.Ordering.TheVariants.{Less, Equal, Greater}
-use Rattle.version_rules.proofs.lemmas.Orders.{then_assoc}
-use Rattle.version_rules.specs.order.Lists.{none_last_cmp}
+use Rattle.version_order.proofs.lemmas.Orders.{then_assoc}
+use Rattle.version_order.specs.keys.Lists.{none_last_cmp}
 use Rattle.version_rules.proofs.lemmas.OrdersLaws.{key_bytes_alone}
 use Rattle.version_rules.specs.key.Key.{Key, key_of, precedence}
 use Rattle.version_rules.specs.key.KeyBytes.{key_bytes}

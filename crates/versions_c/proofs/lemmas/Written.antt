@@ -1,8 +1,8 @@
 -- What is told of bytes that are written into a buffer, if they fit.
 use Rattle.std.proofs.Common.{◌≡◌, ◌∙◌, ◌<◌, ◌≤◌, ◌^◌, ℕ, List, arith, length}
 use Rattle.std.proofs.lemmas.Bool.Decides.{nat_tests}
-use Rattle.version_texts.specs.key.Sinks.{IsWritten as IsPut, saturated}
-use Rattle.version_texts.proofs.lemmas.key.Sinks.{put_fits}
+use Rattle.version_order.specs.keys.Sinks.{IsWritten as IsPut, saturated}
+use Rattle.version_order.proofs.lemmas.Sinks.{put_fits}
 use Rattle.versions_c.specs.Written.{IsWritten}
 use Rattle.versions_c.specs.declared.status.TheConstants.{NO_ROOM, OK}
 

@@ -1,14 +1,14 @@
-use Rattle.std.proofs.Common.{◌++◌, None, Some, inl, inr, ◌∷◌, [], ℕ, Bool, List, refl, rules, subst, ap, sym, ◌∙◌, arith}
+use Rattle.std.proofs.Common.{◌++◌, None, Some, inl, inr, ◌∷◌, [], ℕ, Bool, List, refl, rules, subst, ap, sym, ◌∙◌}
 use Rattle.std.proofs.lemmas.Result.{IfErr-weaker}
-use Rattle.version_commands.specs.Fault.{ComesOfBad, ComesOfReadingOne}
-use Rattle.version_commands.specs.Hints.{repeated}
+use Rattle.version_commands.specs.faults.Fault.{ComesOfBad, ComesOfReadingOne}
+use Rattle.version_commands.specs.hints.TaskHint.{repeated}
 use Rattle.version_commands.specs.Lists.{difference_text, names_of, rows_of}
-use Rattle.version_commands.specs.Picked.{AreBadOf}
-use Rattle.version_commands.specs.Place.{reads_of}
+use Rattle.version_commands.specs.lines.Picked.{AreBadOf}
+use Rattle.version_commands.specs.lines.Place.{reads_of}
 use Rattle.version_commands.specs.declared.files.Hint.TheVariants.{Repeated}
 use Rattle.version_lines.specs.Lines.{lines_of}
 use Rattle.version_lines.specs.Sort.{version_in}
-use Rattle.version_commands.proofs.lemmas.Fault.{reading-at}
+use Rattle.version_commands.proofs.lemmas.faults.Fault.{reading-at}
 use Rattle.version_commands.proofs.lemmas.Changes.{are-changes, changes-bad, changes-reading, input-bad, input-good}
 use Rattle.version_commands.proofs.program.changes.Goals as goal
 
@@ -68,7 +68,20 @@ returns-in_err-new-clause-faults g c =
 
 pub returns-in_err-refuse_of_list-clause-faults : goal.returns-in_err-refuse_of_list-clause-faults
 returns-in_err-refuse_of_list-clause-faults g c =
-    grind (arith, IfErr-weaker, changes-bad, input-bad)
+    let lists = c.args.lists.now in
+    let reads = g.F.Files.reads c.args.files.now in
+    let start = g.R.Source.remaining c.args.reader.now in
+    let fails = g.R.Source.may_fail c.args.reader.now in
+    let between = g.R.Source.remaining c.read_input.new.reader in
+    let end = g.R.Source.remaining c.read_input-2.new.reader in
+    let before = c.as_slice.result.now in
+    let (first, one, old_is, old_closed) = c.in_ok-old.ensures.input in
+    let (second, other, new_is, new_closed) = c.in_ok-new.ensures.input in
+    let bad = c.in_ok-old_names.old_bad in
+    IfErr-weaker c.from_residual-in_err-refuse_of_list.result (ComesOfBad lists.invalid lists.place None (Some lists.old) 0 bad) _
+    (changes-bad lists reads fails start between end lists.old first second bad one other
+    (λ fault fail is. inl (input-bad lists lists.old first before bad (c.as_slice.ensures.value ∙ old_is) c.in_ok-old_names.ensures.bad fault is)))
+    (search rules)
 
 pub returns-in_err-refuse_of_list-2-clause-faults : goal.returns-in_err-refuse_of_list-2-clause-faults
 returns-in_err-refuse_of_list-2-clause-faults g c =

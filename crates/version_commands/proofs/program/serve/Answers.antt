@@ -1,7 +1,7 @@
 use Rattle.std.proofs.Common.{◌≡◌, ◌||◌, ℕ, Bool, true, false, List, Option, Result, Err, refl, rules, subst, sym}
-use Rattle.version_commands.specs.Ends.{Ends}
+use Rattle.version_commands.specs.faults.Ends.{Ends}
 use Rattle.version_commands.specs.declared.faults.Fault.{Fault}
-use Rattle.version_commands.proofs.lemmas.Hints.{of-run}
+use Rattle.version_commands.proofs.lemmas.hints.TaskHint.{of-run}
 use Rattle.version_commands.proofs.program.serve.Goals as goal
 
 -- neither holds where one of them does not
@@ -28,6 +28,10 @@ returns-in_ok-served-in-Lines-clause-ends g c = rw c.in-Lines.is (search rules)
 
 pub returns-in_ok-served-in-Lines-clause-unread : goal.returns-in_ok-served-in-Lines-clause-unread
 returns-in_ok-served-in-Lines-clause-unread g c =
+    rw c.in-Lines.is (neither _ _ c.serve_by_words-served.ensures.unread)
+
+pub returns-in_err-served-in-Lines-clause-unread : goal.returns-in_err-served-in-Lines-clause-unread
+returns-in_err-served-in-Lines-clause-unread g c =
     rw c.in-Lines.is (neither _ _ c.serve_by_words-served.ensures.unread)
 
 pub returns-in-TestTwo-clause-ends : goal.returns-in-TestTwo-clause-ends

@@ -13,7 +13,7 @@ use Rattle.std.proofs.lemmas.List.Kept.{AllPairs-filter}
 use Rattle.std.proofs.lemmas.List.Sorted.{All-permutation, ranks_by, sum_by-IsPermutation}
 use Rattle.std.proofs.lemmas.List.Sums.{length-filter}
 use Rattle.std.proofs.lemmas.Map.Lookups.{exact_unsigned}
-use Rattle.version_rules.specs.laws.Order.{then_second}
+use Rattle.version_order.specs.keys.OrderLaws.{then_second}
 use Rattle.version_lines.specs.Sorting.{in_order, put_in_order}
 use Rattle.version_lines.proofs.lemmas.Sorting.{below, by_test, head-is, in_order-only, in_order-permutes, neither, tail-is}
 

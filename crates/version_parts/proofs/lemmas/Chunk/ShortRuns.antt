@@ -7,10 +7,10 @@ use Rattle.std.proofs.lemmas.List.Sums.{prefix_len-le-length}
 use Rattle.std.specs.Char.{is_ascii_digit}
 use Rattle.std.specs.List.{list_all, prefix_len, take_while}
 use Rattle.version_rules.specs.grammar.Chunk.{Alphanum, Numeric, chunk_front_of}
-use Rattle.version_rules.specs.grammar.Bytes.{HasDigits}
-use Rattle.version_rules.specs.grammar.Front.{begins, map_value}
+use Rattle.version_order.specs.texts.Bytes.{HasDigits}
+use Rattle.version_order.specs.texts.Front.{begins, map_value}
 use Rattle.version_rules.specs.grammar.Numeral.{unsigned_front}
-use Rattle.version_rules.proofs.lemmas.Bytes.{digits_alphanumeric, digits_identify}
+use Rattle.version_order.proofs.lemmas.Bytes.{digits_alphanumeric, digits_identify}
 
 pub ruleset classes_with_digits = (digits_alphanumeric, digits_identify)
 

@@ -2,10 +2,10 @@
 use Rattle.std.proofs.Common.{◌≡◌, ◌∙◌, ◌+◌, ◌-◌, ◌<◌, ◌≤◌, ℕ, suc, take, append-nil, List, [], ◌∷◌, ◌++◌, length, Option, Some, None, refl, sym, ap, arith, append_assoc, length-append}
 use Rattle.std.proofs.Math.Seq.{take-nil}
 use Rattle.std.specs.Option.{option_map, option_map_or}
-use Rattle.version_rules.specs.grammar.Bytes.{dot}
-use Rattle.version_rules.specs.grammar.Front.{Consumes, Front, after_mark, behind, dotted_front, elements_at, further}
-use Rattle.version_rules.specs.order.Lists.{split_last}
-use Rattle.version_rules.proofs.lemmas.Front.Dotted.{elements_at-first, further-None, further-next, listed, unlisted}
+use Rattle.version_order.specs.texts.Bytes.{dot}
+use Rattle.version_order.specs.texts.Front.{Consumes, Front, after_mark, behind, dotted_front, elements_at, further}
+use Rattle.version_order.specs.keys.Lists.{split_last}
+use Rattle.version_order.proofs.lemmas.Front.Dotted.{elements_at-first, further-None, further-next, listed, unlisted}
 use Rattle.version_rules.proofs.lemmas.Lists.{split_last-append}
 
 -- if a rest is left, a value was read before it

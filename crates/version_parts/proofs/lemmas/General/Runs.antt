@@ -9,12 +9,12 @@ use Rattle.std.proofs.lemmas.Str.{IsCharBoundary-from_take, IsUtf8-from_ascii}
 use Rattle.std.specs.List.{prefix_len}
 use Rattle.std.specs.Str.{IsAscii, IsCharBoundary, IsUtf8}
 use Rattle.std.specs.Char.{is_ascii_alphabetic, is_ascii_alphanumeric, is_ascii_digit}
-use Rattle.version_rules.specs.grammar.Bytes.{is_identifier_byte}
-use Rattle.version_rules.specs.grammar.Class.{IsAsciiClass, contains}
-use Rattle.version_rules.specs.grammar.Sep.{PlainSep, sep_of}
-use Rattle.version_rules.specs.declared.class.Class.{Class}
-use Rattle.version_rules.specs.declared.class.Class.TheVariants.{Digit, Letter, Alphanumeric, Identifier, Metadata, Mark, NotDot, NotSign}
-use Rattle.version_rules.proofs.lemmas.Bytes.{metadata_ascii}
+use Rattle.version_order.specs.texts.Bytes.{is_identifier_byte}
+use Rattle.version_order.specs.texts.Class.{IsAsciiClass, contains}
+use Rattle.version_order.specs.texts.Sep.{PlainSep, sep_of}
+use Rattle.version_order.specs.declared.class.Class.{Class}
+use Rattle.version_order.specs.declared.class.Class.TheVariants.{Digit, Letter, Alphanumeric, Identifier, Metadata, Mark, NotDot, NotSign}
+use Rattle.version_order.proofs.lemmas.Bytes.{metadata_ascii}
 
 pub digit_ascii : (b : ℕ) → is_ascii_digit b ≡ true → b < 128
 digit_ascii b h = grind (arith, nat_tests)

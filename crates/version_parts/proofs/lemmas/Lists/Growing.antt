@@ -1,6 +1,6 @@
 -- A list to which bytes are appended, some at a time.
 use Rattle.std.proofs.Common.{◌≡◌, ℕ, List, [], ◌++◌, ◌∷◌, Result, Ok, Err, OnErr, refl, sym, ap, ◌∙◌, append_assoc, append-nil}
-use Rattle.version_rules.specs.order.Lists.{Growing, GrowsWithin}
+use Rattle.version_order.specs.keys.Lists.{Growing, GrowsWithin}
 
 pub grows_not : (old bytes : List ℕ) → Growing old old bytes bytes
 grows_not old bytes = record { taken = []; bytes_are = refl; new_is = sym (append-nil old) }

@@ -2,8 +2,8 @@
 use Rattle.std.proofs.Common.{◌≡◌, ℕ, ◌<◌, ◌≤◌, ◌^◌, List, ◌∷◌, ◌++◌, length, drop, ap, ◌∙◌, arith, length-drop}
 use Rattle.std.proofs.lemmas.Fmt.{length-decimal-le}
 use Rattle.std.specs.Fmt.{decimal}
-use Rattle.version_rules.specs.key.NumberBytes.{number_bytes}
-use Rattle.version_rules.proofs.lemmas.NumberBytes.{length_bytes-short, number_bytes-decimal}
+use Rattle.version_order.specs.keys.NumberBytes.{number_bytes}
+use Rattle.version_order.proofs.lemmas.NumberBytes.{length_bytes-short, number_bytes-decimal}
 
 -- a number of 32 bits has at most ten digits
 pub ten_digits : (n : ℕ) → n < 2 ^ 32 → length (decimal n) ≤ 10

@@ -4,11 +4,11 @@ use Rattle.version_parts.specs.declared.chunk.Chunk.{Chunk}
 use Rattle.version_parts.specs.declared.mchunk.MChunk.{MChunk}
 use Rattle.version_rules.specs.grammar.Chunk.{chunk_text}
 use Rattle.version_parts.specs.Chunk.{plain_chunk}
-use Rattle.version_rules.specs.key.Codes.{items_bytes, list_bytes}
+use Rattle.version_order.specs.keys.Codes.{items_bytes, list_bytes}
 use Rattle.version_rules.specs.grammar.MChunk.{mchunk_text}
 use Rattle.version_parts.specs.MChunk.{plain_mchunk}
 use Rattle.version_rules.specs.key.PartKey.{PartKey, chunk_parts, part_bytes, part_key, parts_bytes, section_parts}
-use Rattle.version_rules.proofs.lemmas.Codes.{ended}
+use Rattle.version_order.proofs.lemmas.Codes.{ended}
 
 -- the part of a chunk
 abbrev pub key_of_chunk : Chunk → PartKey

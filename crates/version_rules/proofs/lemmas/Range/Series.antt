@@ -7,12 +7,12 @@ use Rattle.std.specs.Ordering.{MatchOrdering, ordering_then}
 use Rattle.std.specs.declared.cmp.Ordering.{Ordering}
 use Rattle.std.specs.declared.cmp.Ordering.TheVariants.{Less, Equal, Greater}
 use Rattle.version_rules.proofs.lemmas.Lists.{split_last-append}
-use Rattle.version_rules.proofs.lemmas.NumberBytes.{number_writes}
+use Rattle.version_order.proofs.lemmas.NumberBytes.{number_writes}
 use Rattle.version_rules.proofs.lemmas.PartKey.{part_writes}
-use Rattle.version_rules.specs.key.Codes.{items_bytes}
-use Rattle.version_rules.specs.order.Lists.{bytes_cmp}
-use Rattle.version_rules.specs.key.NumberBytes.{number_bytes}
-use Rattle.version_rules.specs.laws.Order.{then_equal}
+use Rattle.version_order.specs.keys.Codes.{items_bytes}
+use Rattle.version_order.specs.keys.Lists.{bytes_cmp}
+use Rattle.version_order.specs.keys.NumberBytes.{number_bytes}
+use Rattle.version_order.specs.keys.OrderLaws.{then_equal}
 use Rattle.version_rules.specs.key.PartKey.{PartKey, Number, Word, part_bytes, part_cmp, parts_bytes}
 use Rattle.version_rules.specs.laws.Part.{part_total}
 use Rattle.version_rules.specs.key.Key.{Key, key_of_semver, key_of_version, plain, strict_body}

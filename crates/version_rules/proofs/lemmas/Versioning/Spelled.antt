@@ -2,12 +2,12 @@
 -- and dots, of signs, and of such texts joined.
 use Rattle.std.proofs.Common.{◌≡◌, ℕ, true, List, [], ◌∷◌, ◌++◌, Option, Some, None, refl}
 use Rattle.std.specs.List.{list_all}
-use Rattle.version_rules.specs.grammar.Bytes.{dot, hyphen, is_metadata_byte, plus}
-use Rattle.version_rules.specs.grammar.Grammar.{SpellsOptional}
+use Rattle.version_order.specs.texts.Bytes.{dot, hyphen, is_metadata_byte, plus}
+use Rattle.version_order.specs.texts.Grammar.{SpellsOptional}
 use Rattle.version_rules.specs.grammar.MChunk.{SpellsMChunk}
 use Rattle.version_rules.specs.grammar.Metadata.{SpellsMetadata}
 use Rattle.version_rules.specs.grammar.Release.{SpellsRelease}
-use Rattle.version_rules.specs.grammar.Sep.{PlainSep, Colon, Hyphen, Plus, sep_byte}
+use Rattle.version_order.specs.texts.Sep.{PlainSep, Colon, Hyphen, Plus, sep_byte}
 use Rattle.version_rules.proofs.lemmas.Grammar.{of_body, of_each, of_list, of_mchunk, of_metadata, of_numeral, of_optional, of_release}
 use Rattle.version_rules.specs.grammar.Mess.{Further, PlainMess, SpellsFurther, SpellsMess}
 use Rattle.version_rules.specs.grammar.SemVer.{PlainSemVer, SpellsSemVer}

@@ -1,7 +1,8 @@
 use Rattle.std.proofs.Common.{◌≡◌, ◌≤◌, ℕ, List, [], ◌∷◌, IfSome, Option, Some, arith, length, length-append, refl, rules, subst, sym}
-use Rattle.version_rules.specs.declared.ends.End.TheVariants.{AfterKey}
-use Rattle.version_texts.specs.key.Sinks.{IsWritten}
-use Rattle.version_texts.specs.keyed.Keyed.{AreWithin, PlainKeyed}
+use Rattle.version_order.specs.Facts.{key_room}
+use Rattle.version_order.specs.declared.ends.End.TheVariants.{AfterKey}
+use Rattle.version_order.specs.keys.Sinks.{IsWritten}
+use Rattle.version_order.specs.Keyed.{AreWithin, PlainKeyed}
 use Rattle.version_schemes.proofs.key.write_key.Goals as goal
 
 -- a key has as many bytes as the key of a text of that length may have
@@ -13,22 +14,22 @@ key_small read_as most text version within read =
 
 pub write_whole-requires : goal.write_whole-requires
 write_whole-requires g c κs =
-    let V = g.V.Keyed in
+    let V = g.V.SchemeVersion in
     let version = V.plain c.in_ok-version.version in
-    let read : V.read_as c.args.text.now ≡ Some version = search rules in
-    let small = key_small V.read_as V.most c.args.text.now version c.key_room.ensures.enough read in
+    let read : V.rules.read_as c.args.text.now ≡ Some version = search rules in
+    let small = key_small V.rules.read_as (key_room V.rules.facts) c.args.text.now version c.most_key_bytes.ensures.within read in
     let fits : c.saturating_add.result ≤ length c.args.room.now = search rules in
-    ((refl, tt), omega (arith, small, c.key_room.ensures.room, c.saturating_add.ensures, fits))
+    ((refl, tt), omega (arith, small, c.most_key_bytes.ensures.room, c.saturating_add.ensures, fits))
 
 pub returns-then-saturating_add-room-clause-bytes : goal.returns-then-saturating_add-room-clause-bytes
 returns-then-saturating_add-room-clause-bytes g c =
-    let V = g.V.Keyed in
+    let V = g.V.SchemeVersion in
     let version = V.plain c.in_ok-version.version in
-    let read : V.read_as c.args.text.now ≡ Some version = search rules in
-    let small = key_small V.read_as V.most c.args.text.now version c.key_room.ensures.enough read in
+    let read : V.rules.read_as c.args.text.now ≡ Some version = search rules in
+    let small = key_small V.rules.read_as (key_room V.rules.facts) c.args.text.now version c.most_key_bytes.ensures.within read in
     let fits : c.saturating_add.result ≤ length c.args.room.now = search rules in
     subst (λ found. IfSome found (λ v. IsWritten c.args.room.now c.args.start v.key c.write_whole.new.room)) (sym read)
     (record {
       fitting = λ _. c.write_whole.ensures.bytes;
-      kept = λ short. absurd (omega (arith, short, small, c.key_room.ensures.room, c.saturating_add.ensures, fits));
+      kept = λ short. absurd (omega (arith, short, small, c.most_key_bytes.ensures.room, c.saturating_add.ensures, fits));
     })

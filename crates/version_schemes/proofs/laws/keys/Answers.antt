@@ -1,4 +1,4 @@
-use Rattle.version_schemes.proofs.lemmas.Some.{keys_some}
+use Rattle.version_schemes.proofs.lemmas.Table.{keys_some}
 use Rattle.version_schemes.proofs.laws.keys.Goals as goal
 
 pub returns : goal.returns

@@ -1,11 +1,12 @@
 use Rattle.std.proofs.Common.{◌≡◌, ◌+◌, ap, arith}
 use Rattle.version_sets.specs.Pieces.{pieces, plain_piece}
 use Rattle.version_sets.specs.Reading.{piece_room, pieces_room}
+use Rattle.version_order.specs.Facts.{key_room}
 use Rattle.version_sets.proofs.read.set_room.Goals as goal
 
 pub loop-piece-preserved : goal.loop-piece-preserved
 loop-piece-preserved g c =
-    let most = g.V.Keyed.most in
+    let most = (key_room g.V.SchemeVersion.rules.facts) in
     let so_far = c.loop-piece.invariant.sum in
     let here : pieces_room most (pieces c.loop-piece.pieces.place c.loop-piece.pieces.left.now)
     ≡ piece_room most (plain_piece c.in-Some.piece)

@@ -1,6 +1,6 @@
 use Rattle.std.proofs.Common.{◌≡◌, ◌∙◌, ◌+◌, ◌*◌, ◌∷◌, List, ap, arith, length, length-append, refl, sym, ℕ}
 use Rattle.std.specs.List.{concat, flat_map}
-use Rattle.version_texts.specs.key.Sinks.{length-put, put_at, put_nothing}
+use Rattle.version_order.specs.keys.Sinks.{length-put, put_at, put_nothing}
 use Rattle.version_sets.specs.Form.{number, places}
 use Rattle.version_sets.specs.Set.{left}
 use Rattle.version_sets.proofs.lemmas.Form.{number_length}

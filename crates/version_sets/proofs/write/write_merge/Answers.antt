@@ -2,7 +2,7 @@ use Rattle.std.proofs.Common.{◌≡◌, ◌∙◌, ◌*◌, ◌≤◌, ◌++◌
 use Rattle.std.proofs.lemmas.Bool.{true≢false}
 use Rattle.std.specs.List.{concat, flat_map}
 use Rattle.std.specs.Option.{IfSome, IsSome}
-use Rattle.version_texts.specs.key.Sinks.{put_at}
+use Rattle.version_order.specs.keys.Sinks.{put_at}
 use Rattle.version_sets.specs.Form.{form_bytes, number, places}
 use Rattle.version_sets.specs.Set.{left}
 use Rattle.version_sets.proofs.lemmas.Form.{form_length, row_size}

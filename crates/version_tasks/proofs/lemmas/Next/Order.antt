@@ -16,8 +16,8 @@ use Rattle.version_rules.specs.key.PartKey.{PartKey, chunk_parts, list_cmp, part
 use Rattle.version_rules.specs.key.Tail.{PreReleased, Bare, Released, tail_cmp}
 use Rattle.version_rules.specs.grammar.Version.{PlainVersion}
 use Rattle.version_rules.specs.grammar.Versioning.{PlainVersioning, Ideal, General, Complex, is_prerelease}
-use Rattle.version_rules.specs.laws.Order.{then_equal}
-use Rattle.version_rules.proofs.lemmas.NumberBytes.{above, below}
+use Rattle.version_order.specs.keys.OrderLaws.{then_equal}
+use Rattle.version_order.proofs.lemmas.NumberBytes.{above, below}
 use Rattle.version_rules.proofs.lemmas.PartKey.{plain_number}
 use Rattle.version_tasks.specs.Next.{IsAfter, IsBare, IsNext, IsOfForm, MayFollow, NoNext, all_of, last_number, numbers_of}
 use Rattle.version_rules.specs.grammar.Chunk as chunk

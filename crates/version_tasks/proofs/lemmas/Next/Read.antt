@@ -10,7 +10,7 @@ use Rattle.std.specs.List.{join_with_byte, list_all}
 use Rattle.std.specs.Option.{option_map}
 use Rattle.std.specs.Str.Parse.{digits_value}
 use Rattle.version_rules.specs.grammar.Body.{body_text}
-use Rattle.version_rules.specs.grammar.Bytes.{dot}
+use Rattle.version_order.specs.texts.Bytes.{dot}
 use Rattle.version_rules.specs.grammar.Chunk.{PlainChunk, SpellsPart, number_of}
 use Rattle.version_rules.specs.grammar.Conversions.{version_of_semver}
 use Rattle.version_rules.specs.grammar.Last.{IsLastOf, PlainLast}
@@ -23,12 +23,13 @@ use Rattle.version_rules.proofs.lemmas.Conversions.{strict_is_general}
 use Rattle.version_rules.proofs.lemmas.Numeral.{numeral_printed}
 use Rattle.version_texts.specs.versioning_ref.Field.{epoch_and_parts, numbers_alone}
 use Rattle.version_texts.specs.versioning_ref.Numbers.{numeral_value}
-use Rattle.version_texts.specs.order.Piece.{behind_piece, first_piece, further_pieces, is_dot}
-use Rattle.version_texts.specs.key.TextKey.{pieces}
+use Rattle.version_order.specs.texts.Pieces.{behind_piece, first_piece, further_pieces, is_dot}
+use Rattle.version_order.specs.texts.Pieces.{pieces}
 use Rattle.version_texts.specs.scan.TextKind.{is_numeral}
 use Rattle.version_texts.specs.versioning_ref.VersioningRef.{version_in}
 use Rattle.version_texts.proofs.lemmas.order.Piece.{pieces_are}
-use Rattle.version_texts.proofs.lemmas.order.Piece.Spelled.{NonePass, alphanumeric_no_dot, body_pieces, chunk_bytes, none_pass, pieces_give}
+use Rattle.version_texts.proofs.lemmas.order.Piece.Spelled.{NonePass, body_pieces, chunk_bytes, none_pass, pieces_give}
+use Rattle.version_order.proofs.lemmas.Bytes.{alphanumeric_no_dot}
 use Rattle.version_texts.proofs.lemmas.scan.TextKind.Chunks.{numeral_passes, numeral_spells}
 use Rattle.version_texts.proofs.lemmas.scan.TextKind.Numeral.{no_numeral}
 use Rattle.version_texts.proofs.lemmas.scan.TextKind.Runs.{digits_not}

@@ -9,10 +9,10 @@ use Rattle.std.specs.Fmt.{decimal}
 use Rattle.std.specs.List.{join_with_byte}
 use Rattle.std.specs.Str.{IsAscii, IsUtf8}
 use Rattle.version_rules.specs.grammar.Body.{PlainBody, SpellsBody}
-use Rattle.version_rules.specs.grammar.Bytes.{dot}
+use Rattle.version_order.specs.texts.Bytes.{dot}
 use Rattle.version_rules.specs.grammar.Chunk.{PlainChunk, SpellsPart}
 use Rattle.version_rules.specs.grammar.Conversions.{version_of_semver}
-use Rattle.version_rules.specs.grammar.Grammar.{SpellsDotted, SpellsOptional}
+use Rattle.version_order.specs.texts.Grammar.{SpellsDotted, SpellsOptional}
 use Rattle.version_rules.specs.grammar.Last.{IsLastOf}
 use Rattle.version_rules.specs.grammar.Numeral.{HasNoLeadingZero, SpellsNumeral}
 use Rattle.version_rules.specs.grammar.SemVer.{PlainSemVer, SpellsSemVer}
@@ -24,7 +24,7 @@ use Rattle.version_rules.proofs.lemmas.Numeral.{numeral_printed}
 use Rattle.version_rules.proofs.lemmas.Version.{version_unique}
 use Rattle.version_rules.proofs.lemmas.Versioning.{versioning_ascii, versioning_of-Some, versioning_of-spells, versioning_printed}
 use Rattle.version_texts.specs.versioning_ref.Field.{epoch_and_parts}
-use Rattle.version_texts.proofs.lemmas.scan.General.Splits.{dotted_more, dotted_one}
+use Rattle.version_texts.proofs.lemmas.scan.Splits.{dotted_more, dotted_one}
 use Rattle.version_tasks.specs.Next.{IsOfForm, MayFollow, numbers_of}
 use Rattle.version_tasks.specs.NextText.{next_text, zeros_text}
 use Rattle.version_tasks.proofs.lemmas.Next.Order.{body_is, body_numbers, body_of, fit, number_at, raised}

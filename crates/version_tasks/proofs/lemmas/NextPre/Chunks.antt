@@ -5,7 +5,7 @@ use Rattle.std.specs.Ordering.{nat_cmp, ordering_then}
 use Rattle.std.specs.declared.cmp.Ordering.{Ordering}
 use Rattle.std.specs.declared.cmp.Ordering.TheVariants.{Less, Equal, Greater}
 use Rattle.version_rules.specs.grammar.Chunk.{PlainChunk, Numeric}
-use Rattle.version_rules.specs.laws.Order.{then_equal}
+use Rattle.version_order.specs.keys.OrderLaws.{then_equal}
 use Rattle.version_rules.specs.laws.Release.{chunk_total, chunks_same}
 use Rattle.version_rules.specs.order.ReleaseOrder.{chunk_cmp, release_cmp}
 use Rattle.version_tasks.specs.NextPre.{AreNamed}

@@ -8,10 +8,10 @@ use Rattle.std.specs.Ordering.{nat_cmp, ordering_then}
 use Rattle.std.specs.Str.Parse.{digits_value}
 use Rattle.std.specs.declared.cmp.Ordering.TheVariants.{Less, Equal, Greater}
 use Rattle.version_rules.proofs.lemmas.Chunk.{release_printed}
-use Rattle.version_rules.proofs.lemmas.NumberBytes.{above, below}
-use Rattle.version_rules.specs.grammar.Bytes.{dot, is_identifier_byte}
+use Rattle.version_order.proofs.lemmas.NumberBytes.{above, below}
+use Rattle.version_order.specs.texts.Bytes.{dot, is_identifier_byte}
 use Rattle.version_rules.specs.grammar.Chunk.{PlainChunk, Numeric, Alphanum, chunk_text}
-use Rattle.version_rules.specs.grammar.Grammar.{SpellsDotted}
+use Rattle.version_order.specs.texts.Grammar.{SpellsDotted}
 use Rattle.version_rules.specs.grammar.Release.{SpellsRelease, release_text}
 use Rattle.version_rules.specs.order.ReleaseOrder.{chunk_cmp, release_cmp}
 use Rattle.version_tasks.proofs.lemmas.Next.Order.{three_ways}
@@ -19,11 +19,13 @@ use Rattle.version_tasks.proofs.lemmas.NextPre.Chunks.{before_same, begun, behin
 use Rattle.version_tasks.proofs.lemmas.NextPre.Text.{chunks_joined, dotted, release_spelled}
 use Rattle.version_tasks.specs.NextPreText.{IsLeastNumber, NonePass, Passes, is_release, is_word, word_chunks, word_text}
 use Rattle.version_texts.proofs.lemmas.order.Piece.{pieces_are}
-use Rattle.version_texts.proofs.lemmas.scan.General.Splits.{split-append, split_run}
+use Rattle.version_texts.proofs.lemmas.scan.Splits.{split-append, split_run}
 use Rattle.version_texts.proofs.lemmas.scan.TextKind.Chunks.{numeral_spells}
-use Rattle.version_texts.specs.key.TextKey.{chunk_of, chunks_of, pieces}
-use Rattle.version_texts.specs.order.Piece.{behind_piece, first_piece, further_pieces, is_dot}
-use Rattle.version_texts.specs.scan.TextKind.{is_chunk, is_numeral, is_run}
+use Rattle.version_texts.specs.key.TextKey.{chunk_of, chunks_of}
+use Rattle.version_order.specs.texts.Pieces.{pieces}
+use Rattle.version_order.specs.texts.Pieces.{behind_piece, first_piece, further_pieces, is_dot}
+use Rattle.version_texts.specs.scan.TextKind.{is_chunk, is_numeral}
+use Rattle.version_order.specs.texts.Front.{is_run}
 use Rattle.version_texts.specs.versioning_ref.Numbers.{numeral_value}
 
 -- ---- a chunk is a number exactly if it is a numeral

@@ -7,19 +7,20 @@ use Rattle.std.specs.Option.{option_map}
 use Rattle.std.specs.Str.{IsAscii, IsUtf8}
 use Rattle.version_rules.proofs.lemmas.Chunk.{release_printed}
 use Rattle.version_rules.proofs.lemmas.Versioning.{versioning_ascii, versioning_of-Some, versioning_of-spells}
-use Rattle.version_rules.specs.grammar.Bytes.{dot, hyphen, is_identifier_byte}
+use Rattle.version_order.specs.texts.Bytes.{dot, hyphen, is_identifier_byte}
 use Rattle.version_rules.specs.grammar.Chunk.{PlainChunk, Numeric, SpellsChunk}
-use Rattle.version_rules.specs.grammar.Grammar.{SpellsOptional}
+use Rattle.version_order.specs.texts.Grammar.{SpellsOptional}
 use Rattle.version_rules.specs.grammar.Release.{SpellsRelease, release_text}
 use Rattle.version_rules.specs.grammar.SemVer.{PlainSemVer, SpellsSemVer}
 use Rattle.version_rules.specs.grammar.Versioning.{PlainVersioning, Ideal, versioning_of}
 use Rattle.version_tasks.proofs.lemmas.Next.Text.{ascii_left, ascii_right, decimal_spells}
 use Rattle.version_tasks.specs.NextPreText.{is_own, is_release, is_word, numbers_text, own_chunks, pre_text, pre_version, word_chunks, word_text}
-use Rattle.version_texts.proofs.lemmas.order.Piece.Spelled.{digit_identifier, identifier_no_dot, release_chunks}
-use Rattle.version_texts.proofs.lemmas.scan.General.Splits.{both_pass, dotted_one, split-append}
+use Rattle.version_texts.proofs.lemmas.order.Piece.Spelled.{release_chunks}
+use Rattle.version_order.proofs.lemmas.Bytes.{digit_identifier, identifier_no_dot}
+use Rattle.version_texts.proofs.lemmas.scan.Splits.{both_pass, dotted_one, split-append}
 use Rattle.version_texts.proofs.lemmas.scan.TextKind.Chunks.{dotted_passes, dotted_spells}
 use Rattle.version_texts.specs.key.TextKey.{chunk_of, chunks_of}
-use Rattle.version_texts.specs.order.Piece.{is_dot}
+use Rattle.version_order.specs.texts.Pieces.{is_dot}
 use Rattle.version_texts.specs.scan.TextKind.{is_chunk}
 
 -- a text passes the test exactly if it spells its chunks

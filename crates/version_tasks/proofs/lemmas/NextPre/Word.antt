@@ -5,11 +5,11 @@ use Rattle.std.proofs.lemmas.List.{drop_at, take-append-drop, take_at}
 use Rattle.std.proofs.lemmas.Slice.Eq.{bytes_eq-Decides}
 use Rattle.std.specs.Borrow.{Bor}
 use Rattle.std.specs.Str.{bytes_eq}
-use Rattle.version_rules.specs.grammar.Bytes.{dot}
-use Rattle.version_rules.specs.grammar.Front.{begins}
+use Rattle.version_order.specs.texts.Bytes.{dot}
+use Rattle.version_order.specs.texts.Front.{begins}
 use Rattle.version_tasks.proofs.lemmas.NextPre.Text.{dotted}
 use Rattle.version_tasks.specs.NextPreText.{word_text}
-use Rattle.version_texts.specs.order.Piece.{is_dot}
+use Rattle.version_order.specs.texts.Pieces.{is_dot}
 
 -- the text of a word begins with it
 pub dot_fits : (word : List ℕ) → (mark : List ℕ) × (word ++ mark ≡ word_text word)

@@ -3,8 +3,8 @@ use Rattle.std.proofs.lemmas.Bool.{cases_Bool}
 use Rattle.std.proofs.lemmas.List.{drop-drop}
 use Rattle.std.proofs.Common.{◌≡◌, ◌<◌, ◌≤◌, ◌-◌, ◌+◌, ◌∙◌, ℕ, zero, suc, Bool, true, false, List, [], ◌∷◌, drop, length, take, if◌then◌else◌, Option, Some, None, refl, ap, arith, inl, inr}
 use Rattle.std.specs.Str.{bytes_eq}
-use Rattle.version_rules.specs.grammar.DigitRun.{starts_with_digit}
-use Rattle.version_rules.specs.grammar.Front.{◌>>=◌}
+use Rattle.version_order.specs.texts.DigitRun.{starts_with_digit}
+use Rattle.version_order.specs.texts.Front.{◌>>=◌}
 use Rattle.version_tasks.specs.Tag.{is_v, place_in_tag, text_after_prefix, text_at_beginning, text_in_tag, without_v}
 
 -- a text is a rest of a longer one, and not empty

@@ -1,6 +1,6 @@
 use Rattle.std.proofs.Common.{◌∙◌, List, ℕ, Option, sym, ap}
 use Rattle.std.specs.Option.{option_map}
-use Rattle.version_rules.specs.grammar.Front.{◌>>=◌}
+use Rattle.version_order.specs.texts.Front.{◌>>=◌}
 use Rattle.version_tasks.specs.Tag.{text_at_beginning}
 use Rattle.version_tasks.proofs.lemmas.Tag.{no_prefix, with_prefix}
 use Rattle.version_tasks.proofs.tag.text_after_prefix.Goals as goal

@@ -1,12 +1,12 @@
 use Rattle.std.proofs.Common.{◌++◌, List, ap, append-nil, sym, ℕ, refl}
 use Rattle.std.specs.Str.Parse.{digits_value}
-use Rattle.version_rules.proofs.lemmas.Front.Runs.{take_while-all}
-use Rattle.version_rules.specs.key.Codes.{items_bytes}
-use Rattle.version_rules.specs.key.NumberBytes.{number_bytes}
+use Rattle.version_order.proofs.lemmas.Front.Runs.{take_while-all}
+use Rattle.version_order.specs.keys.Codes.{items_bytes}
+use Rattle.version_order.specs.keys.NumberBytes.{number_bytes}
 use Rattle.version_rules.specs.key.PartKey.{part_bytes}
-use Rattle.version_texts.specs.scan.Shape.{is_section_byte}
+use Rattle.version_order.specs.texts.Bytes.{is_section_byte}
 use Rattle.version_texts.specs.key.TextKey.{parts_of}
-use Rattle.version_texts.proofs.lemmas.key.TextKey.Taking.{next_fits, owes_all, owes_rest, takes_same}
+use Rattle.version_order.proofs.lemmas.Taking.{next_fits, owes_all, owes_rest, takes_same}
 use Rattle.version_texts.proofs.key.put_begun.Goals as goal
 
 pub put_epoch-requires-clause-fits : goal.put_epoch-requires-clause-fits

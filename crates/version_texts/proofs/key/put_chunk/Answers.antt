@@ -1,16 +1,16 @@
 use Rattle.std.proofs.Common.{◌≡◌, ◌==◌, ◌∙◌, ℕ, List, ap, length, sym, ◌∷◌, [], Bool, drop}
 use Rattle.std.specs.Char.{is_ascii_digit}
-use Rattle.std.specs.List.{list_all}
-use Rattle.version_texts.proofs.lemmas.key.TextKey.DotPieces.{is_run, number_chunk, text_chunk}
-use Rattle.version_texts.proofs.lemmas.key.TextKey.Taking.{next_fits, owes_all, owes_rest}
-use Rattle.std.specs.List.{prefix_len}
+use Rattle.std.specs.List.{list_all, prefix_len}
+use Rattle.version_texts.proofs.lemmas.key.TextKey.DotPieces.{number_chunk, text_chunk}
+use Rattle.version_order.proofs.lemmas.Runs.{run_is}
+use Rattle.version_order.proofs.lemmas.Taking.{next_fits, owes_all, owes_rest}
 use Rattle.version_texts.proofs.key.put_chunk.Goals as goal
 
 -- a text is all digits if none of it is left after its digits
 all_digits : (text rest : List ℕ) (is_empty : Bool) → rest ≡ drop (prefix_len is_ascii_digit text) text
     → is_empty ≡ (length rest == 0) → list_all is_ascii_digit text ≡ is_empty
 all_digits text rest is_empty r e =
-    sym (is_run is_ascii_digit text) ∙ ap (λ (l : List ℕ). length l == 0) (sym r) ∙ sym e
+    sym (run_is is_ascii_digit text) ∙ ap (λ (l : List ℕ). length l == 0) (sym r) ∙ sym e
 
 pub put-requires : goal.put-requires
 put-requires g c =

@@ -1,9 +1,9 @@
 use Rattle.std.proofs.Common.{ℕ, List, ap, sym, subst}
 use Rattle.std.specs.Char.{is_ascii_digit}
 use Rattle.std.specs.Str.Parse.{digits_value}
-use Rattle.version_rules.specs.key.NumberBytes.{number_bytes}
-use Rattle.version_rules.proofs.lemmas.Front.Runs.{take_while-all}
-use Rattle.version_texts.proofs.lemmas.key.TextKey.Taking.{takes_same}
+use Rattle.version_order.specs.keys.NumberBytes.{number_bytes}
+use Rattle.version_order.proofs.lemmas.Front.Runs.{take_while-all}
+use Rattle.version_order.proofs.lemmas.Taking.{takes_same}
 use Rattle.version_texts.proofs.key.put_epoch.Goals as goal
 
 pub returns-else-is_empty : goal.returns-else-is_empty

@@ -1,7 +1,8 @@
 use Rattle.version_rules.specs.key.Tail.{tail_bytes}
 use Rattle.version_texts.specs.scan.Shape.{tail_in}
 use Rattle.version_texts.specs.key.TextKey.{tail_of, text_key}
-use Rattle.version_texts.proofs.lemmas.key.TextKey.Taking.{key_halves, next_fits, owes_all, owes_rest}
+use Rattle.version_order.proofs.lemmas.Taking.{next_fits, owes_all, owes_rest}
+use Rattle.version_texts.proofs.lemmas.key.TextKey.{key_halves}
 use Rattle.version_texts.proofs.key.put_key.Goals as goal
 
 pub put_front-requires-clause-fits : goal.put_front-requires-clause-fits

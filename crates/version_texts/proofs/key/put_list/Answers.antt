@@ -1,7 +1,7 @@
 use Rattle.std.proofs.Common.{[], ◌∷◌, sym}
 use Rattle.version_rules.specs.key.PartKey.{part_bytes}
-use Rattle.version_rules.proofs.lemmas.Codes.{ended}
-use Rattle.version_texts.proofs.lemmas.key.TextKey.Taking.{next_fits, owes_all, owes_rest}
+use Rattle.version_order.proofs.lemmas.Codes.{ended}
+use Rattle.version_order.proofs.lemmas.Taking.{next_fits, owes_all, owes_rest}
 use Rattle.version_texts.proofs.key.put_list.Goals as goal
 
 pub put_parts-requires : goal.put_parts-requires

@@ -1,11 +1,11 @@
 use Rattle.std.proofs.Common.{◌≡◌, length, true}
 use Rattle.std.specs.List.{list_all}
-use Rattle.version_rules.specs.key.Codes.{list_bytes}
+use Rattle.version_order.specs.keys.Codes.{list_bytes}
 use Rattle.version_rules.specs.key.Tail.{section_bytes}
 use Rattle.version_texts.specs.declared.scan.shape.TailKind.TheVariants.{Sections}
 use Rattle.version_texts.specs.scan.Shape.{is_tail_byte}
 use Rattle.version_texts.specs.key.TextKey.{sections_of}
-use Rattle.version_texts.proofs.lemmas.key.TextKey.Taking.{Owes}
+use Rattle.version_order.proofs.lemmas.Taking.{Owes}
 use Rattle.version_texts.proofs.key.put_sections.Given as goal
 
 -- the bytes of the sections that are left are to be written

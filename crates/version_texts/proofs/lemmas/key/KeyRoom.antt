@@ -1,6 +1,4 @@
 -- The length of a version's key: at most three bytes for each byte of its text, and five more.
-pub mod Ends
-pub mod Parts
 use Rattle.std.proofs.Common.{◌≡◌, ◌∙◌, ◌+◌, ◌*◌, ◌<◌, ◌≤◌, ℕ, Bool, true, false, List, [], ◌∷◌, ◌++◌, length, map, Option, Some, None, refl, sym, ap, arith, if◌then◌else◌}
 use Rattle.std.proofs.lemmas.Bool.Decides.{nat_tests}
 use Rattle.std.proofs.lemmas.List.{length-append, map-append}
@@ -8,37 +6,40 @@ use Rattle.std.proofs.lemmas.List.Elements.{All-append, All-cons, All-nil}
 use Rattle.std.specs.Char.{is_ascii_alphanumeric}
 use Rattle.std.specs.Cmp.{first_so, second_so}
 use Rattle.std.specs.List.{list_all}
-use Rattle.std.specs.Option.{option_map, option_map_or, unwrap_or}
+use Rattle.std.specs.Option.{option_map_or, unwrap_or}
 use Rattle.std.specs.Str.Parse.{digits_value}
 use Rattle.version_rules.proofs.lemmas.Chunk.{part_printed}
 use Rattle.version_rules.proofs.lemmas.Last.{last_printed}
 use Rattle.version_rules.proofs.lemmas.MChunk.{mchunk_printed}
-use Rattle.version_rules.proofs.lemmas.Front.Runs.{all_weaker}
+use Rattle.version_order.proofs.lemmas.Front.Runs.{all_weaker}
 use Rattle.version_rules.proofs.lemmas.Grammar.{of_mchunk, of_numeral}
 use Rattle.version_rules.specs.grammar.Body.{PlainBody, SpellsBody}
-use Rattle.version_rules.specs.grammar.Bytes.{dot, hyphen, is_identifier_byte, is_metadata_byte}
+use Rattle.version_order.specs.texts.Bytes.{dot, hyphen, is_identifier_byte, is_metadata_byte}
 use Rattle.version_rules.specs.grammar.Chunk.{Numeric, Alphanum, PlainChunk, SpellsChunk, SpellsChunkOf, SpellsPart, chunk_text}
-use Rattle.version_rules.specs.key.Codes.{items_bytes}
-use Rattle.version_rules.specs.grammar.DigitRun.{is_digits, starts_with_digit}
-use Rattle.version_rules.specs.grammar.Grammar.{SpellsDotted, SpellsEach, SpellsOptional}
+use Rattle.version_order.specs.keys.Codes.{items_bytes}
+use Rattle.version_order.specs.texts.DigitRun.{is_digits, starts_with_digit}
+use Rattle.version_order.specs.texts.Grammar.{SpellsDotted, SpellsEach, SpellsOptional}
 use Rattle.version_rules.specs.grammar.Last.{last_text}
 use Rattle.version_rules.specs.grammar.MChunk.{Digits, Rev, Plain, PlainMChunk, SpellsMChunk, mchunk_text}
-use Rattle.version_rules.specs.key.NumberBytes.{number_bytes}
+use Rattle.version_order.specs.keys.NumberBytes.{number_bytes}
 use Rattle.version_rules.specs.grammar.Numeral.{SpellsNumeral}
 use Rattle.version_rules.specs.key.PartKey.{PartKey, chunk_parts, part_bytes, part_key, parts_bytes, section_parts}
 use Rattle.version_rules.specs.grammar.Release.{SpellsRelease}
 use Rattle.version_rules.specs.order.ReleaseOrder.{chunk_bytes, release_bytes}
-use Rattle.version_rules.specs.grammar.Sep.{Colon, Hyphen, Plus, Underscore, Tilde}
+use Rattle.version_order.specs.texts.Sep.{Colon, Hyphen, Plus, Underscore, Tilde}
 use Rattle.version_rules.specs.key.Key.{key_behind_epoch, key_of, key_of_mess, key_of_sections, key_of_semver, key_of_version, plain, section_epoch, sections_tail}
 use Rattle.version_rules.specs.key.KeyBytes.{key_bytes}
 use Rattle.version_rules.specs.grammar.Mess.{Further, PlainMess, Section, SpellsFurther, SpellsMess, SpellsSection}
 use Rattle.version_rules.specs.grammar.SemVer.{PlainSemVer, SpellsSemVer}
-use Rattle.version_rules.specs.key.Tail.{Bare, PreReleased, Released, Tail, section_bytes, tail_bytes}
+use Rattle.version_rules.specs.key.Tail.{Bare, Released, Tail, section_bytes, tail_bytes}
 use Rattle.version_rules.specs.grammar.Version.{PlainVersion, SpellsEpoch, SpellsVersion}
 use Rattle.version_rules.proofs.lemmas.Versioning.{versioning_of-spells}
 use Rattle.version_rules.specs.grammar.Versioning.{PlainVersioning, Ideal, General, Complex, SpellsVersioning, versioning_of}
 use Rattle.version_texts.specs.key.KeyRoom.{room_for}
-use Rattle.version_texts.proofs.lemmas.key.KeyRoom.Parts.{IsHigh, list_length, number_length, part_length, text_length}
+use Rattle.version_texts.proofs.lemmas.key.KeyRoom.Parts.{part_length}
+use Rattle.version_order.proofs.lemmas.Lengths.{IsHigh, list_length, number_length, text_length}
+pub mod Ends
+pub mod Parts
 
 -- ---- versions have no bytes below 2
 

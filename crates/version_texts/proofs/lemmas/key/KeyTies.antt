@@ -13,7 +13,7 @@ use Rattle.version_rules.specs.grammar.Kind.{versioning_kind}
 use Rattle.version_rules.specs.order.Orders.{versioning_cmp}
 use Rattle.version_rules.specs.grammar.Versioning.{PlainVersioning, Ideal, General, Complex, versioning_of}
 use Rattle.version_rules.specs.declared.kind.Kind.{Kind}
-use Rattle.version_rules.specs.laws.Order.{then_equal}
+use Rattle.version_order.specs.keys.OrderLaws.{then_equal}
 use Rattle.version_rules.proofs.lemmas.KeyLaws.{keys_same}
 use Rattle.version_rules.proofs.lemmas.KeyTies.{ties_alike}
 use Rattle.version_rules.proofs.lemmas.Versioning.{versioning_of-spells}

@@ -1,23 +1,20 @@
 -- The key of a version is the one that is read off its text by its shape.
-pub mod DotPieces
-pub mod Lists
-pub mod Runs
-pub mod SectionPieces
-pub mod Sections
-pub mod Taking
-use Rattle.std.proofs.Common.{◌≡◌, ◌∙◌, ℕ, List, [], ◌∷◌, ◌++◌, Option, Some, None, refl, sym, ap, arith}
+use Rattle.std.proofs.Common.{◌≡◌, ◌++◌, ℕ, List, append_assoc, sym, ◌∙◌, [], ◌∷◌, Option, Some, None, refl, ap, arith}
+use Rattle.version_order.specs.keys.NumberBytes.{number_bytes}
+use Rattle.version_rules.specs.key.PartKey.{parts_bytes, chunk_parts, part_key}
+use Rattle.version_rules.specs.key.Key.{Key, key_of, key_of_mess, key_of_semver, key_of_version, strict_body}
+use Rattle.version_rules.specs.key.KeyBytes.{key_bytes}
+use Rattle.version_rules.specs.key.Tail.{tail_bytes, Tail}
+use Rattle.version_texts.specs.key.TextKey.{front_bytes, chunks_of, parts_of, tail_of, text_key}
 use Rattle.std.specs.Option.{option_map_or}
 use Rattle.version_rules.specs.grammar.Chunk.{PlainChunk}
 use Rattle.version_rules.specs.grammar.Last.{last_text}
-use Rattle.version_rules.specs.key.PartKey.{chunk_parts, part_key}
 use Rattle.version_rules.proofs.lemmas.PartKey.{plain_number}
 use Rattle.version_rules.specs.declared.kind.Kind.{Kind}
 use Rattle.version_rules.specs.grammar.Conversions.{version_of_semver}
-use Rattle.version_rules.specs.key.Key.{key_of, key_of_mess, key_of_semver, key_of_version, strict_body}
 use Rattle.version_rules.specs.grammar.Kind.{versioning_kind}
 use Rattle.version_rules.specs.grammar.Mess.{PlainMess, SpellsMess}
 use Rattle.version_rules.specs.grammar.SemVer.{PlainSemVer, SpellsSemVer}
-use Rattle.version_rules.specs.key.Tail.{Tail}
 use Rattle.version_rules.specs.grammar.Version.{PlainVersion, SpellsVersion}
 use Rattle.version_rules.specs.grammar.Versioning.{PlainVersioning, Ideal, General, Complex, SpellsVersioning, versioning_of}
 use Rattle.version_rules.proofs.lemmas.Versioning.{versioning_of-spells}
@@ -25,12 +22,16 @@ use Rattle.version_rules.proofs.lemmas.Conversions.{strict_is_general}
 use Rattle.version_texts.specs.declared.scan.shape.TailKind.{TailKind}
 use Rattle.version_texts.specs.declared.scan.shape.TailKind.TheVariants.{PreRelease, Release}
 use Rattle.version_texts.specs.scan.Shape.{Fits, body_in, shape_at, tail_in}
-use Rattle.version_texts.specs.key.TextKey.{chunks_of, parts_of, tail_of, text_key}
 use Rattle.version_texts.proofs.lemmas.scan.Shape.Complex.{mess_cut, mess_fits, mess_tail-is}
 use Rattle.version_texts.proofs.lemmas.order.Piece.Spelled.{body_parts, release_chunks, section_parts-is}
 use Rattle.version_texts.proofs.lemmas.scan.Shape.{IsDashed, body_taken, dashed_shape, general_fits, strict_fits, version_cut, version_dashed, version_epoch}
 use Rattle.version_rules.specs.declared.kind.Kind.TheVariants as kind
 use Rattle.version_rules.specs.key.Tail as tail
+pub mod DotPieces
+pub mod Lists
+pub mod Runs
+pub mod SectionPieces
+pub mod Sections
 
 -- ---- strict and general versions
 
@@ -118,3 +119,7 @@ versioning_key text v e = (spelled text v (versioning_of-spells text v e)).0
 pub versioning_fits : (text : List ℕ) (v : PlainVersioning) → versioning_of text ≡ Some v
     → Fits text (shape_at (versioning_kind v) text)
 versioning_fits text v e = (spelled text v (versioning_of-spells text v e)).1
+
+-- a key is what stands before its tail, and its tail
+pub key_halves : (k : Key) → key_bytes k ≡ front_bytes k ++ tail_bytes k.tail
+key_halves k = sym (append_assoc (number_bytes k.epoch) (parts_bytes k.body) (tail_bytes k.tail))

@@ -1,6 +1,5 @@
 -- Where two versions differ first, by their keys, and two lists of parts, by their first parts and
 -- what follows these.
-pub mod Laws
 use Rattle.std.proofs.Common.{sym, if◌then◌else◌, ◌≡◌, ◌∙◌, ◌+◌, ◌<◌, ℕ, suc, true, false, List, [], ◌∷◌, Option, Some, None, length, length-drop, refl, ap, arith}
 use Rattle.std.specs.List.{position_or_len}
 use Rattle.std.specs.Option.{option_map, unwrap_or}
@@ -15,10 +14,11 @@ use Rattle.version_texts.proofs.lemmas.order.Piece.{pieces_are}
 use Rattle.version_texts.proofs.lemmas.key.TextKey.Lists.{further_of_more, further_of_none}
 use Rattle.version_texts.specs.order.Difference.{difference_of, first_differing, key_difference}
 use Rattle.version_texts.specs.order.Parts.{first_part}
-use Rattle.version_texts.specs.order.Piece.{behind_piece, is_dot}
+use Rattle.version_order.specs.texts.Pieces.{behind_piece, is_dot}
 use Rattle.version_texts.specs.key.TextKey.{parts_of}
 use Rattle.version_texts.specs.declared.order.difference.Difference.{Difference}
 use Rattle.version_texts.specs.declared.order.difference.Difference.TheVariants.{Same, Tie}
+pub mod Laws
 
 -- the number of a part, counted from another on
 abbrev pub counted_from : ℕ → Option ℕ → Option ℕ

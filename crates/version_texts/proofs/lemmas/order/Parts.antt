@@ -1,12 +1,10 @@
 -- The parts of a text, by its first piece and what follows it.
-pub mod Strict
-use Rattle.std.proofs.Common.{◌≡◌, ◌↔◌, ◌∙◌, ℕ, false, List, [], ◌∷◌, map, Option, Some, None, IfSome, IfNone, IsTrue, ap, sym}
-use Rattle.std.specs.Borrow.{Bor}
+use Rattle.std.proofs.Common.{◌≡◌, ◌↔◌, ℕ, false, List, ◌∷◌, map, IsTrue, ap}
 use Rattle.version_rules.specs.key.PartKey.{part_key}
 use Rattle.version_texts.proofs.lemmas.order.Piece.{pieces_are}
-use Rattle.version_texts.specs.order.Parts.{parts_behind}
-use Rattle.version_texts.specs.order.Piece.{behind_piece, first_piece, further_pieces, is_dot}
+use Rattle.version_order.specs.texts.Pieces.{behind_piece, first_piece, further_pieces, is_dot}
 use Rattle.version_texts.specs.key.TextKey.{parts_of}
+pub mod Strict
 
 -- the parts of a text are that of its first piece, and further ones
 pub parts_begin : (text : List ℕ) → parts_of text

@@ -1,27 +1,25 @@
 -- The first piece of a text: its digits, and how the other pieces follow.
+use Rattle.std.proofs.Common.{◌≡◌, ◌==◌, ◌∙◌, ℕ, Bool, true, false, List, [], ◌∷◌, length, Some, refl, sym, ap, inl, inr, one-add, arith}
+use Rattle.std.proofs.Math.Dec.{eqb-suc-zero}
+use Rattle.std.proofs.lemmas.Bool.{cases_Bool}
+use Rattle.std.specs.Char.{is_ascii_digit}
+use Rattle.std.specs.List.{before_first, list_all, slice_split, take_while}
+use Rattle.std.specs.Str.Parse.{digits_value}
+use Rattle.version_order.proofs.lemmas.Front.Runs.{take_while-all}
+use Rattle.version_rules.specs.grammar.Chunk.{Alphanum, Numeric}
+use Rattle.version_order.specs.texts.DigitRun.{number_front, run_value, starts_with_digit, behind_digits}
+use Rattle.version_rules.specs.key.Split.{split_of}
+use Rattle.version_rules.specs.key.PartKey.{Word, Number, part_key, suffix_of}
+use Rattle.version_order.proofs.lemmas.Runs.{run_is, run_cons}
+use Rattle.version_order.proofs.lemmas.Bytes.{digit_no_dot}
+use Rattle.version_order.specs.texts.Pieces.{behind_piece, first_piece, from_first, further_pieces, is_dot}
+use Rattle.version_texts.specs.key.TextKey.{chunk_of}
 pub mod Chunks
 pub mod Delimiters
 pub mod Kept
 pub mod Order
 pub mod Spelled
 pub mod Words
-use Rattle.std.proofs.Common.{◌≡◌, ◌==◌, ◌∙◌, ℕ, Bool, true, false, List, [], ◌∷◌, length, not, Some, refl, sym, ap, inl, inr, one-add, arith}
-use Rattle.std.proofs.Math.Dec.{eqb-suc-zero}
-use Rattle.std.proofs.lemmas.Bool.{cases_Bool, eqb-true}
-use Rattle.std.specs.Char.{is_ascii_digit}
-use Rattle.std.specs.List.{before_first, list_all, slice_split, take_while}
-use Rattle.std.specs.Str.Parse.{digits_value}
-use Rattle.version_rules.proofs.lemmas.Front.Runs.{take_while-all}
-use Rattle.version_rules.specs.grammar.Bytes.{dot}
-use Rattle.version_rules.specs.grammar.Chunk.{Alphanum, Numeric}
-use Rattle.version_rules.specs.grammar.DigitRun.{number_front, run_value, starts_with_digit}
-use Rattle.version_rules.specs.key.Split.{split_of}
-use Rattle.version_rules.specs.key.PartKey.{Word, Number, part_key, suffix_of}
-use Rattle.version_texts.proofs.lemmas.key.TextKey.DotPieces.{is_run}
-use Rattle.version_texts.proofs.lemmas.order.Piece.Spelled.{digit_no_dot}
-use Rattle.version_texts.proofs.lemmas.scan.General.Runs.{run_cons}
-use Rattle.version_texts.specs.order.Piece.{behind_digits, behind_piece, first_piece, from_first, further_pieces, is_dot}
-use Rattle.version_texts.specs.key.TextKey.{chunk_of}
 
 -- a first byte that divides pieces stands behind an empty piece; another belongs to the first piece
 pub piece_ends : (test : ℕ → Bool) (b : ℕ) (text : List ℕ) → test b ≡ true
@@ -119,7 +117,7 @@ module _ (text rest : List ℕ) (left : rest ≡ behind_digits text) where
   pub digits_alone : (all : Bool) → all ≡ (length (first_piece rest) == 0)
       → list_all is_ascii_digit (first_piece text) ≡ all
   digits_alone all e =
-      sym (is_run is_ascii_digit (first_piece text))
+      sym (run_is is_ascii_digit (first_piece text))
       ∙ ap (λ (l : List ℕ). length l == 0)
       ((digits_same is_dot digit_no_dot text).1 ∙ ap first_piece (sym left))
       ∙ sym e

@@ -1,11 +1,4 @@
 -- Two versions of one key compare field by field as their texts do by their shapes.
-pub mod Fields
-pub mod Lasts
-pub mod Messy
-pub mod Places
-pub mod Totals
-pub mod Variants
-pub mod Walks
 use Rattle.std.proofs.Common.{◌≡◌, ◌∙◌, ℕ, List, Some, sym}
 use Rattle.std.specs.declared.cmp.Ordering.TheVariants.{Equal}
 use Rattle.version_rules.specs.key.Key.{key_of, precedence}
@@ -20,6 +13,13 @@ use Rattle.version_texts.proofs.lemmas.order.Ties.Fields.{general_decides}
 use Rattle.version_texts.proofs.lemmas.order.Ties.Messy.{messy_decides}
 use Rattle.version_texts.proofs.lemmas.versioning_ref.VersioningRef.{kind-is, spells-is}
 use Rattle.version_rules.specs.declared.kind.Kind.TheVariants as kind
+pub mod Fields
+pub mod Lasts
+pub mod Messy
+pub mod Places
+pub mod Totals
+pub mod Variants
+pub mod Walks
 
 general_order : (text other : List ℕ) (a b : PlainVersioning) → SpellsVersioning text a
     → SpellsVersioning other b → kind.General ≡ versioning_kind a → kind.General ≡ versioning_kind b

@@ -8,27 +8,27 @@ use Rattle.std.specs.Option.{option_map_or}
 use Rattle.std.specs.Ordering.{MatchOrdering, ordering_index, ordering_then}
 use Rattle.std.specs.declared.cmp.Ordering.{Ordering}
 use Rattle.std.specs.declared.cmp.Ordering.TheVariants.{Less, Equal, Greater}
-use Rattle.version_rules.proofs.lemmas.Codes.{ended}
+use Rattle.version_order.proofs.lemmas.Codes.{ended}
 use Rattle.version_rules.proofs.lemmas.KeyLaws.{key_writes}
-use Rattle.version_rules.proofs.lemmas.NumberBytes.{above, below, number_writes}
+use Rattle.version_order.proofs.lemmas.NumberBytes.{above, below, number_writes}
 use Rattle.version_rules.proofs.lemmas.PartKey.{part_writes}
-use Rattle.version_rules.specs.key.Codes.{items_bytes}
+use Rattle.version_order.specs.keys.Codes.{items_bytes}
 use Rattle.version_rules.specs.requirement.Ends.{end_bytes, kept_parts}
 use Rattle.version_rules.specs.key.Key.{Key, precedence}
 use Rattle.version_rules.specs.key.KeyBytes.{key_bytes}
-use Rattle.version_rules.specs.order.Lists.{bytes_cmp}
-use Rattle.version_rules.specs.key.NumberBytes.{number_bytes}
+use Rattle.version_order.specs.keys.Lists.{bytes_cmp}
+use Rattle.version_order.specs.keys.NumberBytes.{number_bytes}
 use Rattle.version_rules.specs.key.PartKey.{PartKey, part_bytes, part_cmp, part_key, parts_bytes}
 use Rattle.version_rules.specs.key.Tail.{tail_bytes}
-use Rattle.version_rules.specs.declared.ends.End.{End}
+use Rattle.version_order.specs.declared.ends.End.{End}
 use Rattle.version_texts.proofs.lemmas.order.Piece.{pieces_are}
 use Rattle.version_texts.proofs.lemmas.order.Piece.Order.{decided}
 use Rattle.version_texts.proofs.lemmas.key.TextKey.Lists.{further_of_more, further_of_none}
 use Rattle.version_texts.specs.requirement.EndOrder.{Begins, IsOfPart, after_key, behind_parts, fixed_bytes, is_key, kept_of, mark_of}
 use Rattle.version_texts.specs.order.Parts.{parts_behind}
-use Rattle.version_texts.specs.order.Piece.{first_piece, behind_piece, further_pieces, is_dot}
+use Rattle.version_order.specs.texts.Pieces.{first_piece, behind_piece, further_pieces, is_dot}
 use Rattle.version_texts.specs.key.TextKey.{parts_of}
-use Rattle.version_rules.specs.declared.ends.End.TheVariants as end
+use Rattle.version_order.specs.declared.ends.End.TheVariants as end
 
 -- the bytes of some parts, and those after them
 abbrev pub front : List PartKey → List ℕ → List ℕ

@@ -9,7 +9,7 @@ use Rattle.std.specs.List.{All, join_with_byte}
 use Rattle.version_rules.specs.requirement.Requirement.{PlainRequirement, requirement_of}
 use Rattle.version_rules.specs.requirement.Requirements.{comma, requirements_of}
 use Rattle.version_rules.specs.requirement.RequirementsRef.{before_others}
-use Rattle.version_texts.proofs.lemmas.scan.General.Splits.{split-append}
+use Rattle.version_texts.proofs.lemmas.scan.Splits.{split-append}
 use Rattle.version_texts.proofs.lemmas.requirement.RangeRef.{both, read_both}
 use Rattle.version_texts.specs.requirement.MemberPlace.{IsFirstFailing, NotEach, length_with_commas}
 use Rattle.version_texts.specs.requirement.Members.{cut_at_commas, list_of}

@@ -1,3 +1,4 @@
 -- Borrowed lists of requirements.
+
 pub mod MajorText
 pub mod Members

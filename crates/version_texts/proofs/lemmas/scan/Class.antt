@@ -2,11 +2,10 @@
 use Rattle.std.proofs.Common.{◌≡◌, ◌≢◌, ◌==◌, ◌∙◌, ℕ, true, false, List, [], ◌∷◌, drop, get_or, refl, sym, arith}
 use Rattle.std.proofs.lemmas.Bool.{eq-eqb, eqb-true, ne_eqb}
 use Rattle.std.proofs.lemmas.Bool.Decides.{nat_tests}
-use Rattle.version_rules.specs.grammar.Bytes.{colon, dot, hyphen, plus}
-use Rattle.version_rules.specs.grammar.Front.{begins}
-use Rattle.version_rules.specs.grammar.Class.{byte_rank, first_rank}
-use Rattle.version_texts.proofs.lemmas.scan.TextKind.Messy.{at_byte}
-use Rattle.version_texts.proofs.lemmas.scan.Shape.Section.{begins_within}
+use Rattle.version_order.specs.texts.Bytes.{colon, dot, hyphen, plus}
+use Rattle.version_order.specs.texts.Front.{begins}
+use Rattle.version_order.specs.texts.Class.{byte_rank, first_rank}
+use Rattle.version_order.proofs.lemmas.Runs.{at_byte, begins_within}
 
 dot_rank : (b : ℕ) → (byte_rank b == 3) ≡ (b == dot)
 dot_rank b = grind (arith, nat_tests)

@@ -1,9 +1,4 @@
 -- The pieces of a text by its shape, and that the shape of a version fits its text.
-pub mod Complex
-pub mod Messy
-pub mod Positions
-pub mod Scanned
-pub mod Section
 use Rattle.std.proofs.Common.{◌≡◌, ◌==◌, ◌&&◌, ◌+◌, ◌-◌, ◌<◌, ◌≤◌, ◌∙◌, if◌then◌else◌, ℕ, Bool, true, false, List, [], ◌∷◌, ◌++◌, drop, length, take, Option, Some, None, refl, sym, ap, subst, arith, append-nil, append_assoc, length-append}
 use Rattle.std.proofs.lemmas.Bool.Decides.{nat_tests}
 use Rattle.std.proofs.lemmas.List.{drop-drop, take_at}
@@ -13,15 +8,15 @@ use Rattle.std.specs.List.{list_all, prefix_len}
 use Rattle.std.specs.Option.{unwrap_or}
 use Rattle.std.specs.Prelude.{slice_range}
 use Rattle.std.specs.Str.Parse.{digits_value}
-use Rattle.version_rules.specs.grammar.Bytes.{colon, hyphen, is_metadata_byte, plus}
+use Rattle.version_order.specs.texts.Bytes.{colon, hyphen, is_metadata_byte, plus, is_section_byte}
 use Rattle.version_rules.specs.grammar.Chunk.{PlainChunk}
-use Rattle.version_rules.specs.grammar.DigitRun.{is_digits}
-use Rattle.version_rules.specs.grammar.Front.{begins}
-use Rattle.version_rules.specs.grammar.Grammar.{SpellsOptional}
+use Rattle.version_order.specs.texts.DigitRun.{is_digits}
+use Rattle.version_order.specs.texts.Front.{begins}
+use Rattle.version_order.specs.texts.Grammar.{SpellsOptional}
 use Rattle.version_rules.specs.grammar.Metadata.{SpellsMetadata}
-use Rattle.version_rules.specs.grammar.Reading.{EndsRun}
+use Rattle.version_order.specs.texts.Reading.{EndsRun}
 use Rattle.version_rules.specs.grammar.Release.{SpellsRelease}
-use Rattle.version_rules.proofs.lemmas.Front.Runs.{prefix_len-append, all_weaker}
+use Rattle.version_order.proofs.lemmas.Front.Runs.{prefix_len-append, all_weaker}
 use Rattle.version_rules.specs.declared.kind.Kind.{Kind}
 use Rattle.version_rules.specs.grammar.Conversions.{version_of_semver}
 use Rattle.version_rules.specs.grammar.SemVer.{PlainSemVer, SpellsSemVer}
@@ -31,12 +26,17 @@ use Rattle.version_rules.proofs.lemmas.Conversions.{strict_is_general}
 use Rattle.version_texts.specs.declared.scan.shape.Shape.{Shape}
 use Rattle.version_texts.specs.declared.scan.shape.TailKind.{TailKind}
 use Rattle.version_texts.specs.declared.scan.shape.TailKind.TheVariants.{Nothing, PreRelease, Release}
-use Rattle.version_texts.specs.scan.Shape.{Fits, TailFits, behind_body, body_end, body_start, is_section_byte, is_tail_byte, shape_at, tail_in}
+use Rattle.version_texts.specs.scan.Shape.{Fits, TailFits, behind_body, body_end, body_start, is_tail_byte, shape_at, tail_in}
 use Rattle.version_texts.specs.scan.TextKind.{is_not_plus}
 use Rattle.version_texts.proofs.lemmas.scan.TextKind.Chunks.{digits_from}
 use Rattle.version_texts.proofs.lemmas.order.Piece.Spelled.{body_bytes, release_bytes}
 use Rattle.version_texts.proofs.lemmas.scan.Shape.Positions.{IsCut, and_false, behind_body-is, body_end-is, cut_behind_epoch, cut_without_epoch, from_body-is, is_colon}
 use Rattle.version_rules.specs.declared.kind.Kind.TheVariants as kind
+pub mod Complex
+pub mod Messy
+pub mod Positions
+pub mod Scanned
+pub mod Section
 
 -- whether a byte is a hyphen
 abbrev pub is_hyphen : ℕ → Bool

@@ -1,13 +1,4 @@
 -- The kind of a text by its pieces is the kind of the version that it parses as.
-pub mod Chunks
-pub mod GeneralText
-pub mod Messy
-pub mod MessyText
-pub mod Numeral
-pub mod Release
-pub mod Runs
-pub mod StrictText
-pub mod Tail
 use Rattle.std.proofs.Common.{if◌then◌else◌, ◌≡◌, ◌&&◌, ℕ, Bool, true, false, List, Option, Some, None, refl}
 use Rattle.std.specs.Option.{is_some, option_map, option_or}
 use Rattle.version_rules.specs.grammar.Kind.{versioning_kind}
@@ -21,6 +12,15 @@ use Rattle.version_texts.proofs.lemmas.scan.TextKind.GeneralText.{general_kind}
 use Rattle.version_texts.proofs.lemmas.scan.TextKind.MessyText.{mess_kind}
 use Rattle.version_texts.proofs.lemmas.scan.TextKind.StrictText.{strict_kind}
 use Rattle.version_rules.specs.declared.kind.Kind.TheVariants as kind
+pub mod Chunks
+pub mod GeneralText
+pub mod Messy
+pub mod MessyText
+pub mod Numeral
+pub mod Release
+pub mod Runs
+pub mod StrictText
+pub mod Tail
 
 mapped : (text : List ℕ) (o : Option PlainVersioning)
     → option_map (λ k. shape_at k text) (option_map versioning_kind o)

@@ -1,7 +1,4 @@
 -- The number at a place of a version is read off its text by its shape.
-pub mod Body
-pub mod Places
-pub mod Section
 use Rattle.std.proofs.Common.{◌≡◌, ◌==◌, ◌∙◌, ℕ, zero, suc, false, List, drop, Some, arith, refl, sym, ap}
 use Rattle.std.proofs.lemmas.Bool.{ne_eqb}
 use Rattle.version_rules.specs.declared.kind.Kind.{Kind}
@@ -14,13 +11,16 @@ use Rattle.version_rules.proofs.lemmas.Conversions.{strict_is_general}
 use Rattle.version_texts.specs.declared.scan.shape.Shape.{Shape}
 use Rattle.version_texts.specs.versioning_ref.Numbers.{body_number, chunk_number, section_in}
 use Rattle.version_texts.specs.scan.Shape.{body_in, shape_at, shape_of}
-use Rattle.version_texts.specs.key.TextKey.{pieces}
+use Rattle.version_order.specs.texts.Pieces.{pieces}
 use Rattle.version_texts.specs.versioning_ref.VersioningRef.{version_in}
 use Rattle.version_texts.proofs.lemmas.versioning_ref.Numbers.Body.{number_of_body}
 use Rattle.version_texts.proofs.lemmas.versioning_ref.Numbers.Section.{number_of_mess}
 use Rattle.version_texts.proofs.lemmas.scan.Shape.{body_taken, version_cut}
 use Rattle.version_texts.proofs.lemmas.versioning_ref.VersioningRef.{kind-is, spelled, spells-is}
 use Rattle.version_rules.specs.declared.kind.Kind.TheVariants as kind
+pub mod Body
+pub mod Places
+pub mod Section
 
 -- of a general version, and of one that may be strict
 general_number : (text : List ℕ) (v : PlainVersion) → SpellsVersion text v → (k : Kind) (n : ℕ)

@@ -1,6 +1,4 @@
 -- What the text and the shape of a borrowed version say of the version that it is.
-pub mod PlainOrder
-pub mod SameText
 use Rattle.std.proofs.Common.{if◌then◌else◌, ◌≡◌, ◌==◌, ◌≤◌, ◌∙◌, ℕ, Bool, true, false, List, length, Option, Some, None, refl, sym, ap, inl, inr, arith}
 use Rattle.std.proofs.lemmas.Str.{IsUtf8-from_ascii}
 use Rattle.std.specs.Cmp.{tied_itself}
@@ -8,8 +6,8 @@ use Rattle.std.specs.Option.{is_some, option_map}
 use Rattle.std.specs.Str.{IsUtf8}
 use Rattle.std.specs.declared.cmp.Ordering.TheVariants.{Equal}
 use Rattle.version_rules.specs.grammar.Chunk.{PlainChunk}
-use Rattle.version_rules.specs.grammar.Front.{begins}
-use Rattle.version_rules.proofs.lemmas.Front.Repeated.{cases_Option}
+use Rattle.version_order.specs.texts.Front.{begins}
+use Rattle.version_order.proofs.lemmas.Front.Repeated.{cases_Option}
 use Rattle.version_rules.specs.grammar.Conversions.{version_of_semver}
 use Rattle.version_rules.specs.key.Key.{key_of}
 use Rattle.version_rules.specs.grammar.Kind.{versioning_kind}
@@ -26,6 +24,8 @@ use Rattle.version_texts.specs.versioning_ref.VersioningRef.{version_in}
 use Rattle.version_texts.proofs.lemmas.key.TextKey.{versioning_fits, versioning_key}
 use Rattle.version_texts.proofs.lemmas.scan.Shape.{IsDashed, is_hyphen, version_dashed}
 use Rattle.version_rules.specs.declared.kind.Kind.TheVariants as kind
+pub mod PlainOrder
+pub mod SameText
 
 -- a text of a shape spells a version, and its shape is the one at the kind of that version
 pub spelled : (text : List ℕ) (s : Shape) → shape_of text ≡ Some s

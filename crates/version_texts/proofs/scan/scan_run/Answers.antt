@@ -1,8 +1,8 @@
-mod ScanRun
 use Rattle.std.proofs.Common.{◌∙◌, ◌<◌, drop, sym, arith, rules}
-use Rattle.version_rules.specs.grammar.Class.{contains}
+use Rattle.version_order.specs.texts.Class.{contains}
 use Rattle.version_texts.proofs.scan.scan_run.Answers.ScanRun.{between_digits, empty_run, end_of_run, goes_on, number_chunk, run_is_digits, stops, word_chunk, word_digits}
 use Rattle.version_texts.proofs.scan.scan_run.Goals as goal
+mod ScanRun
 
 pub returns-then-has_rank : goal.returns-then-has_rank
 returns-then-has_rank c =

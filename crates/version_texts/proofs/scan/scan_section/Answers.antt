@@ -1,10 +1,12 @@
 use Rattle.std.proofs.Common.{◌==◌, ◌+◌, ◌∙◌, List, ℕ, drop, length, sym, ap, arith}
 use Rattle.std.specs.Char.{is_ascii_alphanumeric}
-use Rattle.version_rules.specs.grammar.Bytes.{dot}
-use Rattle.version_rules.specs.grammar.DigitRun.{is_digits}
-use Rattle.version_texts.specs.scan.TextKind.{is_chunk, is_run, section_pieces}
+use Rattle.version_order.specs.texts.Bytes.{dot}
+use Rattle.version_order.specs.texts.DigitRun.{is_digits}
+use Rattle.version_texts.specs.scan.TextKind.{is_chunk, section_pieces}
+use Rattle.version_order.specs.texts.Front.{is_run}
 use Rattle.version_texts.proofs.lemmas.scan.Class.{is_dot, no_dot}
-use Rattle.version_texts.proofs.lemmas.scan.Shape.Section.{all_last, all_next, begins_within, empty_piece, end_last, end_next, pieces_last, pieces_next, runs_last, runs_next}
+use Rattle.version_texts.proofs.lemmas.scan.Shape.Section.{all_last, all_next, empty_piece, end_last, end_next, pieces_last, pieces_next, runs_last, runs_next}
+use Rattle.version_order.proofs.lemmas.Runs.{begins_within}
 use Rattle.version_texts.proofs.lemmas.scan.TextKind.Runs.{run_some}
 use Rattle.version_texts.proofs.scan.scan_section.Goals as goal
 

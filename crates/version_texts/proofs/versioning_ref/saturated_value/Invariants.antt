@@ -1,6 +1,6 @@
 use Rattle.std.proofs.Common.{◌≡◌, take}
 use Rattle.std.specs.Str.Parse.{digits_value}
-use Rattle.version_texts.specs.key.Sinks.{saturated}
+use Rattle.version_order.specs.keys.Sinks.{saturated}
 use Rattle.version_texts.proofs.versioning_ref.saturated_value.Given as goal
 
 -- the value of the digits so far

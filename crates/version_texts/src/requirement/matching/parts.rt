@@ -8,8 +8,8 @@ ghost use Rattle.version_texts.specs.order.Parts.{first_part, more_parts};
 use crate::order::delimiters::Delimiters;
 use crate::order::list::compare_parts;
 use crate::order::part::compare_parts_to;
-use crate::order::piece::{behind_first, split_piece};
 use std::cmp::Ordering;
+use version_order::{behind_first, split_piece};
 use version_rules::{Parts, parts_match_caret};
 
 // The parts of a text, with dots between them.

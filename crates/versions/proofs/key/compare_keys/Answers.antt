@@ -1,5 +1,5 @@
 use Rattle.std.proofs.Common.{◌≡◌, ◌∙◌, ◌++◌, Less, Equal, Greater, nat_cmp, refl, sym}
-use Rattle.version_rules.specs.order.Lists.{bytes_cmp}
+use Rattle.version_order.specs.keys.Lists.{bytes_cmp}
 use Rattle.version_parts.proofs.lemmas.Compare.{first_differ, first_same, past_same}
 use Rattle.versions.specs.KeyStream.{list_left, tail_left}
 use Rattle.versions.proofs.key.compare_keys.Goals as goal

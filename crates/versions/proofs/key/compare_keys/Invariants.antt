@@ -1,5 +1,5 @@
 use Rattle.std.proofs.Common.{◌≡◌}
-use Rattle.version_rules.specs.order.Lists.{bytes_cmp}
+use Rattle.version_order.specs.keys.Lists.{bytes_cmp}
 use Rattle.versions.proofs.key.compare_keys.Given as goal
 
 -- what remains compares as the whole does

@@ -3,7 +3,7 @@ use Rattle.std.proofs.Common.{◌≡◌, ◌∙◌, List, ℕ, [], ◌∷◌, �
 use Rattle.std.specs.Fmt.{decimal}
 use Rattle.std.specs.List.{flat_map}
 use Rattle.version_rules.specs.grammar.Body.{body_text}
-use Rattle.version_rules.specs.grammar.Bytes.{colon, dot, hyphen, plus}
+use Rattle.version_order.specs.texts.Bytes.{colon, dot, hyphen, plus}
 use Rattle.version_rules.specs.grammar.Chunk.{PlainChunk, chunk_text}
 use Rattle.version_rules.specs.grammar.Last.{PlainLast, last_text}
 use Rattle.version_rules.specs.grammar.MChunk.{mchunk_text}

@@ -6,9 +6,9 @@ use Rattle.std.specs.Option.{option_map}
 use Rattle.std.specs.Result.{IsErr}
 use Rattle.std.specs.declared.alloc.AllocError.{AllocError}
 use Rattle.version_parts.specs.Front.{Reads}
-use Rattle.version_rules.specs.grammar.Front.{repeated}
+use Rattle.version_order.specs.texts.Front.{repeated}
 use Rattle.version_parts.proofs.lemmas.Front.DottedScan.{nothing_before, read_before}
-use Rattle.version_rules.proofs.lemmas.Front.Repeated.{cases_Option, repeated-None, repeated-next}
+use Rattle.version_order.proofs.lemmas.Front.Repeated.{cases_Option, repeated-None, repeated-next}
 use Rattle.version_rules.specs.grammar.Mess.{Further, PlainMess, Section, further_front, mess_front, mess_of, section_front}
 use Rattle.versions.specs.Mess.{plain_mess}
 use Rattle.versions.specs.declared.mess.Mess.{Mess}

@@ -1,7 +1,7 @@
 use Rattle.std.proofs.Common.{◌≡◌, ◌++◌, map, length}
 use denote.Text.{Utf8}
 use denote.Shadow.{shadow}
-use Rattle.version_rules.specs.grammar.Front.{repeated}
+use Rattle.version_order.specs.texts.Front.{repeated}
 use Rattle.version_rules.specs.grammar.Mess.{further_front}
 use Rattle.versions.specs.Mess.{plain_further}
 use Rattle.versions.proofs.mess.read_all_further.Given as goal

@@ -1,6 +1,6 @@
 use Rattle.std.proofs.Common.{◌+◌, arith, refl, subst, sym}
 use Rattle.std.proofs.lemmas.List.{length-set}
-use Rattle.version_texts.specs.key.Sinks.{put_nothing}
+use Rattle.version_order.specs.keys.Sinks.{put_nothing}
 use Rattle.versions_c.proofs.lemmas.Keys.Putting.{ArePut, first_told, next_told}
 use Rattle.versions_c.proofs.lemmas.Schemes.{read_put}
 use Rattle.versions_c.specs.Keys.{keys_before}
@@ -13,13 +13,13 @@ loop-place-init g c = record {
     ended = refl;
     written = λ fits. sym (put_nothing c.args.keys.now 0);
   };
-  told = first_told (key_by g.V.Keyed.read_as) c.args.texts.now c.args.offsets.now c.args.key_offsets.now
+  told = first_told (key_by g.V.SchemeVersion.rules.read_as) c.args.texts.now c.args.offsets.now c.args.key_offsets.now
       (omega (arith, c.requires.room));
 }
 
 pub loop-place-preserved : goal.loop-place-preserved
 loop-place-preserved g c =
-    let read_as = g.V.Keyed.read_as in
+    let read_as = g.V.SchemeVersion.rules.read_as in
     let texts = c.args.texts.now in
     let offsets = c.args.offsets.now in
     let i = c.loop-place.place in

@@ -1,7 +1,7 @@
 use Rattle.std.proofs.Common.{◌∙◌, ◌≤◌, arith, length}
 use Rattle.std.proofs.lemmas.Bool.Decides.{nat_tests}
 use Rattle.versions_c.specs.Keys.{keys_before, spelled_key}
-use Rattle.version_texts.proofs.lemmas.key.Sinks.{put_fits}
+use Rattle.version_order.proofs.lemmas.Sinks.{put_fits}
 use Rattle.versions_c.proofs.keys.put_keys.Goals as goal
 
 pub returns-clause-keys : goal.returns-clause-keys

@@ -1,7 +1,7 @@
 use Rattle.std.proofs.Common.{rules as facts, ◌≡◌, ◌∙◌, ◌-◌, ◌≤◌, arith, length}
 use Rattle.std.proofs.lemmas.Bool.Decides.{nat_tests}
 use Rattle.version_schemes.specs.Scheme.{rules}
-use Rattle.version_texts.proofs.lemmas.key.Sinks.{put_fits}
+use Rattle.version_order.proofs.lemmas.Sinks.{put_fits}
 use Rattle.versions_c.specs.Keys.{keys_before}
 use Rattle.versions_c.specs.Schemes.{key_by}
 use Rattle.versions_c.proofs.keys.put_keys_in.Goals as goal

@@ -3,8 +3,8 @@ use Rattle.std.proofs.Common.{◌≡◌, ◌∙◌, ◌+◌, ◌<◌, ◌≤◌,
 use Rattle.std.proofs.lemmas.Bool.Decides.{nat_tests}
 use Rattle.std.proofs.lemmas.List.{append-nil, get_or-set_other, get_or-set_same, length-append}
 use Rattle.std.specs.Option.{unwrap_or}
-use Rattle.version_texts.proofs.lemmas.key.Sinks.{put_fits}
-use Rattle.version_texts.specs.key.Sinks.{put_at, put_both, saturated, IsWritten}
+use Rattle.version_order.proofs.lemmas.Sinks.{put_fits}
+use Rattle.version_order.specs.keys.Sinks.{put_at, put_both, saturated, IsWritten}
 use Rattle.versions_c.specs.Keys.{keys_before, saturated_signed}
 use Rattle.versions_c.specs.Offsets.{text_at}
 use Rattle.versions_c.specs.Sorting.{IsMarked}

@@ -8,7 +8,7 @@ use Rattle.version_rules.specs.requirement.Requirements.{requirements_of}
 use Rattle.version_texts.specs.requirement.RangeRef.{bound_bytes, high_length, plain_range_ref}
 use Rattle.version_texts.specs.declared.requirement.range_ref.Bound.{Bound}
 use Rattle.version_texts.specs.declared.requirement.range_ref.RangeRef.{RangeRef}
-use Rattle.version_texts.specs.key.Sinks.{saturated}
+use Rattle.version_order.specs.keys.Sinks.{saturated}
 use Rattle.versions_c.proofs.lemmas.Ranges.{list_short}
 use Rattle.version_texts.specs.key.KeyRoom.{room_for}
 use Rattle.versions_c.specs.Ranges.{range_status, range_with}

@@ -13,11 +13,12 @@ use Rattle.std.specs.Option.{unwrap_or}
 use Rattle.std.specs.Ordering.{is_lt, nat_cmp, ordering_reverse, ordering_then}
 use Rattle.std.specs.declared.cmp.Ordering.{Ordering}
 use Rattle.std.specs.declared.cmp.Ordering.TheVariants.{Equal}
-use Rattle.version_rules.specs.laws.Order.{then_second}
-use Rattle.version_rules.specs.order.Lists.{bytes_cmp, none_last_cmp}
+use Rattle.version_order.specs.keys.OrderLaws.{then_second}
+use Rattle.version_order.specs.keys.Lists.{bytes_cmp, none_last_cmp}
 use Rattle.version_schemes.specs.Scheme.{rules}
 use Rattle.version_schemes.specs.declared.scheme.Scheme.{Scheme}
-use Rattle.version_schemes.specs.declared.scheme.Scheme.TheVariants.{Deb, Gem, Mixed, Pypi, Rpm, SemVer}
+use Rattle.version_schemes.specs.declared.scheme.Scheme.TheVariants.{Mixed}
+use Rattle.version_schemes.proofs.lemmas.Table.{not_mixed}
 use Rattle.versions_c.proofs.lemmas.Sorting.{below, keys_total, places_differ}
 use Rattle.versions_c.specs.Offsets.{text_at}
 use Rattle.versions_c.specs.Schemes.{key_by}
@@ -75,9 +76,4 @@ in_key_order key_of texts offsets keys key_offsets sorted_places n lies some per
 
 -- in all schemes but mixed places are ordered by keys alone
 pub by_keys_alone : (scheme : Scheme) → ¬ (scheme ≡ Mixed) → place_cmp_in scheme ≡ key_place_cmp (key_by (rules scheme).read_as)
-by_keys_alone Mixed other = absurd (other refl)
-by_keys_alone Deb other = refl
-by_keys_alone Rpm other = refl
-by_keys_alone Pypi other = refl
-by_keys_alone SemVer other = refl
-by_keys_alone Gem other = refl
+by_keys_alone scheme other = rw (not_mixed scheme other) refl

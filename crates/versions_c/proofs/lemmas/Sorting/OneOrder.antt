@@ -1,5 +1,5 @@
 -- The places of texts have one order.
-use Rattle.std.proofs.Common.{◌≡◌, ◌∙◌, ℕ, suc, ◌+◌, ◌-◌, ◌<◌, List, [], ◌∷◌, Option, length, get_or, refl, sym, ap, arith, add-one}
+use Rattle.std.proofs.Common.{Bool, true, false, if◌then◌else◌, ◌≡◌, ◌∙◌, ℕ, suc, ◌+◌, ◌-◌, ◌<◌, List, [], ◌∷◌, Option, length, get_or, refl, sym, ap, arith, add-one}
 use Rattle.std.proofs.lemmas.Cmp.{by_ranked, on_total, ranked, then_total, tied_itself}
 use Rattle.std.proofs.lemmas.List.Elements.{All-cons, All-contains, All-nil, All-weaker}
 use Rattle.std.proofs.lemmas.List.Sorted.{Contains-permutation, IsPermutation-sym}
@@ -10,30 +10,32 @@ use Rattle.std.specs.List.{All, Contains, range_with_len}
 use Rattle.std.specs.Ordering.{nat_cmp}
 use Rattle.std.specs.declared.cmp.Ordering.{Ordering}
 use Rattle.std.specs.declared.cmp.Ordering.TheVariants.{Less}
-use Rattle.version_rules.specs.laws.Order.{none_last_total}
+use Rattle.version_order.specs.keys.OrderLaws.{none_last_total}
 use Rattle.version_rules.specs.laws.Orders.{versioning_cmp_total}
 use Rattle.version_rules.specs.grammar.Versioning.{versioning_of}
-use Rattle.version_schemes.specs.Scheme.{rules}
+use Rattle.version_schemes.specs.Scheme.{is_mixed, rules}
 use Rattle.version_schemes.specs.declared.scheme.Scheme.{Scheme}
-use Rattle.version_schemes.specs.declared.scheme.Scheme.TheVariants.{Deb, Gem, Mixed, Pypi, Rpm, SemVer}
 use Rattle.versions_c.specs.Offsets.{text_at}
 use Rattle.versions_c.specs.Schemes.{key_by}
-use Rattle.versions_c.specs.Sorting.{AreInOrder, key_place_cmp, place_cmp_in}
+use Rattle.versions_c.specs.Sorting.{AreInOrder, key_place_cmp, place_cmp, place_cmp_in}
 
 key_place_total : (key_of : List ℕ → Option (List ℕ)) (texts offsets : List ℕ)
     → IsTotalOrder (key_place_cmp key_of texts offsets)
 key_place_total key_of texts offsets =
     then_total (on_total (λ i. key_of (text_at texts offsets i)) (none_last_total nat_list_cmp_total)) nat_cmp_total
 
-place_total : (scheme : Scheme) (texts offsets : List ℕ) → IsTotalOrder (place_cmp_in scheme texts offsets)
-place_total Mixed texts offsets =
+mixed_total : (texts offsets : List ℕ) → IsTotalOrder (place_cmp texts offsets)
+mixed_total texts offsets =
     then_total (on_total (λ i. versioning_of (text_at texts offsets i))
     (none_last_total versioning_cmp_total)) nat_cmp_total
-place_total Deb texts offsets = key_place_total (key_by (rules Deb).read_as) texts offsets
-place_total Rpm texts offsets = key_place_total (key_by (rules Rpm).read_as) texts offsets
-place_total Pypi texts offsets = key_place_total (key_by (rules Pypi).read_as) texts offsets
-place_total SemVer texts offsets = key_place_total (key_by (rules SemVer).read_as) texts offsets
-place_total Gem texts offsets = key_place_total (key_by (rules Gem).read_as) texts offsets
+
+place_total : (scheme : Scheme) (texts offsets : List ℕ) → IsTotalOrder (place_cmp_in scheme texts offsets)
+place_total scheme texts offsets = by (is_mixed scheme)
+  where
+    by : (mixed : Bool)
+        → IsTotalOrder ((if mixed then place_cmp else key_place_cmp (key_by (rules scheme).read_as)) texts offsets)
+    by true = mixed_total texts offsets
+    by false = key_place_total (key_by (rules scheme).read_as) texts offsets
 
 module _ (R : ℕ → ℕ → Ordering) (total : IsTotalOrder R) where
   -- each element is below all elements after it

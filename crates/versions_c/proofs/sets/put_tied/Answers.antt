@@ -1,4 +1,4 @@
-use Rattle.std.proofs.Common.{◌<◌, ◌^◌, arith, length, subst}
+use Rattle.std.proofs.Common.{◌<◌, ◌^◌, ap, arith, length, subst}
 use Rattle.std.specs.Option.{IfSome}
 use Rattle.version_sets.specs.Comparison.{ends_with}
 use Rattle.version_sets.specs.Form.{form_bytes}
@@ -13,13 +13,19 @@ returns-clause-set g c =
     let small : length c.args.form.now < 2 ^ 63 = omega arith in
     let written = fitting _ _ _ _ c.write_tied.ensures.length small c.write_tied.ensures.bytes
     (omega (arith, c.if-form_len-form.false, c.write_tied.auto.room)) in
-    subst (λ read. IfSome read (λ v. IsWritten (form_bytes c.args.order (ends_with Equal v)) c.args.form.now
-    c.write_tied.new.room c.write_tied.result OK)) c.in-Some.ensures written
+    subst (λ n. IfSome (g.V.SchemeVersion.rules.read_as c.args.text.now)
+    (λ v. IsWritten (form_bytes n (ends_with Equal v)) c.args.form.now c.write_tied.new.room c.write_tied.result OK))
+    (ap (λ facts. facts.number) c.facts.ensures.facts)
+    (subst (λ read. IfSome read (λ v. IsWritten (form_bytes c.facts.result.number (ends_with Equal v)) c.args.form.now
+    c.write_tied.new.room c.write_tied.result OK)) c.in-Some.ensures written)
 
 pub returns-then-form_len-form-clause-set : goal.returns-then-form_len-form-clause-set
 returns-then-form_len-form-clause-set g c =
     let small : length c.args.form.now < 2 ^ 63 = omega arith in
     let written = too_long _ _ _ _ c.write_tied.ensures.length small c.write_tied.ensures.bytes
     (omega (arith, c.if-form_len-form.true, c.write_tied.auto.room)) in
-    subst (λ read. IfSome read (λ v. IsWritten (form_bytes c.args.order (ends_with Equal v)) c.args.form.now
-    c.write_tied.new.room c.write_tied.result NO_ROOM)) c.in-Some.ensures written
+    subst (λ n. IfSome (g.V.SchemeVersion.rules.read_as c.args.text.now)
+    (λ v. IsWritten (form_bytes n (ends_with Equal v)) c.args.form.now c.write_tied.new.room c.write_tied.result NO_ROOM))
+    (ap (λ facts. facts.number) c.facts.ensures.facts)
+    (subst (λ read. IfSome read (λ v. IsWritten (form_bytes c.facts.result.number (ends_with Equal v)) c.args.form.now
+    c.write_tied.new.room c.write_tied.result NO_ROOM)) c.in-Some.ensures written)

@@ -1,10 +1,10 @@
 use Rattle.std.proofs.Common.{rules as facts, ◌≡◌, ◌∙◌, ◌-◌, ◌≤◌, ◌++◌, Option, None, Some, IfSome, [], ap, arith, drop, length, subst, sym}
 use Rattle.std.proofs.lemmas.Bool.Decides.{nat_tests}
 use Rattle.std.specs.Option.{option_map}
-use Rattle.version_schemes.proofs.lemmas.Some.{keys_some}
+use Rattle.version_schemes.proofs.lemmas.Table.{keys_some}
 use Rattle.version_schemes.specs.Scheme.{rules as rules_of}
 use Rattle.version_schemes.specs.declared.scheme.Scheme.TheVariants.{Mixed}
-use Rattle.version_texts.specs.keyed.Keyed.{PlainKeyed}
+use Rattle.version_order.specs.Keyed.{PlainKeyed}
 use Rattle.versions_c.proofs.lemmas.Sorting.{are_key_offsets, key_lies}
 use Rattle.versions_c.proofs.lemmas.Sorting.ByKeys.{by_keys_alone, in_key_order}
 use Rattle.versions_c.specs.Keys.{all_keys, keys_before, AreKeyOffsets}

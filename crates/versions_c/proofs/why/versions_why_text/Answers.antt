@@ -1,11 +1,11 @@
 use Rattle.std.proofs.Common.{◌≡◌, ◌<◌, ◌≤◌, ◌^◌, ℕ, List, Option, Some, arith, length}
 use Rattle.std.proofs.lemmas.Bool.Decides.{nat_tests}
 use Rattle.version_rules.specs.grammar.Versioning.{PlainVersioning}
-use Rattle.version_texts.specs.key.Sinks.{put_at, saturated}
+use Rattle.version_order.specs.keys.Sinks.{put_at, saturated}
 use Rattle.version_texts.specs.versioning_ref.VersioningRef.{plain_versioning_ref}
 use Rattle.version_texts.specs.requirement.Why.{IsExcluded, excluded_text}
 use Rattle.version_texts.specs.declared.requirement.why.Excluded.{Excluded}
-use Rattle.version_texts.proofs.lemmas.key.Sinks.{put_fits}
+use Rattle.version_order.proofs.lemmas.Sinks.{put_fits}
 use Rattle.versions_c.specs.Why.{IsToldWhy}
 use Rattle.versions_c.specs.declared.status.TheConstants.{OK}
 use Rattle.versions_c.proofs.why.versions_why_text.Goals as goal

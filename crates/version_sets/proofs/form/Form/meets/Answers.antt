@@ -1,7 +1,7 @@
 use Rattle.std.proofs.Common.{◌≡◌, ◌==◌, ◌∙◌, ◌&&◌, Bool, false, length, true, ap, refl, sym}
 use Rattle.version_sets.proofs.lemmas.Ends.{none_in, some_in}
 use Rattle.version_sets.specs.Set.{by_rule}
-use Rattle.version_texts.proofs.lemmas.scan.General.Runs.{not_false, not_true}
+use Rattle.version_order.proofs.lemmas.Runs.{not_false, not_true}
 use Rattle.version_sets.specs.declared.merge.Rule.TheVariants.{Both}
 use Rattle.version_sets.proofs.form.Form.meets.Goals as goal
 

@@ -7,11 +7,12 @@ use Rattle.version_sets.specs.declared.read.steps.State.TheVariants.{Come}
 use Rattle.version_sets.proofs.lemmas.Excluding.{all_has, is_asked, none_found, not_false, not_true, once_found, one_more, passes, stops}
 use Rattle.version_sets.proofs.lemmas.Steps.{asks_from, asks_word, goes_on}
 use Rattle.version_sets.proofs.read.excluding.first_excluding.Goals.{else-is_none-via-then-is_none+else-excludes, else-is_none-via-else-is_none}
+use Rattle.version_order.specs.Facts.{key_room}
 use Rattle.version_sets.proofs.read.excluding.first_excluding.Goals as goal
 
 pub loop-place-preserved-in-All : goal.loop-place-preserved-in-All
 loop-place-preserved-in-All g c =
-    let V = g.V.Keyed in
+    let V = g.V.SchemeVersion in
     let key = (V.plain c.args.version.now).key in
     let end = c.loop-place.pieces.place + length c.loop-place.pieces.left.now in
     let behind = pieces c.next.new.self.place c.next.new.self.left.now in
@@ -22,17 +23,17 @@ loop-place-preserved-in-All g c =
       opened = tt;
       within = c.loop-place.invariant.within;
       nearer = omega (arith, c.in-Some.ensures.nearer, c.loop-place.invariant.nearer);
-      room = omega (arith, ap (pieces_room V.most) c.in-Some.ensures.some, c.loop-place.invariant.room);
+      room = omega (arith, ap (pieces_room (key_room V.rules.facts)) c.in-Some.ensures.some, c.loop-place.invariant.room);
       size = c.loop-place.invariant.size;
       reads = λ first others e.
           let reads = c.loop-place.invariant.reads first others e in
           let stepped =
-          sym (ap (after_step V.read_as V.words (λ next. read_pieces V.read_as V.words end next behind)) is)
-          ∙ ap (read_pieces V.read_as V.words end c.loop-place.state) (sym c.in-Some.ensures.some) ∙ reads.1 in
+          sym (ap (after_step V.rules.read_as V.rules.facts.operators (λ next. read_pieces V.rules.read_as V.rules.facts.operators end next behind)) is)
+          ∙ ap (read_pieces V.rules.read_as V.rules.facts.operators end c.loop-place.state) (sym c.in-Some.ensures.some) ∙ reads.1 in
           let all : Member = record { start = c.in-All.field-0; end = suc c.in-All.field-0; ends = [] ∷ [] } in
-          let found = one_more all (read_pieces V.read_as V.words end Come behind) reads.0 others stepped in (
+          let found = one_more all (read_pieces V.rules.read_as V.rules.facts.operators end Come behind) reads.0 others stepped in (
             found.more,
-            ap (λ end. read_pieces V.read_as V.words end Come behind) c.in-Some.ensures.end ∙ found.rest_is,
+            ap (λ end. read_pieces V.rules.read_as V.rules.facts.operators end Come behind) c.in-Some.ensures.end ∙ found.rest_is,
             reads.2 ∙ ap (found_or c.loop-place.found)
                 (ap (first_out key) found.first_is ∙ passes key all found.more (all_has key)),
           );
@@ -40,7 +41,7 @@ loop-place-preserved-in-All g c =
 
 pub loop-place-preserved-in-Goes : goal.loop-place-preserved-in-Goes
 loop-place-preserved-in-Goes g c =
-    let V = g.V.Keyed in
+    let V = g.V.SchemeVersion in
     let end = c.loop-place.pieces.place + length c.loop-place.pieces.left.now in
     let behind = pieces c.next.new.self.place c.next.new.self.left.now in
     let is : step c.loop-place.state c.in-Some.place (plain_piece c.in-Some.piece) ≡ Goes c.in-Goes.next =
@@ -51,22 +52,22 @@ loop-place-preserved-in-Goes g c =
           (omega (arith, c.in-Some.ensures.piece)) is;
       within = c.loop-place.invariant.within;
       nearer = omega (arith, c.in-Some.ensures.nearer, c.loop-place.invariant.nearer);
-      room = omega (arith, ap (pieces_room V.most) c.in-Some.ensures.some, c.loop-place.invariant.room);
+      room = omega (arith, ap (pieces_room (key_room V.rules.facts)) c.in-Some.ensures.some, c.loop-place.invariant.room);
       size = c.loop-place.invariant.size;
       reads = λ first others e.
           let reads = c.loop-place.invariant.reads first others e in
           let stepped =
-          sym (ap (after_step V.read_as V.words (λ next. read_pieces V.read_as V.words end next behind)) is)
-          ∙ ap (read_pieces V.read_as V.words end c.loop-place.state) (sym c.in-Some.ensures.some) ∙ reads.1 in (
+          sym (ap (after_step V.rules.read_as V.rules.facts.operators (λ next. read_pieces V.rules.read_as V.rules.facts.operators end next behind)) is)
+          ∙ ap (read_pieces V.rules.read_as V.rules.facts.operators end c.loop-place.state) (sym c.in-Some.ensures.some) ∙ reads.1 in (
             reads.0,
-            ap (λ end. read_pieces V.read_as V.words end c.in-Goes.next behind) c.in-Some.ensures.end ∙ stepped,
+            ap (λ end. read_pieces V.rules.read_as V.rules.facts.operators end c.in-Goes.next behind) c.in-Some.ensures.end ∙ stepped,
             reads.2,
           );
     }
 
 pub excludes-requires : goal.excludes-requires
 excludes-requires g c κs =
-    let V = g.V.Keyed in
+    let V = g.V.SchemeVersion in
     let is : step c.loop-place.state c.in-Some.place (plain_piece c.in-Some.piece)
     ≡ Asks c.in-Asks.comparison c.in-Asks.start c.in-Asks.place c.in-Asks.text.now =
     sym c.step.ensures ∙ rw c.in-Asks.is refl in
@@ -74,18 +75,15 @@ excludes-requires g c κs =
     c.in-Asks.start c.in-Asks.place c.in-Asks.text.now is in (
       (refl, tt),
       (
-        c.key_room.ensures.enough,
-        (
-          word.word,
-          word.longer,
-          omega (
-            arith,
-            ap (piece_room V.most) word.is,
-            c.if-piece_room-room.false,
-            c.piece_room.ensures,
-            c.loop-place.invariant.size,
-            c.well_formed.1.1.0,
-          ),
+        word.word,
+        word.longer,
+        omega (
+          arith,
+          ap (piece_room (key_room V.rules.facts)) word.is,
+          c.if-piece_room-room.false,
+          c.piece_room.ensures,
+          c.loop-place.invariant.size,
+          c.well_formed.1.1.0,
         ),
       ),
     )
@@ -109,7 +107,7 @@ overflow_add-found g c =
 
 pub loop-place-preserved-then-excludes : goal.loop-place-preserved-then-excludes
 loop-place-preserved-then-excludes g c =
-    let V = g.V.Keyed in
+    let V = g.V.SchemeVersion in
     let key = (V.plain c.args.version.now).key in
     let end = c.loop-place.pieces.place + length c.loop-place.pieces.left.now in
     let behind = pieces c.next.new.self.place c.next.new.self.left.now in
@@ -137,15 +135,15 @@ loop-place-preserved-then-excludes g c =
         ),
       );
       nearer = omega (arith, c.in-Some.ensures.nearer, c.loop-place.invariant.nearer);
-      room = omega (arith, ap (pieces_room V.most) c.in-Some.ensures.some, c.loop-place.invariant.room);
+      room = omega (arith, ap (pieces_room (key_room V.rules.facts)) c.in-Some.ensures.some, c.loop-place.invariant.room);
       size = c.excludes.ensures.same ∙ c.loop-place.invariant.size;
       reads = λ first others e.
           let reads = c.loop-place.invariant.reads first others e in
           let stepped =
-          sym (ap (after_step V.read_as V.words (λ next. read_pieces V.read_as V.words end next behind)) is)
-          ∙ ap (read_pieces V.read_as V.words end c.loop-place.state) (sym c.in-Some.ensures.some) ∙ reads.1 in
-          let found = is_asked V.read_as V.words _ _ _ _ _ _ _ stepped in
-          let rest = ap (λ end. read_pieces V.read_as V.words end Come behind) c.in-Some.ensures.end ∙ found.has_more.rest_is in
+          sym (ap (after_step V.rules.read_as V.rules.facts.operators (λ next. read_pieces V.rules.read_as V.rules.facts.operators end next behind)) is)
+          ∙ ap (read_pieces V.rules.read_as V.rules.facts.operators end c.loop-place.state) (sym c.in-Some.ensures.some) ∙ reads.1 in
+          let found = is_asked V.rules.read_as V.rules.facts.operators _ _ _ _ _ _ _ stepped in
+          let rest = ap (λ end. read_pieces V.rules.read_as V.rules.facts.operators end Come behind) c.in-Some.ensures.end ∙ found.has_more.rest_is in
           let lacks = not_true _ (sym (c.excludes.ensures.excludes found.comparison found.version found.is) ∙ c.if-excludes.true) in (
             found.has_more.more,
             rest,
@@ -157,7 +155,7 @@ loop-place-preserved-then-excludes g c =
 
 pub loop-place-preserved : goal.loop-place-preserved
 loop-place-preserved g c =
-    let V = g.V.Keyed in
+    let V = g.V.SchemeVersion in
     let key = (V.plain c.args.version.now).key in
     let end = c.loop-place.pieces.place + length c.loop-place.pieces.left.now in
     let behind = pieces c.next.new.self.place c.next.new.self.left.now in
@@ -169,7 +167,7 @@ loop-place-preserved g c =
       opened = tt;
       within = c.loop-place.invariant.within;
       nearer = omega (arith, c.in-Some.ensures.nearer, c.loop-place.invariant.nearer);
-      room = omega (arith, ap (pieces_room V.most) c.in-Some.ensures.some, c.loop-place.invariant.room);
+      room = omega (arith, ap (pieces_room (key_room V.rules.facts)) c.in-Some.ensures.some, c.loop-place.invariant.room);
       size =
           elim c.else-is_none.branch [
             | else-is_none-via-then-is_none+else-excludes w ↦
@@ -179,9 +177,9 @@ loop-place-preserved g c =
       reads = λ first others e.
           let reads = c.loop-place.invariant.reads first others e in
           let stepped =
-          sym (ap (after_step V.read_as V.words (λ next. read_pieces V.read_as V.words end next behind)) is)
-          ∙ ap (read_pieces V.read_as V.words end c.loop-place.state) (sym c.in-Some.ensures.some) ∙ reads.1 in
-          let found = is_asked V.read_as V.words _ _ _ _ _ _ _ stepped in
+          sym (ap (after_step V.rules.read_as V.rules.facts.operators (λ next. read_pieces V.rules.read_as V.rules.facts.operators end next behind)) is)
+          ∙ ap (read_pieces V.rules.read_as V.rules.facts.operators end c.loop-place.state) (sym c.in-Some.ensures.some) ∙ reads.1 in
+          let found = is_asked V.rules.read_as V.rules.facts.operators _ _ _ _ _ _ _ stepped in
           let more = found.has_more.more in
           let same : found_or c.loop-place.found (first_out key reads.0)
           ≡ found_or c.loop-place.found (first_out key more) =
@@ -194,7 +192,7 @@ loop-place-preserved g c =
                 once_found c.loop-place.found _ _ (rw w.if-is_none.false at c.is_none.ensures)
           ] in (
             more,
-            ap (λ end. read_pieces V.read_as V.words end Come behind) c.in-Some.ensures.end ∙ found.has_more.rest_is,
+            ap (λ end. read_pieces V.rules.read_as V.rules.facts.operators end Come behind) c.in-Some.ensures.end ∙ found.has_more.rest_is,
             reads.2 ∙ same,
           );
     }

@@ -4,6 +4,7 @@ use Rattle.version_sets.specs.Pieces.{pieces}
 use Rattle.version_sets.specs.Reading.{Member, Right, pieces_room}
 use Rattle.version_sets.specs.declared.read.steps.State.TheVariants.{Wanted}
 use Rattle.version_sets.proofs.lemmas.Steps.{StartsBy}
+use Rattle.version_order.specs.Facts.{key_room}
 use Rattle.version_sets.proofs.read.excluding.first_excluding.Given as goal
 
 -- what is left of the alternative, and what was found before it
@@ -13,15 +14,15 @@ invariant-loop-place g l = record {
   opened : StartsBy l.pieces.place l.state;
   within : IfSome l.found (StandsBefore (l.fn.left.place + length l.fn.left.left.now));
   nearer : length l.pieces.left.now ≤ length l.fn.left.left.now;
-  room : pieces_room g.V.Keyed.most (pieces l.pieces.place l.pieces.left.now)
-      ≤ pieces_room g.V.Keyed.most (pieces l.fn.left.place l.fn.left.left.now);
+  room : pieces_room (key_room g.V.SchemeVersion.rules.facts) (pieces l.pieces.place l.pieces.left.now)
+      ≤ pieces_room (key_room g.V.SchemeVersion.rules.facts) (pieces l.fn.left.place l.fn.left.left.now);
   size : length l.room ≡ length l.initial.room;
   reads : (first : List Member) (others : List (List Member))
-      → left_read g.V.Keyed.read_as g.V.Keyed.words Wanted l.fn.left ≡ Right first others
+      → left_read g.V.SchemeVersion.rules.read_as g.V.SchemeVersion.rules.facts.operators Wanted l.fn.left ≡ Right first others
       → (more : List Member)
-      × (left_read g.V.Keyed.read_as g.V.Keyed.words l.state l.pieces ≡ Right more others)
-      × (first_out (g.V.Keyed.plain l.fn.version).key first
-      ≡ found_or l.found (first_out (g.V.Keyed.plain l.fn.version).key more));
+      × (left_read g.V.SchemeVersion.rules.read_as g.V.SchemeVersion.rules.facts.operators l.state l.pieces ≡ Right more others)
+      × (first_out (g.V.SchemeVersion.plain l.fn.version).key first
+      ≡ found_or l.found (first_out (g.V.SchemeVersion.plain l.fn.version).key more));
 }
 
 abbrev pub decreases-loop-place : goal.decreases-loop-place

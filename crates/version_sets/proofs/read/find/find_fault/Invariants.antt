@@ -7,9 +7,9 @@ use Rattle.version_sets.proofs.read.find.find_fault.Given as goal
 abbrev pub invariant-loop-place : goal.invariant-loop-place
 invariant-loop-place g l = record {
   end : l.pieces.place + length l.pieces.left.now ≡ length l.fn.text;
-  same : fault_of (read_pieces g.V.Keyed.read_as g.V.Keyed.words (length l.fn.text) l.state
+  same : fault_of (read_pieces g.V.SchemeVersion.rules.read_as g.V.SchemeVersion.rules.facts.operators (length l.fn.text) l.state
       (pieces l.pieces.place l.pieces.left.now))
-      ≡ fault_of (read_set g.V.Keyed.read_as g.V.Keyed.words l.fn.text);
+      ≡ fault_of (read_set g.V.SchemeVersion.rules.read_as g.V.SchemeVersion.rules.facts.operators l.fn.text);
 }
 
 abbrev pub decreases-loop-place : goal.decreases-loop-place

@@ -1,6 +1,6 @@
 use Rattle.std.proofs.Common.{◌≡◌, ◌∙◌, ◌+◌, ◌++◌, [], ap, arith, length}
-use Rattle.version_rules.specs.requirement.Range.{after}
-use Rattle.version_texts.specs.key.Sinks.{saturated}
+use Rattle.version_order.specs.Keyed.{after}
+use Rattle.version_order.specs.keys.Sinks.{saturated}
 use Rattle.version_sets.specs.Comparison.{ends_with}
 use Rattle.version_sets.specs.Form.{form_bytes}
 use Rattle.version_sets.specs.declared.read.comparison.Comparison.TheVariants.{Equal}
@@ -9,7 +9,7 @@ use Rattle.version_sets.proofs.read.member.tied_length.Goals as goal
 
 pub returns : goal.returns
 returns g c order =
-    let version = g.V.Keyed.plain c.args.version in
+    let version = g.V.SchemeVersion.plain c.args.version in
     let ends = ends_with Equal version in
     let size : 25 + length (version.key ++ (after version.key ++ [])) ≡ length (form_bytes order ends) =
     omega (arith, form_length order ends) in

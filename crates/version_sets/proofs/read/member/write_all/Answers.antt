@@ -1,5 +1,5 @@
 use Rattle.std.proofs.Common.{◌∙◌, ◌++◌, ◌∷◌, List, [], append-nil, ap, arith, sym, ℕ}
-use Rattle.version_texts.specs.key.Sinks.{put_at, put_nothing}
+use Rattle.version_order.specs.keys.Sinks.{put_at, put_nothing}
 use Rattle.version_sets.specs.Form.{form_bytes, number}
 use Rattle.version_sets.proofs.lemmas.Form.{form_length}
 use Rattle.version_sets.proofs.lemmas.Written.{put_form}

@@ -1,8 +1,8 @@
 use Rattle.std.proofs.Common.{◌≡◌, ◌∙◌, ◌+◌, ◌≤◌, ◌∷◌, ap, arith, length, length-append, refl, sym}
 use Rattle.std.proofs.lemmas.List.{length-map, nil_from_length}
 use Rattle.std.specs.List.{concat, flat_map}
-use Rattle.version_texts.specs.key.Sinks.{length-put, put_at, put_nothing}
-use Rattle.version_texts.specs.keyed.Keyed.{end_of}
+use Rattle.version_order.specs.keys.Sinks.{length-put, put_at, put_nothing}
+use Rattle.version_order.specs.Keyed.{end_of}
 use Rattle.version_sets.specs.Comparison.{bytes_of}
 use Rattle.version_sets.specs.Form.{number, places}
 use Rattle.version_sets.proofs.lemmas.Form.{number_length, row_size}
@@ -11,14 +11,14 @@ use Rattle.version_sets.proofs.read.member.write_ends.Goals as goal
 
 pub loop-end-init : goal.loop-end-init
 loop-end-init g c =
-    let ends = bytes_of (g.V.Keyed.plain c.args.version) c.args.ends.now in
+    let ends = bytes_of (g.V.SchemeVersion.plain c.args.version) c.args.ends.now in
     record {
       numbers = put_whole c.args.numbers.now (flat_map number (places 0 ends))
           (omega (
             arith,
             c.requires.numbers,
             row_size ends,
-            length-map c.args.ends.now (λ end. end_of end (g.V.Keyed.plain c.args.version)),
+            length-map c.args.ends.now (λ end. end_of end (g.V.SchemeVersion.plain c.args.version)),
           ));
       bytes = refl;
       over = omega arith;
@@ -27,7 +27,7 @@ loop-end-init g c =
 
 pub write_end-over-requires : goal.write_end-over-requires
 write_end-over-requires g c κs =
-    let version = g.V.Keyed.plain c.args.version in (
+    let version = g.V.SchemeVersion.plain c.args.version in (
       (refl, tt),
       omega (
         arith,
@@ -46,7 +46,7 @@ overflow_add-place g c =
 pub loop-end-preserved : goal.loop-end-preserved
 loop-end-preserved g c =
     let before = c.loop-end in
-    let version = g.V.Keyed.plain c.args.version in
+    let version = g.V.SchemeVersion.plain c.args.version in
     let end = end_of c.in-Some.end.now version in
     let rest = bytes_of version c.in-Some.rest.now in
     let over = c.write_end-over.result in
@@ -90,7 +90,7 @@ loop-end-preserved g c =
 pub returns-clause-numbers : goal.returns-clause-numbers
 returns-clause-numbers g c =
     let none = nil_from_length c.loop-end.left.now c.in_default.ensures.cases in
-    let version = g.V.Keyed.plain c.args.version in
+    let version = g.V.SchemeVersion.plain c.args.version in
     sym (put_nothing c.loop-end.numbers c.loop-end.place)
     ∙ ap (λ ends. put_at c.loop-end.numbers c.loop-end.place
     (flat_map number (places c.loop-end.over (bytes_of version ends)))) (sym none)
@@ -99,7 +99,7 @@ returns-clause-numbers g c =
 pub returns-clause-bytes : goal.returns-clause-bytes
 returns-clause-bytes g c =
     let none = nil_from_length c.loop-end.left.now c.in_default.ensures.cases in
-    let version = g.V.Keyed.plain c.args.version in
+    let version = g.V.SchemeVersion.plain c.args.version in
     sym (put_nothing c.loop-end.bytes c.loop-end.over)
     ∙ ap (λ ends. put_at c.loop-end.bytes c.loop-end.over (concat (bytes_of version ends))) (sym none)
     ∙ c.loop-end.invariant.bytes

@@ -1,9 +1,9 @@
 use Rattle.std.proofs.Common.{◌≡◌, ◌∙◌, ◌+◌, ◌*◌, ◌++◌, ◌∷◌, List, ap, arith, length, refl, sym, ℕ}
 use Rattle.std.proofs.lemmas.List.{length-map}
 use Rattle.std.specs.List.{concat}
-use Rattle.version_rules.specs.declared.ends.End.{End}
-use Rattle.version_texts.specs.key.Sinks.{put_at}
-use Rattle.version_texts.specs.keyed.Keyed.{PlainKeyed, end_of}
+use Rattle.version_order.specs.declared.ends.End.{End}
+use Rattle.version_order.specs.keys.Sinks.{put_at}
+use Rattle.version_order.specs.Keyed.{PlainKeyed, end_of}
 use Rattle.version_sets.specs.Comparison.{bytes_of}
 use Rattle.version_sets.specs.Form.{form_bytes, number}
 use Rattle.version_sets.proofs.lemmas.Form.{form_length}
@@ -22,7 +22,7 @@ member_length order version ends wanted is =
 
 pub split_at_mut-head-requires : goal.split_at_mut-head-requires
 split_at_mut-head-requires g c =
-    let version = g.V.Keyed.plain c.args.member.1 in
+    let version = g.V.SchemeVersion.plain c.args.member.1 in
     omega (
       arith,
       c.requires,
@@ -32,7 +32,7 @@ split_at_mut-head-requires g c =
 
 pub split_at_mut-numbers-requires : goal.split_at_mut-numbers-requires
 split_at_mut-numbers-requires g c =
-    let version = g.V.Keyed.plain c.args.member.1 in
+    let version = g.V.SchemeVersion.plain c.args.member.1 in
     omega (
       arith,
       c.requires,
@@ -43,7 +43,7 @@ split_at_mut-numbers-requires g c =
 
 pub write_ends-requires : goal.write_ends-requires
 write_ends-requires g c κs =
-    let version = g.V.Keyed.plain c.args.member.1 in (
+    let version = g.V.SchemeVersion.plain c.args.member.1 in (
       (refl, tt),
       (
         c.split_at_mut-numbers.ensures.front_len,
@@ -60,7 +60,7 @@ write_ends-requires g c κs =
 
 pub overflow_add-result-3 : goal.overflow_add-result-3
 overflow_add-result-3 g c =
-    let version = g.V.Keyed.plain c.args.member.1 in
+    let version = g.V.SchemeVersion.plain c.args.member.1 in
     omega (
       arith,
       c.requires,
@@ -71,7 +71,7 @@ overflow_add-result-3 g c =
 
 pub returns-clause-bytes : goal.returns-clause-bytes
 returns-clause-bytes g c =
-    let version = g.V.Keyed.plain c.args.member.1 in
+    let version = g.V.SchemeVersion.plain c.args.member.1 in
     let order = c.args.order in
     let ends = bytes_of version c.ends-ends.result.now in
     let many = length-map c.ends-ends.result.now (λ end. end_of end version) in
@@ -91,7 +91,7 @@ returns-clause-bytes g c =
 
 pub returns-clause-end : goal.returns-clause-end
 returns-clause-end g c =
-    let version = g.V.Keyed.plain c.args.member.1 in
+    let version = g.V.SchemeVersion.plain c.args.member.1 in
     omega (
       arith,
       member_length c.args.order version _ _ c.ends-ends.ensures,

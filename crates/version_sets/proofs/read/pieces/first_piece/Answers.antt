@@ -1,5 +1,5 @@
 use Rattle.std.proofs.Common.{◌∙◌, ap, arith, length, length-append, List, sym, ℕ}
-use Rattle.version_rules.specs.grammar.Front.{begins}
+use Rattle.version_order.specs.texts.Front.{begins}
 use Rattle.version_sets.specs.Pieces.{is_blank}
 use Rattle.version_sets.proofs.lemmas.Pieces.{first_bar, first_bars, first_comma, first_word, no_other}
 use Rattle.version_sets.proofs.read.pieces.first_piece.Goals as goal

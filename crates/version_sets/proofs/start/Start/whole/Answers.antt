@@ -1,7 +1,7 @@
 use Rattle.std.proofs.Common.{◌≡◌, ◌∙◌, ◌≤◌, List, ap, arith, drop, length, replicate, sym, take, ℕ}
 use Rattle.std.proofs.lemmas.List.{length-replicate, take_at}
-use Rattle.version_texts.specs.key.Sinks.{put_at, put_nothing}
-use Rattle.version_texts.proofs.lemmas.key.Sinks.{put_fits}
+use Rattle.version_order.specs.keys.Sinks.{put_at, put_nothing}
+use Rattle.version_order.proofs.lemmas.Sinks.{put_fits}
 use Rattle.version_sets.proofs.start.Start.whole.Goals as goal
 
 pub returns : goal.returns

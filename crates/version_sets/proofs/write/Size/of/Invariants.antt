@@ -1,7 +1,7 @@
 use Rattle.std.proofs.Common.{◌≡◌, ◌+◌, ◌*◌, ◌<◌, ◌^◌, length}
 use Rattle.std.specs.List.{concat}
 use Rattle.version_sets.specs.Set.{left, merge_left}
-use Rattle.version_texts.specs.key.Sinks.{saturated}
+use Rattle.version_order.specs.keys.Sinks.{saturated}
 use Rattle.version_sets.proofs.write.Size.of.Given as goal
 
 -- with the ends that are left they are all

@@ -1,6 +1,7 @@
 use Rattle.std.proofs.Common.{◌≡◌, arith, sym}
 use Rattle.version_tasks.proofs.lemmas.Next.Text.{one_more_zero, zeros_begun}
-use Rattle.version_texts.proofs.lemmas.key.TextKey.Taking.{next_fits, owes_all, owes_rest, takes_same}
+use Rattle.version_order.proofs.lemmas.Taking.{next_fits, owes_all, owes_rest}
+use Rattle.version_order.proofs.lemmas.Taking.{takes_same}
 use Rattle.version_tasks.proofs.next.text.put_zeros.Goals as goal
 
 pub loop-init : goal.loop-init

@@ -1,9 +1,9 @@
 use Rattle.std.proofs.Common.{◌∙◌, ◌++◌, [], ℕ, List, ap, append-nil, refl, sym}
-use Rattle.version_rules.specs.order.Lists.{bytes_cmp}
+use Rattle.version_order.specs.keys.Lists.{bytes_cmp}
 use Rattle.version_rules.specs.key.Tail.{tail_bytes}
-use Rattle.version_texts.specs.key.Sinks.{order_with}
+use Rattle.version_order.specs.keys.Sinks.{order_with}
 use Rattle.version_texts.specs.key.TextKey.{front_bytes, tail_of, text_key}
-use Rattle.version_texts.proofs.lemmas.key.TextKey.Taking.{key_halves}
+use Rattle.version_texts.proofs.lemmas.key.TextKey.{key_halves}
 use Rattle.version_texts.proofs.key.whole.compare_key.Goals as goal
 
 pub returns : goal.returns

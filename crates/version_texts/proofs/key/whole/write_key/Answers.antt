@@ -2,9 +2,9 @@ use Rattle.std.proofs.Common.{◌≡◌, ◌∙◌, ap, arith, length, rules, sy
 use Rattle.std.proofs.lemmas.List.{length-append}
 use Rattle.version_rules.specs.key.KeyBytes.{key_bytes}
 use Rattle.version_rules.specs.key.Tail.{tail_bytes}
-use Rattle.version_texts.specs.key.Sinks.{length-put, put_at, put_both}
+use Rattle.version_order.specs.keys.Sinks.{length-put, put_at, put_both}
 use Rattle.version_texts.specs.key.TextKey.{front_bytes, text_key}
-use Rattle.version_texts.proofs.lemmas.key.TextKey.Taking.{key_halves}
+use Rattle.version_texts.proofs.lemmas.key.TextKey.{key_halves}
 use Rattle.version_texts.proofs.key.whole.write_key.Goals as goal
 
 pub put_front-requires-clause-fits : goal.put_front-requires-clause-fits

@@ -2,22 +2,22 @@
 use Rattle.std.proofs.Common.{◌≡◌, ◌+◌, ◌<◌, ◌≤◌, ℕ, Bool, true, false, List, [], ◌∷◌, length, Option, Some, None, arith, if◌then◌else◌}
 use Rattle.std.proofs.lemmas.List.{length-append}
 use Rattle.std.specs.Option.{option_map_or}
-use Rattle.version_rules.specs.key.Codes.{items_bytes}
+use Rattle.version_order.specs.keys.Codes.{items_bytes}
 use Rattle.version_rules.specs.requirement.Ends.{end_bytes, kept_parts}
 use Rattle.version_rules.specs.key.Key.{Key}
 use Rattle.version_rules.specs.key.KeyBytes.{key_bytes}
-use Rattle.version_rules.specs.order.Lists.{split_last}
-use Rattle.version_rules.specs.key.NumberBytes.{number_bytes}
+use Rattle.version_order.specs.keys.Lists.{split_last}
+use Rattle.version_order.specs.keys.NumberBytes.{number_bytes}
 use Rattle.version_rules.specs.key.PartKey.{PartKey, part_bytes}
 use Rattle.version_rules.specs.requirement.Range.{begun, but_last, or_others, through_other}
 use Rattle.version_rules.specs.requirement.VersionMatch.{is_plain_zero}
-use Rattle.version_rules.specs.declared.ends.End.{End}
-use Rattle.version_rules.specs.declared.ends.End.TheVariants.{AboveBegun, AfterKey, Begun, Lowest, Zero}
-use Rattle.version_rules.specs.declared.ends.End.TheVariants as variant
-use Rattle.version_rules.specs.declared.ends.Kept.{Kept}
-use Rattle.version_rules.specs.declared.ends.Kept.TheVariants.{All, ButLast, ButLastOrOnly, ThroughOther}
+use Rattle.version_order.specs.declared.ends.End.{End}
+use Rattle.version_order.specs.declared.ends.End.TheVariants.{AboveBegun, AfterKey, Begun, Lowest, Zero}
+use Rattle.version_order.specs.declared.ends.End.TheVariants as variant
+use Rattle.version_order.specs.declared.ends.Kept.{Kept}
+use Rattle.version_order.specs.declared.ends.Kept.TheVariants.{All, ButLast, ButLastOrOnly, ThroughOther}
 use Rattle.version_texts.proofs.lemmas.key.KeyRoom.{key_length}
-use Rattle.version_texts.proofs.lemmas.key.KeyRoom.Parts.{list_length}
+use Rattle.version_order.proofs.lemmas.Lengths.{list_length}
 
 -- ---- kept parts
 

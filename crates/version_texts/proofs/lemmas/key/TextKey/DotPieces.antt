@@ -1,29 +1,26 @@
 -- The pieces of a text between marks, and the bytes of lists of them, piece by piece.
-use Rattle.std.proofs.Common.{one-add, take, ◌≡◌, ◌==◌, ◌∙◌, ℕ, Bool, true, false, not, List, [], ◌∷◌, ◌++◌, drop, length, map, Option, Some, None, refl, sym, ap, inl, inr, arith, append-nil}
+use Rattle.std.proofs.Common.{◌≡◌, ◌==◌, ◌∙◌, ℕ, Bool, true, false, not, List, [], ◌∷◌, ◌++◌, drop, map, Option, Some, None, refl, sym, ap, inl, inr, arith, append-nil}
 use Rattle.std.proofs.lemmas.Bool.{cases_Bool, eqb-true}
 use Rattle.std.proofs.lemmas.Bool.Decides.{nat_tests}
-use Rattle.std.proofs.lemmas.List.{take-append-drop}
 use Rattle.std.proofs.lemmas.List.Concat.{flat_map-cons}
 use Rattle.std.specs.Char.{is_ascii_alphanumeric, is_ascii_digit}
 use Rattle.std.specs.Cmp.{first_so, second_so}
 use Rattle.std.specs.List.{list_all, prefix_len, take_while}
-use Rattle.version_rules.specs.grammar.Bytes.{dot, is_identifier_byte, is_metadata_byte}
-use Rattle.version_rules.specs.key.Codes.{items_bytes, list_bytes}
-use Rattle.version_rules.specs.grammar.DigitRun.{run_value}
-use Rattle.version_rules.specs.grammar.Front.{begins}
-use Rattle.version_rules.specs.order.Lists.{with_end}
-use Rattle.version_rules.specs.key.NumberBytes.{number_bytes}
+use Rattle.version_order.specs.texts.Bytes.{dot, is_identifier_byte, is_metadata_byte, is_section_byte}
+use Rattle.version_order.specs.keys.Codes.{items_bytes, list_bytes}
+use Rattle.version_order.specs.texts.DigitRun.{run_value}
+use Rattle.version_order.specs.texts.Front.{begins}
+use Rattle.version_order.specs.keys.Lists.{with_end}
+use Rattle.version_order.specs.keys.NumberBytes.{number_bytes}
 use Rattle.version_rules.specs.key.PartKey.{part_bytes, part_key}
 use Rattle.version_rules.specs.order.ReleaseOrder.{chunk_bytes, release_bytes}
-use Rattle.version_rules.proofs.lemmas.Front.Runs.{take_while-all, begins-drop}
-use Rattle.version_texts.specs.scan.Shape.{is_section_byte}
-use Rattle.version_texts.specs.key.TextKey.{chunk_of, chunks_of, parts_of, pieces}
-use Rattle.version_texts.proofs.lemmas.scan.General.Runs.{last_piece, next_piece, not_false, not_true, run_cons, run_none, split_end, split_mark}
-use Rattle.version_texts.proofs.lemmas.order.Piece.Spelled.{alphanumeric_no_dot, alphanumeric_section}
-use Rattle.version_texts.proofs.lemmas.scan.General.RunsWithin.{no_run, rest_within}
-use Rattle.version_texts.proofs.lemmas.key.TextKey.Runs.{text_of_run}
-use Rattle.std.proofs.Math.Dec.{eqb-suc-zero}
-use Rattle.std.proofs.lemmas.List.Folds.{list_all-append}
+use Rattle.version_order.proofs.lemmas.Front.Runs.{take_while-all, begins-drop}
+use Rattle.version_texts.specs.key.TextKey.{chunk_of, chunks_of, parts_of}
+use Rattle.version_order.specs.texts.Pieces.{pieces}
+use Rattle.version_order.proofs.lemmas.Runs.{last_piece, next_piece, not_false, not_true, run_cons, run_none, split_end, split_mark, all_behind}
+use Rattle.version_order.proofs.lemmas.Bytes.{alphanumeric_no_dot, alphanumeric_section}
+use Rattle.version_order.proofs.lemmas.RunsWithin.{no_run, rest_within}
+use Rattle.version_order.proofs.lemmas.RunBytes.{text_of_run}
 
 -- the bytes of an item and more items, and of one item alone
 pub more_items : {A : Type 0} (code : Option A → List ℕ) (x : A) (xs : List A)
@@ -115,15 +112,6 @@ first_part text (b ∷ behind) r = elim (cases_Bool (b == dot)) [
 
 -- ---- releases
 
--- a text that is a run has nothing after the run
-pub is_run : (test : ℕ → Bool) (text : List ℕ)
-    → (length (drop (prefix_len test text) text) == 0) ≡ list_all test text
-is_run test [] = refl
-is_run test (b ∷ text) = elim (cases_Bool (test b)) [
-  | inl passes ↦ rw (passes, one-add) (is_run test text)
-  | inr fails ↦ rw fails (eqb-suc-zero (length text))
-]
-
 -- a chunk of digits
 pub number_chunk : (text : List ℕ) → list_all is_ascii_digit text ≡ true
     → chunk_bytes (Some (chunk_of text)) ≡ (2 ∷ []) ++ number_bytes (run_value text)
@@ -156,14 +144,6 @@ chunk_of_metadata (b ∷ text) all = elim (cases_Bool (not_dot b)) [
       ap (list_all is_identifier_byte) (run_cons not_dot b text passes).0 ∙ rw here left
   | inr fails ↦ ap (list_all is_identifier_byte) (run_none not_dot b text fails).0
 ]
-
--- what follows a place of a text has bytes of the same class
-pub all_behind : (test : ℕ → Bool) (n : ℕ) (text : List ℕ) → list_all test text ≡ true
-    → list_all test (drop n text) ≡ true
-all_behind test n text all =
-    second_so _ _
-    (sym (list_all-append test (take n text) (drop n text))
-    ∙ ap (list_all test) (take-append-drop n text) ∙ all)
 
 -- what follows a chunk is metadata too
 pub rest_of_metadata : (text rest behind : List ℕ) (b : ℕ) → list_all is_metadata_byte text ≡ true

@@ -8,7 +8,7 @@ use Rattle.std.specs.declared.cmp.Ordering.{Ordering}
 use Rattle.std.specs.declared.cmp.Ordering.TheVariants.{Less, Equal, Greater}
 use Rattle.version_rules.specs.key.Tail.{tail_rank}
 use Rattle.version_texts.proofs.lemmas.order.Piece.{pieces_are}
-use Rattle.version_texts.specs.order.Piece.{from_first, further_pieces}
+use Rattle.version_order.specs.texts.Pieces.{from_first, further_pieces}
 use Rattle.version_texts.specs.key.TextKey.{sections_of, tail_of_sections}
 
 -- what follows the byte that divides two pieces, and that nothing does

@@ -1,66 +1,24 @@
 -- The bytes of parts whose texts are runs of letters and digits.
-use Rattle.std.proofs.Common.{◌≡◌, ◌≢◌, ◌==◌, ◌∙◌, ℕ, zero, suc, ◌<◌, true, false, List, [], ◌∷◌, ◌++◌, length, drop, Some, refl, sym, ap, inl, inr, arith, append_assoc, append-nil}
-use Rattle.std.proofs.lemmas.Bool.{and_from, cases_Bool, eqb-true, ne_eqb}
+use Rattle.std.proofs.Common.{◌≡◌, ◌∙◌, ℕ, true, false, List, [], ◌∷◌, ◌++◌, drop, Some, refl, sym, ap, inl, inr, arith, append_assoc, append-nil}
+use Rattle.std.proofs.lemmas.Bool.{and_from, cases_Bool}
 use Rattle.std.proofs.lemmas.Bool.Decides.{nat_tests}
 use Rattle.std.specs.Char.{is_ascii_alphabetic, is_ascii_alphanumeric, is_ascii_digit}
 use Rattle.std.specs.Cmp.{first_so, second_so}
 use Rattle.std.specs.List.{list_all, list_any, prefix_len, take_while}
-use Rattle.std.specs.Str.Parse.{digits_value}
-use Rattle.version_rules.specs.grammar.Bytes.{is_identifier_byte}
-use Rattle.version_rules.specs.grammar.DigitRun.{is_digits, run_value}
-use Rattle.version_rules.specs.grammar.Front.{begins}
-use Rattle.version_rules.specs.key.NumberBytes.{length_bytes, number_bytes}
+use Rattle.version_order.specs.texts.DigitRun.{is_digits, run_value}
+use Rattle.version_order.specs.texts.Front.{begins}
+use Rattle.version_order.specs.keys.NumberBytes.{number_bytes}
 use Rattle.version_rules.specs.key.PartKey.{PartKey, part_bytes, part_key, suffix_bytes, suffix_of}
 use Rattle.version_rules.specs.key.Split.{split_bytes, split_of}
-use Rattle.version_rules.specs.key.TextBytes.{text_byte, text_bytes}
+use Rattle.version_order.specs.keys.TextBytes.{text_bytes}
 use Rattle.version_rules.proofs.lemmas.DigitRun.{split_of-digits, split_of-no_digit}
-use Rattle.version_rules.proofs.lemmas.Front.Runs.{begins-drop, list_all-take_while, all_weaker}
-use Rattle.version_rules.proofs.lemmas.NumberBytes.{number_bytes-digits, digits_of_run, is_zero}
+use Rattle.version_order.proofs.lemmas.Front.Runs.{begins-drop, list_all-take_while, all_weaker}
 use Rattle.version_rules.proofs.lemmas.PartKey.{part_key-digits, part_key-word}
-use Rattle.version_texts.proofs.lemmas.order.Piece.Spelled.{alphanumeric_identifier}
-use Rattle.version_texts.proofs.lemmas.scan.General.Runs.{run_cons}
-use Rattle.version_texts.proofs.lemmas.scan.General.RunsWithin.{begins_inner, begins_neither, digit_alphanumeric, letter_alphanumeric, no_run, run_and_more, zero_digit}
+use Rattle.version_order.proofs.lemmas.Bytes.{alphanumeric_identifier}
+use Rattle.version_order.proofs.lemmas.RunsWithin.{begins_inner, begins_neither, digit_alphanumeric, letter_alphanumeric, no_run, run_and_more}
+use Rattle.version_order.proofs.lemmas.RunBytes.{text_of_run}
 
 -- ---- numbers
-
--- leading zeros do not change the number of a run
-pub zeros_skipped : (text : List ℕ)
-    → run_value (drop (prefix_len is_zero text) text) ≡ run_value text
-zeros_skipped [] = refl
-zeros_skipped (b ∷ text) = elim (cases_Bool (b == 48)) [
-  | inl same ↦
-      let is : b ≡ 48 = eqb-true b 48 same in
-      rw is
-      (ap run_value (run_cons is_zero 48 text refl).1 ∙ zeros_skipped text
-      ∙ sym (ap (digits_value 10) (run_cons is_ascii_digit 48 text refl).0))
-  | inr other ↦ rw other refl
-]
-
--- the bytes of the number of a run: the count of its digits after the zeros, then the digits
-pub number_of_run : (text left digits : List ℕ) → left ≡ drop (prefix_len is_zero text) text
-    → digits ≡ take_while is_ascii_digit left
-    → number_bytes (run_value text) ≡ length_bytes (length digits) ++ digits
-number_of_run text left digits l d =
-    let value : digits_value 10 digits ≡ run_value text =
-    ap (digits_value 10) d ∙ ap run_value l ∙ zeros_skipped text in
-    let canonical : begins is_zero digits ≡ false =
-    ap (begins is_zero) d ∙ begins_inner is_zero is_ascii_digit zero_digit left
-    ∙ ap (begins is_zero) l ∙ begins-drop is_zero text in
-    ap number_bytes (sym value)
-    ∙ number_bytes-digits (digits_value 10 digits) digits
-    (digits_of_run digits (rw d (list_all-take_while is_ascii_digit left)) canonical)
-
--- the bytes of a number of one digit
-pub number_of_digit : (text rest : List ℕ) (digit : ℕ) → text ≡ digit ∷ rest
-    → is_ascii_digit digit ≡ true → digit ≢ 48 → begins is_ascii_digit rest ≡ false
-    → number_bytes (run_value text) ≡ (1 ∷ []) ++ (digit ∷ [])
-number_of_digit text rest digit t passes other ends =
-    let no_zero : (digit == 48) ≡ false = ne_eqb digit 48 other in
-    number_of_run text text (digit ∷ [])
-    (sym (no_run is_zero text (rw t no_zero)).1)
-    (sym
-    (ap (take_while is_ascii_digit) t ∙ (run_cons is_ascii_digit digit rest passes).0
-    ∙ ap (λ (l : List ℕ). digit ∷ l) (no_run is_ascii_digit rest ends).0))
 
 -- no digit follows a run of digits
 no_digit : (text rest : List ℕ) → rest ≡ drop (prefix_len is_ascii_digit text) text
@@ -73,23 +31,6 @@ run_is_digits : (text : List ℕ) → begins is_ascii_digit text ≡ true
 run_is_digits text digit = grind (arith, and_from, begins_inner, list_all-take_while)
 
 -- ---- texts
-
--- every byte but 0 and 1 is written as it is
-as_it_is : (b : ℕ) → 1 < b → text_byte (Some b) ≡ b ∷ []
-as_it_is zero above = absurd (omega arith)
-as_it_is (suc zero) above = absurd (omega arith)
-as_it_is (suc (suc n)) above = refl
-
-identifier_above : (b : ℕ) → is_identifier_byte b ≡ true → 1 < b
-identifier_above b identifier = grind (arith, nat_tests)
-
--- letters, digits and hyphens are written as they are
-pub text_of_run : (run : List ℕ) → list_all is_identifier_byte run ≡ true
-    → text_bytes run ≡ run ++ 0 ∷ []
-text_of_run [] all = refl
-text_of_run (b ∷ run) all =
-    ap (λ (l : List ℕ). l ++ text_bytes run) (as_it_is b (identifier_above b (first_so _ _ all)))
-    ∙ ap (λ (l : List ℕ). b ∷ l) (text_of_run run (second_so _ _ all))
 
 -- the same of letters and digits alone
 plain_text : (run : List ℕ) → list_all is_ascii_alphanumeric run ≡ true

@@ -2,17 +2,18 @@
 use Rattle.std.proofs.Common.{◌≡◌, ◌∙◌, ◌||◌, ℕ, Bool, true, false, List, [], ◌∷◌, ◌++◌, drop, map, refl, sym, ap, arith}
 use Rattle.std.specs.Cmp.{first_so, second_so}
 use Rattle.std.specs.List.{list_all, prefix_len, slice_split, take_while}
-use Rattle.version_rules.specs.key.Codes.{list_bytes}
+use Rattle.version_order.specs.keys.Codes.{list_bytes}
 use Rattle.version_rules.specs.key.PartKey.{PartKey, parts_bytes}
-use Rattle.version_rules.specs.grammar.Sep.{is_sep}
-use Rattle.version_rules.proofs.lemmas.Front.Runs.{begins-drop}
-use Rattle.version_rules.specs.grammar.Front.{begins}
+use Rattle.version_order.specs.texts.Sep.{is_sep}
+use Rattle.version_order.proofs.lemmas.Front.Runs.{begins-drop}
+use Rattle.version_order.specs.texts.Front.{begins}
 use Rattle.version_rules.specs.key.Tail.{held_bytes, section_bytes}
 use Rattle.version_texts.specs.declared.scan.shape.TailKind.TheVariants.{Sections}
-use Rattle.version_texts.specs.scan.Shape.{is_section_byte, is_tail_byte}
+use Rattle.version_texts.specs.scan.Shape.{is_tail_byte}
+use Rattle.version_order.specs.texts.Bytes.{is_section_byte}
 use Rattle.version_texts.specs.key.TextKey.{parts_of, sections_of, tail_of, tail_of_sections}
-use Rattle.version_texts.proofs.lemmas.key.TextKey.DotPieces.{all_behind, last_item, more_items}
-use Rattle.version_texts.proofs.lemmas.scan.General.Runs.{split_end, split_mark, split_some}
+use Rattle.version_texts.proofs.lemmas.key.TextKey.DotPieces.{last_item, more_items}
+use Rattle.version_order.proofs.lemmas.Runs.{all_behind, split_end, split_mark, split_some}
 use Rattle.version_texts.proofs.lemmas.key.TextKey.Sections.{section_no_sep}
 
 -- what follows a section and a sign has bytes of a tail

@@ -5,19 +5,19 @@ use Rattle.std.proofs.lemmas.List.Folds.{list_all-append}
 use Rattle.std.proofs.lemmas.List.Splits.{slice_split_at, slice_split_none}
 use Rattle.std.specs.List.{list_all}
 use Rattle.std.specs.Str.Parse.{digits_value}
-use Rattle.version_rules.specs.grammar.Bytes.{dot}
-use Rattle.version_rules.specs.grammar.DigitRun.{is_digits}
-use Rattle.version_rules.specs.grammar.Grammar.{SpellsDotted, SpellsEach}
+use Rattle.version_order.specs.texts.Bytes.{dot, is_section_byte}
+use Rattle.version_order.specs.texts.DigitRun.{is_digits}
+use Rattle.version_order.specs.texts.Grammar.{SpellsDotted, SpellsEach}
 use Rattle.version_rules.specs.key.PartKey.{section_parts}
-use Rattle.version_rules.specs.grammar.Reading.{EndsRun}
-use Rattle.version_rules.specs.grammar.Sep.{PlainSep, Colon, Hyphen, Plus, Underscore, Tilde, is_sep, sep_byte}
+use Rattle.version_order.specs.texts.Reading.{EndsRun}
+use Rattle.version_order.specs.texts.Sep.{PlainSep, Colon, Hyphen, Plus, Underscore, Tilde, is_sep, sep_byte}
 use Rattle.version_rules.proofs.lemmas.MChunk.{mchunk_printed}
-use Rattle.version_rules.proofs.lemmas.Front.Runs.{all_weaker}
+use Rattle.version_order.proofs.lemmas.Front.Runs.{all_weaker}
 use Rattle.version_rules.specs.key.Key.{section_epoch}
 use Rattle.version_rules.specs.grammar.Mess.{Further, Section, SpellsFurther, SpellsSection}
-use Rattle.version_rules.specs.grammar.Class.{is_mark}
+use Rattle.version_order.specs.texts.Class.{is_mark}
 use Rattle.version_texts.specs.declared.scan.shape.TailKind.TheVariants.{Sections}
-use Rattle.version_texts.specs.scan.Shape.{is_section_byte, is_tail_byte}
+use Rattle.version_texts.specs.scan.Shape.{is_tail_byte}
 use Rattle.version_texts.specs.key.TextKey.{parts_of, sections_of}
 use Rattle.version_texts.proofs.lemmas.scan.Shape.Positions.{and_false}
 use Rattle.version_texts.proofs.lemmas.order.Piece.Spelled.{NonePass, all_pass, none_pass, section_bytes, section_parts-is}

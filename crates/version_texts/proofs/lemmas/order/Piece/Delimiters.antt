@@ -2,11 +2,12 @@
 use Rattle.std.proofs.Common.{◌≡◌, ◌||◌, ℕ, Bool, true, false, arith, refl, sym}
 use Rattle.std.proofs.lemmas.Bool.Decides.{nat_tests}
 use Rattle.std.specs.Char.{is_ascii_digit}
-use Rattle.version_rules.specs.grammar.Bytes.{dot}
+use Rattle.version_order.specs.texts.Bytes.{dot}
 use Rattle.version_texts.specs.declared.order.delimiters.Delimiters.{Delimiters}
 use Rattle.version_texts.specs.declared.order.delimiters.Delimiters.TheVariants.{Dots, Marks}
-use Rattle.version_texts.proofs.lemmas.order.Piece.Spelled.{digit_no_dot}
-use Rattle.version_texts.specs.order.Piece.{delimits, is_dot, sign_of}
+use Rattle.version_order.proofs.lemmas.Bytes.{digit_no_dot}
+use Rattle.version_texts.specs.order.Piece.{delimits, sign_of}
+use Rattle.version_order.specs.texts.Pieces.{is_dot}
 
 or-false : (p : Bool) → (p || false) ≡ p
 or-false true = refl

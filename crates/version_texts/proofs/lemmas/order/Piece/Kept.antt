@@ -12,12 +12,12 @@ use Rattle.version_rules.specs.key.PartKey.{PartKey, part_key}
 use Rattle.version_rules.proofs.lemmas.Lists.{split_last-append}
 use Rattle.version_rules.specs.requirement.Range.{but_last, but_last_or_only, or_others, through_other}
 use Rattle.version_rules.specs.requirement.VersionMatch.{is_plain_zero}
-use Rattle.version_texts.specs.order.Piece.{behind_piece, first_piece, is_dot}
-use Rattle.version_texts.specs.key.TextKey.{parts_of, pieces}
+use Rattle.version_order.specs.texts.Pieces.{behind_piece, first_piece, is_dot, pieces}
+use Rattle.version_texts.specs.key.TextKey.{parts_of}
 use Rattle.version_texts.proofs.lemmas.order.Parts.{parts_begin}
 use Rattle.version_texts.proofs.lemmas.order.Piece.{piece_ends, piece_grows}
 use Rattle.version_texts.proofs.lemmas.order.Piece.Spelled.{NonePass}
-use Rattle.version_texts.proofs.lemmas.scan.General.Splits.{split-append}
+use Rattle.version_texts.proofs.lemmas.scan.Splits.{split-append}
 
 -- a text without dots is one part
 pub one_part : (text : List ℕ) → NonePass is_dot text → parts_of text ≡ part_key text ∷ []

@@ -1,6 +1,5 @@
 -- The pieces of a text between its dots are the texts of the elements of a list that it spells.
-use Rattle.std.proofs.Common.{◌≡◌, ◌∙◌, ℕ, Bool, true, false, List, [], ◌∷◌, ◌++◌, map, refl, sym, ap, arith}
-use Rattle.std.proofs.lemmas.Bool.Decides.{nat_tests}
+use Rattle.std.proofs.Common.{◌≡◌, ◌∙◌, ℕ, Bool, true, false, List, [], ◌∷◌, ◌++◌, map, refl, sym, ap}
 use Rattle.std.proofs.lemmas.List.{map-append, map-id}
 use Rattle.std.proofs.lemmas.List.Elements.{All-cons, All-nil}
 use Rattle.std.proofs.lemmas.List.Folds.{list_all-append}
@@ -9,9 +8,9 @@ use Rattle.std.specs.Char.{is_ascii_alphanumeric, is_ascii_digit}
 use Rattle.std.specs.Cmp.{first_so, second_so}
 use Rattle.std.specs.List.{All, list_all}
 use Rattle.version_rules.specs.grammar.Body.{PlainBody, SpellsBody}
-use Rattle.version_rules.specs.grammar.Bytes.{dot, is_identifier_byte, is_metadata_byte}
+use Rattle.version_order.specs.texts.Bytes.{dot, is_identifier_byte, is_metadata_byte, is_section_byte}
 use Rattle.version_rules.specs.grammar.Chunk.{Alphanum, Numeric, PlainChunk, SpellsChunk, SpellsChunkOf, SpellsPart, chunk_text}
-use Rattle.version_rules.specs.grammar.Grammar.{SpellsDotted}
+use Rattle.version_order.specs.texts.Grammar.{SpellsDotted}
 use Rattle.version_rules.specs.grammar.Last.{last_text}
 use Rattle.version_rules.specs.grammar.MChunk.{PlainMChunk, SpellsMChunk, mchunk_text}
 use Rattle.version_rules.specs.key.PartKey.{chunk_parts, part_key, section_parts}
@@ -19,10 +18,10 @@ use Rattle.version_rules.specs.grammar.Release.{SpellsRelease}
 use Rattle.version_rules.proofs.lemmas.Chunk.{digit_alphanumeric, part_printed}
 use Rattle.version_rules.proofs.lemmas.Last.{last_printed}
 use Rattle.version_rules.proofs.lemmas.MChunk.{mchunk_printed, spelled_run}
-use Rattle.version_rules.proofs.lemmas.Front.Runs.{all_weaker}
-use Rattle.version_texts.specs.order.Piece.{is_dot}
-use Rattle.version_texts.specs.scan.Shape.{is_section_byte}
-use Rattle.version_texts.specs.key.TextKey.{chunk_of, chunks_of, parts_of, pieces}
+use Rattle.version_order.proofs.lemmas.Front.Runs.{all_weaker}
+use Rattle.version_order.specs.texts.Pieces.{is_dot, pieces}
+use Rattle.version_texts.specs.key.TextKey.{chunk_of, chunks_of, parts_of}
+use Rattle.version_order.proofs.lemmas.Bytes.{digit_identifier, identifier_no_dot, alphanumeric_no_dot, alphanumeric_section}
 
 -- no byte of a text passes a test
 abbrev pub NonePass : (ℕ → Bool) → List ℕ → Type 0
@@ -73,26 +72,8 @@ module _ {X : Type 0} (Spells : List ℕ → X → Type 0) where
 
 -- ---- releases
 
-pub digit_identifier : (b : ℕ) → is_ascii_digit b ≡ true → is_identifier_byte b ≡ true
-digit_identifier b h = rw h refl
-
-pub identifier_no_dot : (b : ℕ) → is_identifier_byte b ≡ true → is_dot b ≡ false
-identifier_no_dot b h = grind (arith, nat_tests)
-
-pub alphanumeric_identifier : (b : ℕ) → is_ascii_alphanumeric b ≡ true → is_identifier_byte b ≡ true
-alphanumeric_identifier b h = rw h refl
-
-pub alphanumeric_no_dot : (b : ℕ) → is_ascii_alphanumeric b ≡ true → is_dot b ≡ false
-alphanumeric_no_dot b h = identifier_no_dot b (alphanumeric_identifier b h)
-
-pub digit_no_dot : (b : ℕ) → is_ascii_digit b ≡ true → is_dot b ≡ false
-digit_no_dot b h = identifier_no_dot b (digit_identifier b h)
-
 identifier_metadata : (b : ℕ) → is_identifier_byte b ≡ true → is_metadata_byte b ≡ true
 identifier_metadata b h = rw h refl
-
-pub alphanumeric_section : (b : ℕ) → is_ascii_alphanumeric b ≡ true → is_section_byte b ≡ true
-alphanumeric_section b h = rw h refl
 
 -- a chunk has only bytes that pass its test
 pub chunk_bytes : (test : ℕ → Bool) → ((b : ℕ) → is_ascii_digit b ≡ true → test b ≡ true)

@@ -10,12 +10,12 @@ use Rattle.std.specs.Ordering.{nat_cmp, ordering_then}
 use Rattle.std.specs.declared.cmp.Ordering.{Ordering}
 use Rattle.std.specs.declared.cmp.Ordering.TheVariants.{Less, Equal, Greater}
 use Rattle.version_rules.specs.grammar.Body.{PlainBody, SpellsBody}
-use Rattle.version_rules.specs.grammar.Bytes.{colon, hyphen, plus}
+use Rattle.version_order.specs.texts.Bytes.{colon, hyphen, plus, is_section_byte}
 use Rattle.version_rules.specs.grammar.Chunk.{Alphanum, Numeric, PlainChunk, SpellsPart, chunk_text}
-use Rattle.version_rules.specs.grammar.Grammar.{SpellsDotted, SpellsOptional}
+use Rattle.version_order.specs.texts.Grammar.{SpellsDotted, SpellsOptional}
 use Rattle.version_rules.specs.grammar.Last.{IsLastOf, PlainLast}
 use Rattle.version_rules.specs.order.LastOrder.{last_plain_cmp}
-use Rattle.version_rules.specs.order.Lists.{bytes_cmp}
+use Rattle.version_order.specs.keys.Lists.{bytes_cmp}
 use Rattle.version_rules.specs.grammar.Metadata.{SpellsMetadata}
 use Rattle.version_rules.specs.key.PartKey.{PartKey, part_key}
 use Rattle.version_rules.specs.grammar.Release.{SpellsRelease, release_text}
@@ -24,13 +24,14 @@ use Rattle.version_rules.specs.laws.Release.{release_total}
 use Rattle.version_rules.specs.order.ReleaseOrder.{chunk_cmp, release_cmp}
 use Rattle.version_rules.proofs.lemmas.Chunk.{part_printed, release_printed}
 use Rattle.version_rules.proofs.lemmas.SemVer.{optional_printed}
-use Rattle.version_rules.proofs.lemmas.Orders.{then_assoc}
+use Rattle.version_order.proofs.lemmas.Orders.{then_assoc}
 use Rattle.version_rules.proofs.lemmas.Numeral.{numeral_printed}
 use Rattle.version_rules.specs.key.Key.{Key, key_of_version}
 use Rattle.version_rules.specs.grammar.Version.{PlainVersion, SpellsEpoch, SpellsVersion, epoch_text}
 use Rattle.version_rules.specs.order.VersionOrder.{version_plain_cmp}
-use Rattle.version_texts.specs.scan.Shape.{body_start, from_body, is_section_byte}
-use Rattle.version_texts.specs.key.TextKey.{parts_of, pieces}
+use Rattle.version_texts.specs.scan.Shape.{body_start, from_body}
+use Rattle.version_texts.specs.key.TextKey.{parts_of}
+use Rattle.version_order.specs.texts.Pieces.{pieces}
 use Rattle.version_texts.specs.order.Ties.{general_tie, parts_tie}
 use Rattle.version_texts.proofs.lemmas.order.Piece.Spelled.{body_parts, body_pieces}
 use Rattle.version_texts.proofs.lemmas.scan.Shape.{version_cut}

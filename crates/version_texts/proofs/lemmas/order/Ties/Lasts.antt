@@ -11,26 +11,24 @@ use Rattle.std.specs.List.{list_all, list_any, prefix_len, take_while}
 use Rattle.std.specs.Str.Parse.{digits_value}
 use Rattle.std.specs.declared.cmp.Ordering.TheVariants.{Equal}
 use Rattle.version_rules.specs.grammar.Chunk.{PlainChunk, SpellsPart, chunk_text}
-use Rattle.version_rules.specs.grammar.DigitRun.{starts_with_digit}
-use Rattle.version_rules.specs.grammar.Front.{begins}
+use Rattle.version_order.specs.texts.DigitRun.{starts_with_digit, behind_digits}
+use Rattle.version_order.specs.texts.Front.{begins}
 use Rattle.version_rules.specs.grammar.Last.{Alphanum, IsLastOf, IsLetters, IsOther, Numeric, PlainLast, Post, Rc, SpellsPost, SpellsRc}
 use Rattle.version_rules.specs.order.LastOrder.{last_plain_cmp}
-use Rattle.version_rules.specs.order.Lists.{bytes_cmp}
+use Rattle.version_order.specs.keys.Lists.{bytes_cmp}
 use Rattle.version_rules.specs.grammar.Numeral.{SpellsNumeral}
 use Rattle.version_rules.specs.key.PartKey.{Number, PartKey, Word, part_key, suffix_of}
 use Rattle.version_rules.specs.key.Split.{Split, split_of}
 use Rattle.version_rules.proofs.lemmas.DigitRun.{split_of-digits, split_of-no_digit}
-use Rattle.version_rules.proofs.lemmas.Front.Runs.{list_all-take_while, prefix_len-append}
+use Rattle.version_order.proofs.lemmas.Front.Runs.{list_all-take_while, prefix_len-append}
 use Rattle.version_rules.proofs.lemmas.Last.{last_of-only}
 use Rattle.version_rules.proofs.lemmas.OrderLaws.{last_plain_equal}
 use Rattle.version_rules.proofs.lemmas.PartKey.{part_key-digits, plain_number}
-use Rattle.version_rules.proofs.lemmas.Bytes.{letter_other}
-use Rattle.version_texts.specs.order.Piece.{behind_digits}
+use Rattle.version_order.proofs.lemmas.Bytes.{letter_other}
 use Rattle.version_texts.specs.scan.TextKind.{is_numeral}
 use Rattle.version_texts.specs.versioning_ref.Numbers.{after_letters}
 use Rattle.version_texts.specs.order.Ties.{is_lettered, is_numbered, last_tie}
-use Rattle.version_texts.proofs.lemmas.scan.General.Runs.{run_cons}
-use Rattle.version_texts.proofs.lemmas.key.TextKey.DotPieces.{is_run}
+use Rattle.version_order.proofs.lemmas.Runs.{run_cons, run_is}
 use Rattle.version_texts.proofs.lemmas.scan.TextKind.Chunks.{digits_from, numeral_passes, numeral_spells}
 use Rattle.version_texts.proofs.lemmas.order.Ties.Variants.{number_key}
 use Rattle.version_rules.specs.grammar.Chunk as chunk
@@ -190,7 +188,7 @@ digits_numbered : (text : List ℕ) → list_all is_ascii_digit text ≡ true
     → is_numbered text ≡ false
 digits_numbered text all =
     let none : behind_digits text ≡ [] =
-    nil_from_length (behind_digits text) (eqb-true _ 0 (is_run is_ascii_digit text ∙ all)) in
+    nil_from_length (behind_digits text) (eqb-true _ 0 (run_is is_ascii_digit text ∙ all)) in
     ap (λ (l : List ℕ). is_lettered l && is_numeral (take_while is_ascii_digit text)) none
 
 -- ---- last parts of one key

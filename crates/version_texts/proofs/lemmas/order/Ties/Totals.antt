@@ -6,7 +6,7 @@ use Rattle.std.specs.Cmp.{IsTotalOrder, tied_itself}
 use Rattle.std.specs.Cmp.Lexicographic.{options_total}
 use Rattle.std.specs.Option.{option_cmp}
 use Rattle.std.specs.declared.cmp.Ordering.TheVariants.{Equal}
-use Rattle.version_rules.specs.order.Lists.{bytes_cmp, split_last}
+use Rattle.version_order.specs.keys.Lists.{bytes_cmp, split_last}
 use Rattle.version_texts.specs.scan.Shape.{body_start, from_body}
 use Rattle.version_texts.specs.order.Ties.{bodies_tie, general_tie, is_numbered, last_tie, parts_tie}
 

@@ -11,20 +11,20 @@ use Rattle.std.specs.List.{before_first, list_all, position_or_len, prefix_len}
 use Rattle.std.specs.Ordering.{nat_cmp, ordering_then}
 use Rattle.std.specs.Str.Parse.{digits_value}
 use Rattle.std.specs.declared.cmp.Ordering.TheVariants.{Less, Equal}
-use Rattle.version_rules.specs.grammar.DigitRun.{is_digits, number_front, run_value, starts_with_digit}
-use Rattle.version_rules.specs.order.Lists.{bytes_cmp}
+use Rattle.version_order.specs.texts.DigitRun.{is_digits, number_front, run_value, starts_with_digit, behind_digits}
+use Rattle.version_order.specs.keys.Lists.{bytes_cmp}
 use Rattle.version_rules.specs.grammar.MChunk.{Digits, Plain, PlainMChunk, Rev, SpellsDigits, SpellsMChunk, SpellsRevision, mchunk_plain_cmp, mchunk_text}
-use Rattle.version_rules.specs.laws.Order.{then_first}
+use Rattle.version_order.specs.keys.OrderLaws.{then_first}
 use Rattle.version_rules.specs.key.PartKey.{Number, Word, part_key, suffix_of}
 use Rattle.version_rules.specs.key.Split.{Split, split_of}
 use Rattle.version_rules.proofs.lemmas.DigitRun.{split_of-digits}
-use Rattle.version_rules.proofs.lemmas.Front.Runs.{all_weaker, take_while-all}
+use Rattle.version_order.proofs.lemmas.Front.Runs.{all_weaker, take_while-all}
 use Rattle.version_rules.proofs.lemmas.MChunk.{spelled_run}
 use Rattle.version_rules.proofs.lemmas.PartKey.{part_key-digits, part_key-word}
-use Rattle.version_rules.proofs.lemmas.PartOrder.{numbers_compared}
-use Rattle.version_rules.proofs.lemmas.NumberBytes.{is_zero}
-use Rattle.version_texts.specs.order.Piece.{behind_digits, from_first}
-use Rattle.version_texts.proofs.lemmas.key.TextKey.DotPieces.{is_run}
+use Rattle.version_order.proofs.lemmas.NumberOrder.{numbers_compared}
+use Rattle.version_order.proofs.lemmas.NumberBytes.{is_zero}
+use Rattle.version_order.specs.texts.Pieces.{from_first}
+use Rattle.version_order.proofs.lemmas.Runs.{run_is}
 
 -- ---- the texts that a number or a word is the key of
 
@@ -36,7 +36,7 @@ whole_number text n e = elim (cases_Bool (starts_with_digit text)) [
       let front : (run_value text, behind_digits text) ≡ (n, []) = cc (rw digit at e) in
       let rest : behind_digits text ≡ [] = ap (λ (p : ℕ × List ℕ). p.1) front in
       let all : list_all is_ascii_digit text ≡ true =
-      sym (is_run is_ascii_digit text) ∙ ap (λ (l : List ℕ). length l == 0) rest in
+      sym (run_is is_ascii_digit text) ∙ ap (λ (l : List ℕ). length l == 0) rest in
       let value : digits_value 10 text ≡ n =
       ap (digits_value 10) (sym (take_while-all is_ascii_digit text all))
       ∙ ap (λ (p : ℕ × List ℕ). p.0) front in
@@ -153,7 +153,7 @@ zeros_of_value text all e =
     let count : length left ≡ 0 =
     nat_cmp-IsAntisymmetric (length left) 0
     (then_first _ _ (sym (numbers_compared text [] all refl) ∙ tied)) in
-    sym (is_run is_zero text) ∙ ap (λ n. n == 0) count
+    sym (run_is is_zero text) ∙ ap (λ n. n == 0) count
 
 digits_are_zeros : (text : List ℕ) (n : ℕ) → SpellsDigits text n → n ≡ 0
     → list_all is_zero text ≡ true

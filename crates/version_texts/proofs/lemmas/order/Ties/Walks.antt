@@ -7,13 +7,11 @@ use Rattle.std.specs.List.{prefix_len, take_while}
 use Rattle.std.specs.Ordering.{MatchOrdering, nat_cmp, ordering_then}
 use Rattle.std.specs.declared.cmp.Ordering.{Ordering}
 use Rattle.std.specs.declared.cmp.Ordering.TheVariants.{Less, Equal, Greater}
-use Rattle.version_rules.specs.grammar.Bytes.{dot}
-use Rattle.version_rules.specs.grammar.Front.{begins}
-use Rattle.version_rules.specs.order.Lists.{bytes_cmp}
-use Rattle.version_rules.proofs.lemmas.Orders.{then_assoc}
-use Rattle.version_texts.specs.order.Piece.{is_dot}
-use Rattle.version_texts.specs.scan.Shape.{is_section_byte}
-use Rattle.version_texts.specs.key.TextKey.{pieces}
+use Rattle.version_order.specs.texts.Bytes.{dot, is_section_byte}
+use Rattle.version_order.specs.texts.Front.{begins}
+use Rattle.version_order.specs.keys.Lists.{bytes_cmp}
+use Rattle.version_order.proofs.lemmas.Orders.{then_assoc}
+use Rattle.version_order.specs.texts.Pieces.{is_dot, pieces}
 use Rattle.version_texts.specs.order.Ties.{bodies_tie, last_tie, messy_tie, parts_tie}
 use Rattle.version_texts.proofs.lemmas.order.Piece.{pieces_are}
 use Rattle.version_texts.proofs.lemmas.key.TextKey.DotPieces.{next_part, only_part, rest_and_more, rest_of_last}

@@ -7,11 +7,11 @@ use Rattle.std.specs.List.{list_all}
 use Rattle.std.specs.Option.{option_map}
 use Rattle.std.specs.Prelude.{slice_range}
 use Rattle.std.specs.Str.Parse.{digits_value}
-use Rattle.version_rules.specs.grammar.Bytes.{colon}
-use Rattle.version_rules.specs.grammar.DigitRun.{is_digits}
-use Rattle.version_rules.specs.grammar.Front.{begins}
-use Rattle.version_rules.specs.grammar.Grammar.{SpellsEach}
-use Rattle.version_rules.specs.grammar.Sep.{PlainSep, Colon, Hyphen, Plus, Underscore, Tilde, sep_byte}
+use Rattle.version_order.specs.texts.Bytes.{colon}
+use Rattle.version_order.specs.texts.DigitRun.{is_digits}
+use Rattle.version_order.specs.texts.Front.{begins}
+use Rattle.version_order.specs.texts.Grammar.{SpellsEach}
+use Rattle.version_order.specs.texts.Sep.{PlainSep, Colon, Hyphen, Plus, Underscore, Tilde, sep_byte}
 use Rattle.version_rules.specs.key.Key.{key_behind_epoch, key_from_first, key_of_sections, mess_epoch, sections_tail}
 use Rattle.version_rules.specs.grammar.Mess.{Further, PlainMess, Section, SpellsFurther, SpellsMess, SpellsSection, joined_section}
 use Rattle.version_texts.specs.declared.scan.shape.TailKind.TheVariants.{Nothing, Sections}

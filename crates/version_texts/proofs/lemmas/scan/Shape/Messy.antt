@@ -7,17 +7,17 @@ use Rattle.std.specs.Char.{is_ascii_alphanumeric, is_ascii_digit}
 use Rattle.std.specs.Cmp.{first_so, second_so}
 use Rattle.std.specs.List.{list_all, prefix_len}
 use Rattle.std.specs.Option.{option_map}
-use Rattle.version_rules.proofs.lemmas.Bytes.{digits_alphanumeric}
-use Rattle.version_rules.specs.grammar.Bytes.{colon, dot}
-use Rattle.version_rules.specs.grammar.DigitRun.{starts_with_digit}
-use Rattle.version_rules.specs.grammar.Front.{begins}
+use Rattle.version_order.proofs.lemmas.Bytes.{digits_alphanumeric}
+use Rattle.version_order.specs.texts.Bytes.{colon, dot}
+use Rattle.version_order.specs.texts.DigitRun.{starts_with_digit}
+use Rattle.version_order.specs.texts.Front.{begins, is_run}
 use Rattle.version_rules.specs.declared.kind.Kind.TheVariants.{Complex}
 use Rattle.version_texts.specs.scan.Shape.{behind_body, body_end, body_start, digits_len, from_body, has_epoch, shape_at}
-use Rattle.version_texts.specs.key.TextKey.{pieces}
-use Rattle.version_texts.specs.scan.TextKind.{are_marked_runs, body_of, is_general, is_messy, is_run, kind_in, section_end, section_pieces}
+use Rattle.version_order.specs.texts.Pieces.{pieces}
+use Rattle.version_texts.specs.scan.TextKind.{are_marked_runs, body_of, is_general, is_messy, kind_in, section_end, section_pieces}
 use Rattle.version_texts.specs.declared.scan.shape.TailKind.TheVariants.{Nothing, Sections}
 use Rattle.version_texts.proofs.lemmas.scan.TextKind.Messy.{messy_empty, messy_next}
-use Rattle.version_texts.proofs.lemmas.scan.General.Runs.{behind_mark, behind_run, larger_run}
+use Rattle.version_order.proofs.lemmas.Runs.{behind_mark, behind_run, larger_run}
 use Rattle.version_texts.proofs.lemmas.scan.Shape.Section.{empty_piece, end_last, end_next, pieces_last, pieces_next}
 use Rattle.version_texts.proofs.lemmas.scan.TextKind.Runs.{run_some}
 

@@ -6,13 +6,13 @@ use Rattle.std.proofs.lemmas.List.{drop_at}
 use Rattle.std.specs.Char.{is_ascii_digit}
 use Rattle.std.specs.Cmp.{first_so, second_so}
 use Rattle.std.specs.List.{list_all}
-use Rattle.version_rules.specs.grammar.Bytes.{colon}
-use Rattle.version_rules.specs.grammar.DigitRun.{is_digits}
-use Rattle.version_rules.specs.grammar.Front.{begins}
-use Rattle.version_rules.specs.grammar.Reading.{EndsRun}
-use Rattle.version_rules.proofs.lemmas.Front.Runs.{prefix_len-append, all_weaker}
-use Rattle.version_texts.proofs.lemmas.scan.General.Runs.{run_cons, run_none}
-use Rattle.version_texts.specs.scan.Shape.{behind_body, body_end, body_start, digits_len, from_body, has_epoch, is_section_byte}
+use Rattle.version_order.specs.texts.Bytes.{colon, is_section_byte}
+use Rattle.version_order.specs.texts.DigitRun.{is_digits}
+use Rattle.version_order.specs.texts.Front.{begins}
+use Rattle.version_order.specs.texts.Reading.{EndsRun}
+use Rattle.version_order.proofs.lemmas.Front.Runs.{prefix_len-append, all_weaker}
+use Rattle.version_order.proofs.lemmas.Runs.{run_cons, run_none}
+use Rattle.version_texts.specs.scan.Shape.{behind_body, body_end, body_start, digits_len, from_body, has_epoch}
 
 -- whether a byte is a colon
 abbrev pub is_colon : ℕ → Bool

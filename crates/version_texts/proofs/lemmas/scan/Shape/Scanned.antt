@@ -8,17 +8,17 @@ use Rattle.std.specs.Char.{is_ascii_alphanumeric, is_ascii_digit}
 use Rattle.std.specs.Cmp.{first_so, second_so}
 use Rattle.std.specs.List.{join_with_byte, list_all, prefix_len, take_while}
 use Rattle.std.specs.Option.{option_map}
-use Rattle.version_rules.proofs.lemmas.Front.Runs.{begins-drop, list_all-take_while}
-use Rattle.version_rules.proofs.lemmas.Bytes.{digits_alphanumeric}
-use Rattle.version_rules.specs.grammar.Bytes.{colon, dot}
-use Rattle.version_rules.specs.grammar.DigitRun.{is_digits, starts_with_digit}
-use Rattle.version_rules.specs.grammar.Front.{begins}
-use Rattle.version_texts.specs.scan.Shape.{body_end, body_start, digits_len, has_epoch, is_section_byte, shape_at}
-use Rattle.version_texts.specs.key.TextKey.{pieces}
-use Rattle.version_texts.specs.scan.TextKind.{body_of, epoch_is_numeral, has_three_numbers, is_chunk, is_messy, is_numeral, is_run, kind_in, section_end, section_pieces}
+use Rattle.version_order.proofs.lemmas.Front.Runs.{begins-drop, list_all-take_while}
+use Rattle.version_order.proofs.lemmas.Bytes.{digits_alphanumeric}
+use Rattle.version_order.specs.texts.Bytes.{colon, dot, is_section_byte}
+use Rattle.version_order.specs.texts.DigitRun.{is_digits, starts_with_digit}
+use Rattle.version_order.specs.texts.Front.{begins, is_run}
+use Rattle.version_texts.specs.scan.Shape.{body_end, body_start, digits_len, has_epoch, shape_at}
+use Rattle.version_order.specs.texts.Pieces.{pieces}
+use Rattle.version_texts.specs.scan.TextKind.{body_of, epoch_is_numeral, has_three_numbers, is_chunk, is_messy, is_numeral, kind_in, section_end, section_pieces}
 use Rattle.version_texts.proofs.lemmas.order.Piece.Spelled.{none_pass}
 use Rattle.version_texts.proofs.lemmas.scan.Shape.Positions.{has_epoch-append}
-use Rattle.version_texts.proofs.lemmas.scan.General.Runs.{and-false, behind_mark, larger_run}
+use Rattle.version_order.proofs.lemmas.Runs.{and-false, behind_mark, larger_run}
 use Rattle.version_texts.proofs.lemmas.scan.Shape.Messy.{messy_bad, messy_behind_epoch, some_digits}
 use Rattle.version_texts.proofs.lemmas.scan.Shape.Section.{and-true, end_last, pieces_last}
 use Rattle.version_texts.proofs.lemmas.scan.TextKind.Runs.{chunk_digits, run_some}

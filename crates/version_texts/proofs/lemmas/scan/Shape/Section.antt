@@ -1,32 +1,17 @@
 -- The pieces of a section, from a place of a text on.
-use Rattle.std.proofs.Common.{◌≡◌, ◌==◌, ◌&&◌, ◌+◌, ◌<◌, ℕ, Bool, true, false, List, [], ◌∷◌, drop, length, refl, sym, ◌∙◌, arith}
+use Rattle.std.proofs.Common.{◌≡◌, ◌==◌, ◌&&◌, ◌+◌, ℕ, Bool, true, false, List, [], ◌∷◌, drop, refl, sym, ◌∙◌, arith}
 use Rattle.std.proofs.lemmas.Bool.{cases_Bool}
 use Rattle.std.proofs.lemmas.Bool.Decides.{nat_tests}
-use Rattle.std.proofs.lemmas.List.{length-drop}
 use Rattle.std.specs.Char.{is_ascii_alphanumeric}
 use Rattle.std.specs.List.{list_all, prefix_len, take_while}
-use Rattle.version_rules.proofs.lemmas.Front.Runs.{begins-drop}
-use Rattle.version_rules.specs.grammar.Bytes.{dot}
-use Rattle.version_rules.specs.grammar.Front.{begins}
-use Rattle.version_texts.specs.scan.Shape.{is_section_byte}
-use Rattle.version_texts.specs.scan.TextKind.{is_run, section_end, section_pieces}
-use Rattle.version_texts.proofs.lemmas.scan.General.Runs.{behind_mark, behind_run, larger_run, last_piece, next_piece}
+use Rattle.version_order.proofs.lemmas.Front.Runs.{begins-drop}
+use Rattle.version_order.specs.texts.Bytes.{dot, is_section_byte}
+use Rattle.version_order.specs.texts.Front.{begins, is_run}
+use Rattle.version_texts.specs.scan.TextKind.{section_end, section_pieces}
+use Rattle.version_order.proofs.lemmas.Runs.{behind_mark, behind_run, larger_run, last_piece, next_piece, run_in_section}
 
 pub no_dot_in_run : (b : ℕ) → is_ascii_alphanumeric b ≡ true → (b == dot) ≡ false
 no_dot_in_run b h = grind (arith, nat_tests)
-
-pub run_in_section : (b : ℕ) → is_ascii_alphanumeric b ≡ true → is_section_byte b ≡ true
-run_in_section b h = rw h refl
-
-at_some : (test : ℕ → Bool) (text : List ℕ) → begins test text ≡ true → 0 < length text
-at_some test [] e = cc e
-at_some test (b ∷ text) e = omega arith
-
--- a byte stands at a place within the text
-pub begins_within : (test : ℕ → Bool) (text : List ℕ) (place : ℕ)
-    → begins test (drop place text) ≡ true → place < length text
-begins_within test text place e =
-    omega (arith, at_some test (drop place text) e, length-drop place text)
 
 neither : (text : List ℕ) → begins is_ascii_alphanumeric text ≡ false
     → begins (λ b. b == dot) text ≡ false → begins is_section_byte text ≡ false

@@ -7,18 +7,17 @@ use Rattle.std.specs.Cmp.{first_so, second_so}
 use Rattle.std.specs.List.{list_all}
 use Rattle.std.specs.Option.{is_some}
 use Rattle.std.specs.Str.Parse.{digits_value}
-use Rattle.version_rules.specs.grammar.Bytes.{dot}
+use Rattle.version_order.specs.texts.Bytes.{dot}
 use Rattle.version_rules.specs.grammar.Chunk.{PlainChunk, Numeric, Alphanum, SpellsChunkOf}
-use Rattle.version_rules.specs.grammar.DigitRun.{is_digits}
-use Rattle.version_rules.specs.grammar.Front.{begins}
-use Rattle.version_rules.specs.grammar.Grammar.{SpellsDotted}
+use Rattle.version_order.specs.texts.DigitRun.{is_digits}
+use Rattle.version_order.specs.texts.Front.{begins, is_run}
+use Rattle.version_order.specs.texts.Grammar.{SpellsDotted}
 use Rattle.version_rules.specs.grammar.Numeral.{HasNoLeadingZero, SpellsNumeral}
-use Rattle.version_texts.specs.key.TextKey.{pieces}
-use Rattle.version_texts.specs.scan.TextKind.{is_chunk, is_numeral, is_run}
-use Rattle.version_texts.specs.order.Piece.{is_dot}
+use Rattle.version_order.specs.texts.Pieces.{pieces, is_dot}
+use Rattle.version_texts.specs.scan.TextKind.{is_chunk, is_numeral}
 use Rattle.version_texts.proofs.lemmas.scan.TextKind.Numeral.{some_digits}
 use Rattle.version_texts.proofs.lemmas.order.Piece.Spelled.{chunk_bytes}
-use Rattle.version_texts.proofs.lemmas.scan.General.Splits.{JoinedBy, dotted_more, dotted_one, dotted_pass, split_is_joined, split_run}
+use Rattle.version_texts.proofs.lemmas.scan.Splits.{JoinedBy, dotted_more, dotted_one, dotted_pass, split_is_joined, split_run}
 
 -- ---- runs
 

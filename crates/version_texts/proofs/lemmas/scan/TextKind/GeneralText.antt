@@ -9,25 +9,25 @@ use Rattle.std.specs.List.{list_all, prefix_len, take_while}
 use Rattle.std.specs.Option.{is_some}
 use Rattle.std.specs.Str.Parse.{digits_value}
 use Rattle.version_rules.specs.grammar.Body.{PlainBody, SpellsBody}
-use Rattle.version_rules.specs.grammar.Bytes.{colon}
+use Rattle.version_order.specs.texts.Bytes.{colon, is_section_byte}
 use Rattle.version_rules.specs.grammar.Chunk.{PlainChunk, SpellsPart}
-use Rattle.version_rules.specs.grammar.Grammar.{SpellsDotted}
+use Rattle.version_order.specs.texts.Grammar.{SpellsDotted}
 use Rattle.version_rules.specs.grammar.Last.{last_of}
-use Rattle.version_rules.specs.order.Lists.{split_last}
+use Rattle.version_order.specs.keys.Lists.{split_last}
 use Rattle.version_rules.proofs.lemmas.Body.{split_last-whole}
 use Rattle.version_rules.proofs.lemmas.Chunk.{digit_alphanumeric}
-use Rattle.version_rules.proofs.lemmas.Front.Repeated.{cases_Option}
+use Rattle.version_order.proofs.lemmas.Front.Repeated.{cases_Option}
 use Rattle.version_rules.proofs.lemmas.Last.{last_of-is}
-use Rattle.version_rules.proofs.lemmas.Front.Runs.{prefix_len-append}
+use Rattle.version_order.proofs.lemmas.Front.Runs.{prefix_len-append}
 use Rattle.version_rules.specs.grammar.Version.{PlainVersion, SpellsEpoch, SpellsVersion, version_of}
 use Rattle.version_rules.proofs.lemmas.Version.{version_of-Some, version_of-spells}
-use Rattle.version_texts.specs.scan.Shape.{behind_body, body_end, body_start, digits_len, from_body, has_epoch, is_section_byte}
-use Rattle.version_texts.specs.key.TextKey.{pieces}
+use Rattle.version_texts.specs.scan.Shape.{behind_body, body_end, body_start, digits_len, from_body, has_epoch}
+use Rattle.version_order.specs.texts.Pieces.{pieces}
 use Rattle.version_texts.specs.scan.TextKind.{body_of, epoch_is_numeral, is_chunk, is_general, is_numeral, is_tail}
 use Rattle.version_texts.proofs.lemmas.scan.TextKind.Chunks.{dotted_passes, dotted_spells, numeral_passes, numeral_spells, told_by_test}
-use Rattle.version_texts.proofs.lemmas.order.Piece.Spelled.{alphanumeric_no_dot}
+use Rattle.version_order.proofs.lemmas.Bytes.{alphanumeric_no_dot}
 use Rattle.version_texts.proofs.lemmas.scan.Shape.Positions.{IsCut, behind_body-is, from_body-is}
-use Rattle.version_texts.proofs.lemmas.scan.General.Runs.{behind_mark}
+use Rattle.version_order.proofs.lemmas.Runs.{behind_mark}
 use Rattle.version_texts.proofs.lemmas.scan.TextKind.Tail.{tail_passes, tail_spells}
 use Rattle.version_texts.proofs.lemmas.scan.Shape.{version_cut}
 

@@ -1,17 +1,16 @@
 -- Runs between marks, and the metadata at the end of a text.
-use Rattle.std.proofs.Common.{sym, ◌&&◌, ◌≡◌, ◌≢◌, ◌==◌, ◌+◌, ◌<◌, ℕ, Bool, true, false, List, [], ◌∷◌, drop, get_or, length, refl, ap, ◌∙◌, arith, inl, inr, add-one}
+use Rattle.std.proofs.Common.{sym, ◌&&◌, ◌≡◌, ◌≢◌, ◌==◌, ◌+◌, ◌<◌, ℕ, Bool, true, false, List, [], ◌∷◌, drop, get_or, length, refl, ap, ◌∙◌, arith, inl, inr}
 use Rattle.std.proofs.lemmas.Bool.{cases_Bool, ne_eqb}
 use Rattle.std.proofs.lemmas.Bool.Decides.{nat_tests}
 use Rattle.std.proofs.lemmas.List.{drop_all, length-drop}
-use Rattle.std.proofs.Math.Seq.{drop-cons}
 use Rattle.std.specs.Char.{is_ascii_alphanumeric}
 use Rattle.std.specs.List.{take_while, list_all, prefix_len}
-use Rattle.version_rules.specs.grammar.Bytes.{is_metadata_byte}
-use Rattle.version_rules.specs.grammar.Class.{is_mark}
-use Rattle.version_texts.specs.scan.TextKind.{are_marked_runs, is_messy, is_metadata_tail, is_run}
-use Rattle.version_texts.proofs.lemmas.scan.General.Runs.{and-false, behind_run, split_end, split_mark, split_other}
+use Rattle.version_order.specs.texts.Bytes.{is_metadata_byte}
+use Rattle.version_order.specs.texts.Class.{is_mark}
+use Rattle.version_texts.specs.scan.TextKind.{are_marked_runs, is_messy, is_metadata_tail}
+use Rattle.version_order.specs.texts.Front.{is_run}
+use Rattle.version_order.proofs.lemmas.Runs.{and-false, behind_run, split_end, split_mark, split_other, run_is as is_run_of, at_byte}
 use Rattle.std.proofs.lemmas.List.Sums.{prefix_len-le-length}
-use Rattle.version_texts.proofs.lemmas.key.TextKey.DotPieces.{is_run as is_run_of}
 use Rattle.version_texts.proofs.lemmas.scan.TextKind.Runs.{run_empty, run_some}
 
 pub no_mark_in_run : (b : ℕ) → is_ascii_alphanumeric b ≡ true → is_mark b ≡ false
@@ -45,10 +44,6 @@ pub messy_empty : (text : List ℕ) → prefix_len is_ascii_alphanumeric text �
 messy_empty text none = messy_by text _ refl ∙ rw (run_empty is_ascii_alphanumeric text none) refl
 
 -- ---- from a place on
-
-pub at_byte : (text : List ℕ) (place : ℕ) → place < length text
-    → drop place text ≡ get_or text place 0 ∷ drop (place + 1) text
-at_byte text place inside = rw add-one (drop-cons text place 0 inside)
 
 module _ (text : List ℕ) (place : ℕ) (inside : place < length text) where
   module _ (marked : is_mark (get_or text place 0) ≡ true) (end : ℕ)

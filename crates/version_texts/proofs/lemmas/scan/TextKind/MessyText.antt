@@ -6,22 +6,22 @@ use Rattle.std.specs.Char.{is_ascii_alphanumeric}
 use Rattle.std.specs.Cmp.{second_so}
 use Rattle.std.specs.List.{list_all, slice_split}
 use Rattle.std.specs.Option.{is_some}
-use Rattle.version_rules.specs.grammar.Bytes.{dot}
-use Rattle.version_rules.specs.grammar.Front.{run_front}
-use Rattle.version_rules.specs.grammar.Grammar.{SpellsEach}
+use Rattle.version_order.specs.texts.Bytes.{dot}
+use Rattle.version_order.specs.texts.Front.{run_front, is_run}
+use Rattle.version_order.specs.texts.Grammar.{SpellsEach}
 use Rattle.version_rules.specs.grammar.MChunk.{PlainMChunk, SpellsMChunk, chunk_before, mchunk_front}
-use Rattle.version_rules.specs.grammar.Sep.{PlainSep, is_sep, sep_byte}
-use Rattle.version_rules.proofs.lemmas.Front.Repeated.{cases_Option}
+use Rattle.version_order.specs.texts.Sep.{PlainSep, is_sep, sep_byte}
+use Rattle.version_order.proofs.lemmas.Front.Repeated.{cases_Option}
 use Rattle.version_rules.proofs.lemmas.MChunk.{byte_of_sep, mchunk_sound, spelled_run, spelled_some}
-use Rattle.version_rules.proofs.lemmas.Front.Runs.{run_front-reads}
+use Rattle.version_order.proofs.lemmas.Front.Runs.{run_front-reads}
 use Rattle.version_rules.specs.grammar.Mess.{Further, PlainMess, mess_of, Section, SpellsFurther, SpellsMess, SpellsSection}
 use Rattle.version_rules.proofs.lemmas.Mess.{mess_of-Some, mess_of-spells}
-use Rattle.version_rules.specs.grammar.Class.{is_mark}
-use Rattle.version_texts.specs.scan.TextKind.{is_messy, is_run}
+use Rattle.version_order.specs.texts.Class.{is_mark}
+use Rattle.version_texts.specs.scan.TextKind.{is_messy}
 use Rattle.version_texts.proofs.lemmas.scan.TextKind.Chunks.{run_from, run_some, told_by_test}
 use Rattle.version_texts.proofs.lemmas.scan.TextKind.Messy.{no_mark_in_run}
 use Rattle.version_texts.proofs.lemmas.key.TextKey.Sections.{sign_bytes}
-use Rattle.version_texts.proofs.lemmas.scan.General.Splits.{JoinedBy, both_pass, dotted_more, dotted_one, dotted_pass, split_is_joined, split_run}
+use Rattle.version_texts.proofs.lemmas.scan.Splits.{JoinedBy, both_pass, dotted_more, dotted_one, dotted_pass, split_is_joined, split_run}
 
 -- ---- what spells a messy version passes
 

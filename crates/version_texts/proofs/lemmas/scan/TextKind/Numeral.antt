@@ -7,8 +7,8 @@ use Rattle.std.specs.Cmp.{second_so}
 use Rattle.std.specs.List.{list_all}
 use Rattle.std.specs.Str.Parse.{digits_value}
 use Rattle.version_rules.proofs.lemmas.Numeral.{nine_digits}
-use Rattle.version_rules.specs.grammar.DigitRun.{is_digits}
-use Rattle.version_texts.proofs.lemmas.scan.General.Runs.{and-false}
+use Rattle.version_order.specs.texts.DigitRun.{is_digits}
+use Rattle.version_order.proofs.lemmas.Runs.{and-false}
 use Rattle.version_texts.specs.scan.TextKind.{is_numeral}
 
 pub all_digits : (text : List ℕ) → is_digits text ≡ true → list_all is_ascii_digit text ≡ true

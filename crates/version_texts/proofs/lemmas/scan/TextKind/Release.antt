@@ -4,13 +4,13 @@ use Rattle.std.proofs.lemmas.Bool.{cases_Bool, eqb-true}
 use Rattle.std.proofs.lemmas.Bool.Decides.{nat_tests}
 use Rattle.std.proofs.lemmas.List.{drop-drop}
 use Rattle.std.specs.List.{list_all, prefix_len, take_while}
-use Rattle.version_rules.specs.grammar.Bytes.{dot, hyphen, is_identifier_byte, plus}
-use Rattle.version_rules.specs.grammar.Front.{begins}
-use Rattle.version_texts.specs.key.TextKey.{pieces}
+use Rattle.version_order.specs.texts.Bytes.{dot, hyphen, is_identifier_byte, plus}
+use Rattle.version_order.specs.texts.Front.{begins}
+use Rattle.version_order.specs.texts.Pieces.{pieces}
 use Rattle.version_texts.specs.scan.TextKind.{is_chunk, is_metadata_tail, is_not_plus, is_released, is_tail}
-use Rattle.version_texts.proofs.lemmas.order.Piece.Spelled.{identifier_no_dot}
+use Rattle.version_order.proofs.lemmas.Bytes.{identifier_no_dot}
 use Rattle.version_texts.proofs.lemmas.scan.TextKind.Messy.{fails_first}
-use Rattle.version_texts.proofs.lemmas.scan.General.Runs.{and-false, behind_mark, behind_run, larger_run, last_piece, next_piece, other_piece}
+use Rattle.version_order.proofs.lemmas.Runs.{and-false, behind_mark, behind_run, larger_run, last_piece, next_piece, other_piece}
 
 no_plus : (b : ℕ) → is_identifier_byte b ≡ true → is_not_plus b ≡ true
 no_plus b h = grind (arith, nat_tests)

@@ -6,10 +6,11 @@ use Rattle.std.proofs.lemmas.List.Folds.{length-prefix_len}
 use Rattle.std.specs.Char.{is_ascii_digit}
 use Rattle.std.specs.Cmp.{first_so}
 use Rattle.std.specs.List.{list_all, prefix_len, take_while}
-use Rattle.version_rules.proofs.lemmas.Front.Runs.{list_all-take_while}
-use Rattle.version_rules.specs.grammar.DigitRun.{is_digits, starts_with_digit}
-use Rattle.version_texts.proofs.lemmas.scan.General.Runs.{and-false}
-use Rattle.version_texts.specs.scan.TextKind.{is_chunk, is_numeral, is_run}
+use Rattle.version_order.proofs.lemmas.Front.Runs.{list_all-take_while}
+use Rattle.version_order.specs.texts.DigitRun.{is_digits, starts_with_digit}
+use Rattle.version_order.proofs.lemmas.Runs.{and-false}
+use Rattle.version_texts.specs.scan.TextKind.{is_chunk, is_numeral}
+use Rattle.version_order.specs.texts.Front.{is_run}
 
 pub digits_some : (text : List ℕ) → list_all is_ascii_digit text ≡ true → 0 < length text
     → is_digits text ≡ true

@@ -7,10 +7,10 @@ use Rattle.std.specs.Cmp.{first_so, second_so}
 use Rattle.std.specs.List.{list_all}
 use Rattle.std.specs.Option.{is_some}
 use Rattle.std.specs.Str.Parse.{digits_value}
-use Rattle.version_rules.specs.grammar.Bytes.{dot}
+use Rattle.version_order.specs.texts.Bytes.{dot}
 use Rattle.version_rules.specs.grammar.Chunk.{PlainChunk, Numeric, Alphanum, SpellsPart}
-use Rattle.version_rules.specs.grammar.DigitRun.{is_digits, starts_with_digit}
-use Rattle.version_rules.specs.grammar.Grammar.{SpellsDotted}
+use Rattle.version_order.specs.texts.DigitRun.{is_digits, starts_with_digit}
+use Rattle.version_order.specs.texts.Grammar.{SpellsDotted}
 use Rattle.version_rules.specs.grammar.Last.{IsLastOf}
 use Rattle.version_rules.specs.grammar.Numeral.{SpellsNumeral}
 use Rattle.version_rules.specs.grammar.Conversions.{version_of_semver}
@@ -19,14 +19,14 @@ use Rattle.version_rules.specs.grammar.Version.{SpellsEpoch}
 use Rattle.version_rules.proofs.lemmas.SemVer.{semver_of-Some, semver_of-spells}
 use Rattle.version_rules.proofs.lemmas.Conversions.{strict_is_general}
 use Rattle.version_texts.specs.scan.Shape.{behind_body, body_start}
-use Rattle.version_texts.specs.key.TextKey.{pieces}
-use Rattle.version_texts.specs.scan.TextKind.{body_of, has_three_numbers, is_chunk, is_general, is_numeral, is_run}
+use Rattle.version_order.specs.texts.Pieces.{pieces, is_dot}
+use Rattle.version_texts.specs.scan.TextKind.{body_of, has_three_numbers, is_chunk, is_general, is_numeral}
+use Rattle.version_order.specs.texts.Front.{is_run}
 use Rattle.version_texts.proofs.lemmas.scan.TextKind.Chunks.{digits_from, numeral_spells, told_by_test}
 use Rattle.version_texts.proofs.lemmas.scan.TextKind.GeneralText.{body_of-is, cut_at_body, general_parts, spelled_is_general}
-use Rattle.version_texts.proofs.lemmas.order.Piece.Spelled.{digit_no_dot}
-use Rattle.version_texts.specs.order.Piece.{is_dot}
+use Rattle.version_order.proofs.lemmas.Bytes.{digit_no_dot}
 use Rattle.version_texts.proofs.lemmas.scan.Shape.Positions.{IsCut}
-use Rattle.version_texts.proofs.lemmas.scan.General.Splits.{JoinedBy, split-append, split_is_joined, split_run}
+use Rattle.version_texts.proofs.lemmas.scan.Splits.{JoinedBy, split-append, split_is_joined, split_run}
 use Rattle.version_texts.proofs.lemmas.scan.TextKind.Tail.{tail_spells}
 use Rattle.version_texts.proofs.lemmas.scan.Shape.{version_cut}
 use Rattle.version_rules.specs.grammar.Last as last

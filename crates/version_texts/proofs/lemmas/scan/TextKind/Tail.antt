@@ -6,17 +6,18 @@ use Rattle.std.proofs.lemmas.Bool.Decides.{nat_tests}
 use Rattle.std.proofs.lemmas.List.{drop_at, take-append-drop, take_at}
 use Rattle.std.specs.Cmp.{first_so, second_so}
 use Rattle.std.specs.List.{list_all, prefix_len, take_while}
-use Rattle.version_rules.specs.grammar.Bytes.{hyphen, is_identifier_byte, is_metadata_byte, plus}
+use Rattle.version_order.specs.texts.Bytes.{hyphen, is_identifier_byte, is_metadata_byte, plus}
 use Rattle.version_rules.specs.grammar.Chunk.{PlainChunk}
-use Rattle.version_rules.specs.grammar.Front.{begins}
-use Rattle.version_rules.specs.grammar.Grammar.{SpellsOptional}
+use Rattle.version_order.specs.texts.Front.{begins, is_run}
+use Rattle.version_order.specs.texts.Grammar.{SpellsOptional}
 use Rattle.version_rules.specs.grammar.Metadata.{SpellsMetadata}
 use Rattle.version_rules.specs.grammar.Release.{SpellsRelease}
-use Rattle.version_rules.proofs.lemmas.Front.Runs.{prefix_len-append, all_weaker}
-use Rattle.version_texts.specs.key.TextKey.{pieces}
-use Rattle.version_texts.specs.scan.TextKind.{is_chunk, is_metadata_tail, is_not_plus, is_run, is_tail}
+use Rattle.version_order.proofs.lemmas.Front.Runs.{prefix_len-append, all_weaker}
+use Rattle.version_order.specs.texts.Pieces.{pieces}
+use Rattle.version_texts.specs.scan.TextKind.{is_chunk, is_metadata_tail, is_not_plus, is_tail}
 use Rattle.version_texts.proofs.lemmas.scan.TextKind.Chunks.{dotted_passes, dotted_spells, run_from, run_some}
-use Rattle.version_texts.proofs.lemmas.order.Piece.Spelled.{digit_identifier, identifier_no_dot, release_bytes}
+use Rattle.version_texts.proofs.lemmas.order.Piece.Spelled.{release_bytes}
+use Rattle.version_order.proofs.lemmas.Bytes.{digit_identifier, identifier_no_dot}
 
 -- ---- what passes is spelled
 

@@ -10,19 +10,19 @@ use Rattle.std.specs.Option.{option_and_then}
 use Rattle.std.specs.Str.Parse.{digits_value}
 use Rattle.version_rules.specs.grammar.Body.{PlainBody, SpellsBody}
 use Rattle.version_rules.specs.grammar.Chunk.{PlainChunk, SpellsPart, number_of}
-use Rattle.version_rules.specs.grammar.Front.{begins}
+use Rattle.version_order.specs.texts.Front.{begins}
 use Rattle.version_rules.specs.grammar.Last.{Alphanum, IsLastOf, IsLetters, IsOther, Numeric, PlainLast, Post, Rc, first_number, last_of}
 use Rattle.version_rules.specs.grammar.MChunk.{value_of_digits}
 use Rattle.version_rules.specs.grammar.Numeral.{SpellsNumeral}
 use Rattle.version_rules.proofs.lemmas.Chunk.{digit_alphanumeric}
-use Rattle.version_rules.proofs.lemmas.Front.Runs.{begins-drop, list_all-take_while, prefix_len-append}
+use Rattle.version_order.proofs.lemmas.Front.Runs.{begins-drop, list_all-take_while, prefix_len-append}
 use Rattle.version_rules.proofs.lemmas.Last.{last_of-is, last_of-only}
-use Rattle.version_rules.proofs.lemmas.Bytes.{letter_other}
+use Rattle.version_order.proofs.lemmas.Bytes.{letter_other, alphanumeric_no_dot}
 use Rattle.version_texts.specs.versioning_ref.Numbers.{after_letters, body_number, is_numeral_or_empty, last_number, numeral_value}
-use Rattle.version_texts.specs.order.Piece.{behind_digits, is_dot}
-use Rattle.version_texts.specs.key.TextKey.{pieces}
+use Rattle.version_order.specs.texts.DigitRun.{behind_digits}
+use Rattle.version_order.specs.texts.Pieces.{is_dot, pieces}
 use Rattle.version_texts.specs.scan.TextKind.{is_numeral}
-use Rattle.version_texts.proofs.lemmas.order.Piece.Spelled.{NonePass, alphanumeric_no_dot, chunk_bytes, none_pass, pieces_give}
+use Rattle.version_texts.proofs.lemmas.order.Piece.Spelled.{NonePass, chunk_bytes, none_pass, pieces_give}
 use Rattle.version_texts.proofs.lemmas.scan.TextKind.Chunks.{digits_from, numeral_passes, numeral_spells}
 use Rattle.version_texts.proofs.lemmas.scan.TextKind.Runs.{digits_not}
 use Rattle.version_rules.specs.grammar.Chunk as chunk

@@ -5,8 +5,7 @@ use Rattle.std.proofs.Math.Seq.{drop-nil}
 use Rattle.std.proofs.lemmas.List.{drop-drop}
 use Rattle.version_rules.specs.grammar.MChunk.{value_of_digits}
 use Rattle.version_texts.specs.versioning_ref.Numbers.{body_number, chunk_number, last_number}
-use Rattle.version_texts.specs.order.Piece.{behind_piece, first_piece, further_pieces, is_dot}
-use Rattle.version_texts.specs.key.TextKey.{pieces}
+use Rattle.version_order.specs.texts.Pieces.{behind_piece, first_piece, further_pieces, is_dot, pieces}
 use Rattle.version_texts.proofs.lemmas.order.Piece.{pieces_are}
 
 one_dropped : {X : Type 0} (x : X) (k : ℕ) → 1 ≤ k → drop k (x ∷ []) ≡ []

@@ -6,23 +6,22 @@ use Rattle.std.proofs.lemmas.List.{drop_at, take_at}
 use Rattle.std.proofs.lemmas.List.Splits.{slice_split_at, slice_split_none}
 use Rattle.std.specs.List.{before_first, prefix_len, slice_get, slice_split}
 use Rattle.std.specs.Option.{option_and_then}
-use Rattle.version_rules.specs.grammar.Bytes.{colon}
-use Rattle.version_rules.specs.grammar.Front.{begins}
-use Rattle.version_rules.specs.grammar.Grammar.{SpellsEach}
+use Rattle.version_order.specs.texts.Bytes.{colon, is_section_byte}
+use Rattle.version_order.specs.texts.Front.{begins}
+use Rattle.version_order.specs.texts.Grammar.{SpellsEach}
 use Rattle.version_rules.specs.grammar.MChunk.{PlainMChunk, SpellsMChunk, digits_number, value_of_digits, value_of_revision, variant_of}
-use Rattle.version_rules.specs.grammar.Sep.{PlainSep, Colon, Hyphen, Plus, Tilde, Underscore, is_sep, sep_byte}
-use Rattle.version_rules.proofs.lemmas.Front.Repeated.{cases_Option}
-use Rattle.version_rules.proofs.lemmas.Front.Runs.{begins-drop, list_all-take_while, prefix_len-append, all_weaker}
+use Rattle.version_order.specs.texts.Sep.{PlainSep, Colon, Hyphen, Plus, Tilde, Underscore, is_sep, sep_byte}
+use Rattle.version_order.proofs.lemmas.Front.Repeated.{cases_Option}
+use Rattle.version_order.proofs.lemmas.Front.Runs.{begins-drop, list_all-take_while, prefix_len-append, all_weaker}
 use Rattle.version_rules.proofs.lemmas.MChunk.{spelled_run, spelled_variant}
 use Rattle.version_rules.specs.grammar.Mess.{Further, PlainMess, Section, SpellsFurther, SpellsMess, SpellsSection, behind_colons, nth_number}
 use Rattle.version_texts.specs.versioning_ref.Numbers.{chunk_number, is_other_sign, last_piece, section_in}
-use Rattle.version_texts.specs.order.Piece.{from_first, is_dot}
-use Rattle.version_texts.specs.scan.Shape.{is_section_byte}
-use Rattle.version_texts.specs.key.TextKey.{pieces}
-use Rattle.version_texts.proofs.lemmas.scan.General.Runs.{not_false}
-use Rattle.version_texts.proofs.lemmas.scan.General.RunsWithin.{run_and_more}
+use Rattle.version_order.specs.texts.Pieces.{from_first, is_dot, pieces}
+use Rattle.version_order.proofs.lemmas.Runs.{not_false}
+use Rattle.version_order.proofs.lemmas.RunsWithin.{run_and_more}
 use Rattle.version_texts.proofs.lemmas.order.Piece.{piece_ends, piece_grows, pieces_are}
-use Rattle.version_texts.proofs.lemmas.order.Piece.Spelled.{NonePass, alphanumeric_no_dot, none_pass, pieces_give, section_bytes}
+use Rattle.version_texts.proofs.lemmas.order.Piece.Spelled.{NonePass, none_pass, pieces_give, section_bytes}
+use Rattle.version_order.proofs.lemmas.Bytes.{alphanumeric_no_dot}
 use Rattle.version_texts.proofs.lemmas.scan.Shape.Positions.{is_colon}
 use Rattle.version_texts.proofs.lemmas.key.TextKey.Sections.{further_text-is, no_further, section_no_sep, sign_bytes}
 

@@ -8,11 +8,11 @@ use Rattle.std.specs.List.{list_all, prefix_len}
 use Rattle.std.specs.Ordering.{eq_by_cmp, is_eq}
 use Rattle.std.specs.declared.cmp.Ordering.{Ordering}
 use Rattle.std.specs.declared.cmp.Ordering.TheVariants.{Equal}
-use Rattle.version_rules.specs.grammar.Bytes.{hyphen}
+use Rattle.version_order.specs.texts.Bytes.{hyphen}
 use Rattle.version_rules.specs.grammar.Chunk.{PlainChunk}
-use Rattle.version_rules.specs.grammar.Grammar.{SpellsOptional}
+use Rattle.version_order.specs.texts.Grammar.{SpellsOptional}
 use Rattle.version_rules.specs.grammar.Release.{SpellsRelease}
-use Rattle.version_rules.proofs.lemmas.Front.Runs.{prefix_len-append}
+use Rattle.version_order.proofs.lemmas.Front.Runs.{prefix_len-append}
 use Rattle.version_rules.specs.grammar.Conversions.{version_of_semver}
 use Rattle.version_rules.specs.grammar.Kind.{versioning_kind}
 use Rattle.version_rules.specs.laws.Mess.{messes_same}

@@ -1,9 +1,9 @@
-mod CommonParts
 use Rattle.std.proofs.Common.{◌≤◌, arith, length}
 use Rattle.std.proofs.lemmas.List.{take_more_same}
 use Rattle.version_texts.proofs.order.list.pass_common.Answers.CommonParts.{dot_passed, same_text}
 use Rattle.version_texts.proofs.order.list.pass_common.Goals.{then-bytes-test+else-place-y, else-bytes-test}
 use Rattle.version_texts.proofs.order.list.pass_common.Goals as goal
+mod CommonParts
 
 pub bytes-preserved-then-byte-eq46 : goal.bytes-preserved-then-byte-eq46
 bytes-preserved-then-byte-eq46 c =

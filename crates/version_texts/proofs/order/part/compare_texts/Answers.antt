@@ -1,5 +1,5 @@
 use Rattle.std.proofs.Common.{◌∙◌}
-use Rattle.version_rules.specs.order.Lists.{bytes_cmp}
+use Rattle.version_order.specs.keys.Lists.{bytes_cmp}
 use Rattle.version_texts.proofs.lemmas.order.Piece.Words.{run_is_piece}
 use Rattle.version_texts.specs.order.Piece.{delimits}
 use Rattle.version_texts.proofs.order.part.compare_texts.Goals as goal

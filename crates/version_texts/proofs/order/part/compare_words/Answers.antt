@@ -2,16 +2,17 @@ use Rattle.std.proofs.Common.{◌≡◌, ◌∙◌, ℕ, List, ap, drop, refl, s
 use Rattle.std.specs.List.{before_first, prefix_len, take_while}
 use Rattle.std.specs.Option.{option_cmp}
 use Rattle.std.specs.Ordering.{ordering_then}
-use Rattle.version_rules.proofs.lemmas.Front.Runs.{begins-drop}
-use Rattle.version_rules.specs.grammar.DigitRun.{number_front}
-use Rattle.version_rules.specs.grammar.Front.{begins}
-use Rattle.version_rules.specs.order.Lists.{bytes_cmp}
+use Rattle.version_order.proofs.lemmas.Front.Runs.{begins-drop}
+use Rattle.version_order.specs.texts.DigitRun.{number_front}
+use Rattle.version_order.specs.texts.Front.{begins}
+use Rattle.version_order.specs.keys.Lists.{bytes_cmp}
 use Rattle.version_rules.specs.key.Split.{numbered_cmp, split_cmp, split_of}
 use Rattle.version_texts.specs.declared.order.delimiters.Delimiters.{Delimiters}
 use Rattle.version_texts.specs.declared.order.delimiters.Run.TheVariants.{Word}
 use Rattle.version_texts.proofs.lemmas.order.Piece.Order.{decides, leaves, tied}
 use Rattle.version_texts.proofs.lemmas.order.Piece.Words.{run_is_word}
-use Rattle.version_texts.specs.order.Piece.{delimits, from_first, in_run}
+use Rattle.version_texts.specs.order.Piece.{delimits, in_run}
+use Rattle.version_order.specs.texts.Pieces.{from_first}
 use Rattle.version_texts.proofs.order.part.compare_words.Goals as goal
 
 abbrev behind_word : Delimiters → List ℕ → List ℕ

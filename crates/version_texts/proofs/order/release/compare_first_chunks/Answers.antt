@@ -2,11 +2,11 @@ use Rattle.std.proofs.Common.{◌≡◌, ◌∙◌, ℕ, true, false, List, Orde
 use Rattle.std.proofs.lemmas.Cmp.{nat_cmp_total}
 use Rattle.std.specs.Ordering.{nat_cmp, ordering_reverse}
 use Rattle.std.specs.declared.cmp.Ordering.TheVariants.{Less, Equal, Greater}
-use Rattle.version_rules.specs.grammar.DigitRun.{run_value}
+use Rattle.version_order.specs.texts.DigitRun.{run_value}
 use Rattle.version_rules.specs.laws.Release.{chunk_total}
 use Rattle.version_texts.proofs.lemmas.order.Piece.{behind_number, digits_alone}
 use Rattle.version_texts.proofs.lemmas.order.Piece.Chunks.{both_numbers, both_texts, not_tied, number_first, number_second}
-use Rattle.version_texts.specs.order.Piece.{first_piece}
+use Rattle.version_order.specs.texts.Pieces.{first_piece}
 use Rattle.version_texts.specs.key.TextKey.{chunk_of}
 use Rattle.version_texts.proofs.order.release.compare_first_chunks.Goals as goal
 

@@ -2,10 +2,10 @@ use Rattle.std.proofs.Common.{◌≡◌, ◌==◌, ◌&&◌, ◌+◌, ◌∙◌,
 use Rattle.std.proofs.lemmas.Bool.{eq-eqb, ne_eqb}
 use Rattle.std.specs.Char.{is_ascii_digit}
 use Rattle.std.specs.List.{prefix_len}
-use Rattle.version_rules.specs.grammar.Bytes.{colon}
-use Rattle.version_rules.specs.grammar.DigitRun.{starts_with_digit}
-use Rattle.version_rules.specs.grammar.Front.{begins}
-use Rattle.version_rules.specs.grammar.Class.{first_rank}
+use Rattle.version_order.specs.texts.Bytes.{colon}
+use Rattle.version_order.specs.texts.DigitRun.{starts_with_digit}
+use Rattle.version_order.specs.texts.Front.{begins}
+use Rattle.version_order.specs.texts.Class.{first_rank}
 use Rattle.version_texts.specs.scan.Shape.{digits_len, has_epoch}
 use Rattle.version_texts.proofs.lemmas.scan.Class.{next_colon}
 use Rattle.version_texts.proofs.lemmas.scan.Shape.Scanned.{behind_colon, no_epoch}

@@ -3,7 +3,7 @@ use Rattle.std.specs.List.{join_with_byte}
 use Rattle.version_rules.specs.requirement.Requirements.{comma}
 use Rattle.version_texts.proofs.lemmas.requirement.Inexact.{after_commas, joined_after}
 use Rattle.version_texts.specs.requirement.Inexact.{inexact_pieces}
-use Rattle.version_texts.proofs.lemmas.key.TextKey.Taking.{next_fits, owes_all, owes_rest, owes_same}
+use Rattle.version_order.proofs.lemmas.Taking.{next_fits, owes_all, owes_rest, owes_same}
 use Rattle.version_texts.proofs.requirement.inexact.put_inexact.Goals as goal
 
 pub put_all-requires : goal.put_all-requires

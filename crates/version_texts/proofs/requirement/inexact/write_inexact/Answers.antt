@@ -1,4 +1,4 @@
-use Rattle.version_texts.proofs.lemmas.key.Sinks.{counted}
+use Rattle.version_order.proofs.lemmas.Sinks.{counted}
 use Rattle.version_texts.specs.requirement.Inexact.{inexact_part}
 use Rattle.version_texts.proofs.requirement.inexact.write_inexact.Goals as goal
 

@@ -5,10 +5,11 @@ use Rattle.std.specs.Str.Parse.{digits_value}
 use Rattle.version_rules.specs.requirement.Ends.{kept_parts}
 use Rattle.version_rules.specs.requirement.Range.{begun}
 use Rattle.version_texts.specs.order.Parts.{parts_behind}
-use Rattle.version_texts.specs.scan.Shape.{body_in, epoch_in, is_section_byte}
+use Rattle.version_texts.specs.scan.Shape.{body_in, epoch_in}
+use Rattle.version_order.specs.texts.Bytes.{is_section_byte}
 use Rattle.version_texts.specs.key.TextKey.{parts_of}
 use Rattle.version_texts.proofs.lemmas.order.Piece.Kept.{front_passes}
-use Rattle.version_texts.proofs.lemmas.key.TextKey.Taking.{takes_same}
+use Rattle.version_order.proofs.lemmas.Taking.{takes_same}
 use Rattle.version_texts.proofs.requirement.range.put_kept.Goals as goal
 
 pub put_begun-requires-clause-digits : goal.put_begun-requires-clause-digits

@@ -3,7 +3,7 @@ use Rattle.std.proofs.lemmas.List.{drop_more}
 use Rattle.std.proofs.Math.ListN.{drop_of_length-le}
 use Rattle.std.proofs.lemmas.Cmp.{nat_eq_equiv}
 use Rattle.std.specs.List.{starts_with}
-use Rattle.version_rules.specs.grammar.Front.{begins}
+use Rattle.version_order.specs.texts.Front.{begins}
 use Rattle.version_texts.proofs.requirement.requirements_ref.begins_with.Goals as goal
 
 -- a text that doesn't begin with a byte doesn't begin with that byte and more

@@ -1,4 +1,4 @@
-use Rattle.version_texts.proofs.lemmas.key.Sinks.{counted}
+use Rattle.version_order.proofs.lemmas.Sinks.{counted}
 use Rattle.version_texts.specs.requirement.Why.{reason_text}
 use Rattle.version_texts.proofs.requirement.why.write_reason.Goals as goal
 

@@ -1,5 +1,5 @@
 use Rattle.std.proofs.Common.{◌≡◌, ◌∙◌, false, sym}
-use Rattle.version_rules.specs.grammar.DigitRun.{is_digits}
+use Rattle.version_order.specs.texts.DigitRun.{is_digits}
 use Rattle.version_texts.specs.scan.TextKind.{is_numeral}
 use Rattle.version_texts.proofs.scan.numeral.spells_numeral.Goals as goal
 

@@ -4,14 +4,14 @@ use Rattle.std.proofs.lemmas.List.{drop-drop}
 use Rattle.std.proofs.lemmas.List.Folds.{length-prefix_len}
 use Rattle.std.specs.Char.{is_ascii_digit}
 use Rattle.std.specs.List.{list_all, prefix_len, take_while}
-use Rattle.version_rules.specs.grammar.Bytes.{HasDigits}
-use Rattle.version_rules.specs.grammar.DigitRun.{is_digits}
-use Rattle.version_rules.specs.grammar.Front.{begins}
-use Rattle.version_rules.specs.grammar.Class.{contains}
+use Rattle.version_order.specs.texts.Bytes.{HasDigits}
+use Rattle.version_order.specs.texts.DigitRun.{is_digits}
+use Rattle.version_order.specs.texts.Front.{begins}
+use Rattle.version_order.specs.texts.Class.{contains}
 use Rattle.version_texts.specs.scan.Shape.{digits_len}
 use Rattle.version_texts.specs.scan.TextKind.{is_chunk, is_numeral}
-use Rattle.version_rules.specs.declared.class.Class.{Class}
-use Rattle.version_texts.proofs.lemmas.scan.General.Runs.{all_smaller, larger_run, some_larger}
+use Rattle.version_order.specs.declared.class.Class.{Class}
+use Rattle.version_order.proofs.lemmas.Runs.{all_smaller, larger_run, some_larger}
 use Rattle.version_texts.proofs.lemmas.scan.TextKind.Runs.{chunk_digits, chunk_word, digits_not, digits_some}
 
 -- whether a run goes on behind a place

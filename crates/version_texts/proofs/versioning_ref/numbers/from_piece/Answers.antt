@@ -1,6 +1,6 @@
 use Rattle.std.proofs.Common.{◌∙◌, ap}
 use Rattle.version_texts.specs.versioning_ref.Numbers.{pieces_left}
-use Rattle.version_texts.specs.key.TextKey.{pieces}
+use Rattle.version_order.specs.texts.Pieces.{pieces}
 use Rattle.version_texts.proofs.lemmas.versioning_ref.Numbers.Places.{next_left, none_left}
 use Rattle.version_texts.proofs.versioning_ref.numbers.from_piece.Goals as goal
 

@@ -1,6 +1,6 @@
 use Rattle.std.proofs.Common.{◌∙◌, ap, sym}
-use Rattle.version_rules.specs.grammar.Front.{begins}
-use Rattle.version_rules.specs.grammar.Sep.{is_sep}
+use Rattle.version_order.specs.texts.Front.{begins}
+use Rattle.version_order.specs.texts.Sep.{is_sep}
 use Rattle.version_texts.proofs.lemmas.versioning_ref.Numbers.Section.{section_is, section_passed}
 use Rattle.version_texts.proofs.lemmas.order.Piece.Words.{run_is_piece}
 use Rattle.version_texts.proofs.lemmas.scan.Shape.Positions.{is_colon}

@@ -1,5 +1,5 @@
 use Rattle.std.proofs.Common.{◌++◌, length}
-use Rattle.version_rules.specs.order.Lists.{Growing}
+use Rattle.version_order.specs.keys.Lists.{Growing}
 use Rattle.versions.specs.KeyStream.{list_left, tail_left}
 use Rattle.versions.proofs.key.KeyBytes.append_pieces.Given as goal
 

@@ -6,7 +6,7 @@ use Rattle.std.specs.Cmp.{first_so, second_so}
 use Rattle.std.specs.List.{list_all, take_while}
 use Rattle.std.specs.Str.Parse.{digits_value}
 use Rattle.version_parts.specs.declared.mchunk.MChunk.{MChunk}
-use Rattle.version_rules.specs.grammar.DigitRun.{is_digits, starts_with_digit}
+use Rattle.version_order.specs.texts.DigitRun.{is_digits, starts_with_digit}
 use Rattle.version_rules.specs.grammar.MChunk.{mchunk_text}
 use Rattle.version_parts.specs.MChunk.{plain_mchunk}
 use Rattle.version_rules.specs.key.Key.{section_epoch}

@@ -1,5 +1,5 @@
 use Rattle.std.proofs.Common.{◌≡◌, ◌∷◌, ◌++◌, length}
-use Rattle.version_rules.specs.key.Codes.{items_bytes}
+use Rattle.version_order.specs.keys.Codes.{items_bytes}
 use Rattle.version_rules.specs.key.PartKey.{part_bytes}
 use Rattle.versions.specs.BodyParts.{first_part, more_parts}
 use Rattle.version_rules.specs.requirement.Ends.{kept_parts}

@@ -1,5 +1,5 @@
 use Rattle.std.proofs.Common.{length}
-use Rattle.version_rules.specs.order.Lists.{Growing}
+use Rattle.version_order.specs.keys.Lists.{Growing}
 use Rattle.version_parts.proofs.key.piece.PieceBytes.append_all.Given as goal
 
 -- the bytes taken are in the list, and the others remain

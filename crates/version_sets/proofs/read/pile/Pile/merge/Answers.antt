@@ -2,8 +2,8 @@ use Rattle.std.proofs.Common.{◌≡◌, ◌∙◌, ◌+◌, ◌*◌, ◌≤◌,
 use Rattle.std.specs.List.{concat, flat_map}
 use Rattle.std.proofs.lemmas.Bool.{true≢false}
 use Rattle.std.proofs.lemmas.List.{take_at}
-use Rattle.version_texts.specs.key.Sinks.{put_at}
-use Rattle.version_texts.proofs.lemmas.key.Sinks.{put_fits}
+use Rattle.version_order.specs.keys.Sinks.{put_at}
+use Rattle.version_order.proofs.lemmas.Sinks.{put_fits}
 use Rattle.version_sets.specs.Form.{form_bytes, number, places}
 use Rattle.version_sets.specs.Pile.{through}
 use Rattle.version_sets.specs.Set.{left}

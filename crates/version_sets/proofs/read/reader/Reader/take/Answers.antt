@@ -1,8 +1,8 @@
 use Rattle.std.proofs.Common.{◌≡◌, ◌∙◌, ◌+◌, ◌||◌, ◌&&◌, ◌∷◌, [], ap, arith, length, refl, rules, subst, sym, true}
-use Rattle.version_rules.specs.declared.ends.Kept.{Kept}
-use Rattle.version_texts.specs.key.Sinks.{length-put}
-use Rattle.version_texts.specs.declared.keyed.Words.TheVariants.{Parts}
-use Rattle.version_texts.specs.keyed.Keyed.{BeginsKey}
+use Rattle.version_order.specs.declared.ends.Kept.{Kept}
+use Rattle.version_order.specs.keys.Sinks.{length-put}
+use Rattle.version_order.specs.declared.facts.Operators.TheVariants.{Parts}
+use Rattle.version_order.specs.Keyed.{BeginsKey}
 use Rattle.version_sets.specs.Comparison.{ends_with}
 use Rattle.version_sets.specs.Ends.{Rise, has}
 use Rattle.version_sets.specs.Form.{form_bytes}
@@ -15,6 +15,7 @@ use Rattle.version_sets.proofs.lemmas.Comparison.{one_rises, rises}
 use Rattle.version_sets.proofs.lemmas.Form.{form_length}
 use Rattle.version_sets.proofs.lemmas.Reader.{with_next, with_one}
 use Rattle.version_sets.proofs.lemmas.Steps.{all_room, asked_read, asked_small}
+use Rattle.version_order.specs.Facts.{key_room}
 use Rattle.version_sets.proofs.read.reader.Reader.take.Goals as goal
 
 -- ---- the end of an alternative
@@ -27,7 +28,7 @@ returns-in-Closes-clause-ok g c whole rest done own holds continues =
       λ key. true,
       c.close.ensures.holds done own holds,
       with_next whole (rest Wanted) done own (subst (λ s. Continues whole done own
-          (after_step g.V.Keyed.read_as g.V.Keyed.words rest s)) is continues),
+          (after_step g.V.SchemeVersion.rules.read_as g.V.SchemeVersion.rules.facts.operators rest s)) is continues),
     )
 
 -- ---- a member that has all
@@ -39,7 +40,7 @@ write_all-end-requires g c =
     omega (
       arith,
       c.requires.room,
-      all_room g.V.Keyed.most c.args.state c.args.place c.in-All.field-0 (plain_piece c.args.piece) is,
+      all_room (key_room g.V.SchemeVersion.rules.facts) c.args.state c.args.place c.in-All.field-0 (plain_piece c.args.piece) is,
       form_length c.args.self.now.order ([] ∷ []),
     )
 
@@ -53,7 +54,7 @@ add-requires-clause-room g c =
       c.write_all-end.ensures.end,
       ap length c.write_all-end.ensures.bytes,
       length-put c.args.room.now c.args.self.now.end (form_bytes c.args.self.now.order ([] ∷ [])),
-      all_room g.V.Keyed.most c.args.state c.args.place c.in-All.field-0 (plain_piece c.args.piece) is,
+      all_room (key_room g.V.SchemeVersion.rules.facts) c.args.state c.args.place c.in-All.field-0 (plain_piece c.args.piece) is,
       form_length c.args.self.now.order ([] ∷ []),
     )
 
@@ -66,7 +67,7 @@ returns-in-All-clause-ok g c whole rest done own holds continues =
       c.add.ensures.holds c.args.room.now ([] ∷ []) done own holds (one_rises []) c.write_all-end.ensures.bytes
           c.write_all-end.ensures.end,
       with_one whole (rest Come) done own _ (subst (λ s. Continues whole done own
-          (after_step g.V.Keyed.read_as g.V.Keyed.words rest s)) is continues),
+          (after_step g.V.SchemeVersion.rules.read_as g.V.SchemeVersion.rules.facts.operators rest s)) is continues),
     )
 
 pub returns-in-All-clause-end : goal.returns-in-All-clause-end
@@ -77,7 +78,7 @@ returns-in-All-clause-end g c =
       arith,
       c.add.ensures.end,
       c.write_all-end.ensures.end,
-      all_room g.V.Keyed.most c.args.state c.args.place c.in-All.field-0 (plain_piece c.args.piece) is,
+      all_room (key_room g.V.SchemeVersion.rules.facts) c.args.state c.args.place c.in-All.field-0 (plain_piece c.args.piece) is,
       form_length c.args.self.now.order ([] ∷ []),
     )
 
@@ -85,18 +86,18 @@ returns-in-All-clause-end g c =
 
 pub write_member-end-requires : goal.write_member-end-requires
 write_member-end-requires g c κs =
-    let V = g.V.Keyed in
-    let small = asked_small c.args.self.now.order V.read_as V.most V.words c.args.state c.args.place (plain_piece c.args.piece)
+    let V = g.V.SchemeVersion in
+    let small = asked_small c.args.self.now.order V.rules.read_as (key_room V.rules.facts) V.rules.facts.operators c.args.state c.args.place (plain_piece c.args.piece)
     c.in-Asks.comparison c.in-Ok.member.0 c.in-Asks.field-1 c.in-Asks.place c.in-Asks.text.now (V.plain c.in-Ok.member.1)
-    c.requires.enough (sym c.step.ensures ∙ rw c.in-Asks.is refl) (sym c.asked.ensures ∙ rw c.in-Ok.is refl) in
+    c.in-Ok.ensures.within (sym c.step.ensures ∙ rw c.in-Asks.is refl) (sym c.asked.ensures.asked ∙ rw c.in-Ok.is refl) in
     ((refl, tt), omega (arith, c.requires.room, small))
 
 pub add-requires-in-Ok-clause-room : goal.add-requires-in-Ok-clause-room
 add-requires-in-Ok-clause-room g c =
-    let V = g.V.Keyed in
-    let small = asked_small c.args.self.now.order V.read_as V.most V.words c.args.state c.args.place (plain_piece c.args.piece)
+    let V = g.V.SchemeVersion in
+    let small = asked_small c.args.self.now.order V.rules.read_as (key_room V.rules.facts) V.rules.facts.operators c.args.state c.args.place (plain_piece c.args.piece)
     c.in-Asks.comparison c.in-Ok.member.0 c.in-Asks.field-1 c.in-Asks.place c.in-Asks.text.now (V.plain c.in-Ok.member.1)
-    c.requires.enough (sym c.step.ensures ∙ rw c.in-Asks.is refl) (sym c.asked.ensures ∙ rw c.in-Ok.is refl) in
+    c.in-Ok.ensures.within (sym c.step.ensures ∙ rw c.in-Asks.is refl) (sym c.asked.ensures.asked ∙ rw c.in-Ok.is refl) in
     omega (
       arith,
       c.requires.room,
@@ -109,35 +110,35 @@ add-requires-in-Ok-clause-room g c =
 
 pub returns-in-Ok-clause-ok : goal.returns-in-Ok-clause-ok
 returns-in-Ok-clause-ok g c whole rest done own holds continues =
-    let V = g.V.Keyed in
+    let V = g.V.SchemeVersion in
     let version = V.plain c.in-Ok.member.1 in
     let is : step c.args.state c.args.place (plain_piece c.args.piece)
     ≡ Asks c.in-Asks.comparison c.in-Asks.field-1 c.in-Asks.place c.in-Asks.text.now =
     sym c.step.ensures ∙ rw c.in-Asks.is refl in
-    let given : asked V.read_as V.words c.in-Asks.comparison c.in-Asks.text.now
+    let given : asked V.rules.read_as V.rules.facts.operators c.in-Asks.comparison c.in-Asks.text.now
     ≡ With c.in-Ok.member.0 version =
-    sym c.asked.ensures ∙ rw c.in-Ok.is refl in
-    let read = asked_read V.read_as V.words c.in-Asks.comparison c.in-Ok.member.0 c.in-Asks.text.now version given in
+    sym c.asked.ensures.asked ∙ rw c.in-Ok.is refl in
+    let read = asked_read V.rules.read_as V.rules.facts.operators c.in-Asks.comparison c.in-Ok.member.0 c.in-Asks.text.now version given in
     let some : ¬ (version.key ≡ []) = search rules in
-    let begins : V.words ≡ Parts → (kept : Kept) → BeginsKey (version.begun kept) version.key = search rules in
+    let begins : V.rules.facts.operators ≡ Parts → (kept : Kept) → BeginsKey (version.begun kept) version.key = search rules in
     let ends = ends_with c.in-Ok.member.0 version in
     let rise : Rise ends = rises c.in-Ok.member.0 version some (λ asks. begins (read.allowed_is asks)) in
-    let stepped = subst (λ s. Continues whole done own (after_step V.read_as V.words rest s)) is continues in (
+    let stepped = subst (λ s. Continues whole done own (after_step V.rules.read_as V.rules.facts.operators rest s)) is continues in (
       done,
       λ key. own key && has ends key,
       c.add-in-Ok.ensures.holds c.args.room.now ends done own holds rise c.write_member-end.ensures.bytes
           c.write_member-end.ensures.end,
       with_one whole (rest Come) done own _
-          (subst (λ a. Continues whole done own (answered V.read_as V.words c.in-Asks.field-1 c.in-Asks.place
+          (subst (λ a. Continues whole done own (answered V.rules.read_as V.rules.facts.operators c.in-Asks.field-1 c.in-Asks.place
           (c.in-Asks.place + length c.in-Asks.text.now) a (rest Come))) given stepped),
     )
 
 pub returns-in-Ok-clause-end : goal.returns-in-Ok-clause-end
 returns-in-Ok-clause-end g c =
-    let V = g.V.Keyed in
-    let small = asked_small c.args.self.now.order V.read_as V.most V.words c.args.state c.args.place (plain_piece c.args.piece)
+    let V = g.V.SchemeVersion in
+    let small = asked_small c.args.self.now.order V.rules.read_as (key_room V.rules.facts) V.rules.facts.operators c.args.state c.args.place (plain_piece c.args.piece)
     c.in-Asks.comparison c.in-Ok.member.0 c.in-Asks.field-1 c.in-Asks.place c.in-Asks.text.now (V.plain c.in-Ok.member.1)
-    c.requires.enough (sym c.step.ensures ∙ rw c.in-Asks.is refl) (sym c.asked.ensures ∙ rw c.in-Ok.is refl) in
+    c.in-Ok.ensures.within (sym c.step.ensures ∙ rw c.in-Asks.is refl) (sym c.asked.ensures.asked ∙ rw c.in-Ok.is refl) in
     omega (
       arith,
       c.add-in-Ok.ensures.end,

@@ -4,19 +4,20 @@ use Rattle.std.proofs.lemmas.Bool.{cases_Bool, eqb-true}
 use Rattle.std.specs.List.{before_first, slice_split}
 use Rattle.std.specs.Ordering.{ordering_index, ordering_reverse, ordering_then}
 use Rattle.std.specs.declared.cmp.Ordering.TheVariants.{Less, Equal, Greater}
-use Rattle.version_rules.specs.grammar.Bytes.{dot}
-use Rattle.version_rules.specs.grammar.DigitRun.{starts_with_digit}
-use Rattle.version_rules.specs.grammar.Front.{begins}
+use Rattle.version_order.specs.texts.Bytes.{dot}
+use Rattle.version_order.specs.texts.DigitRun.{starts_with_digit}
+use Rattle.version_order.specs.texts.Front.{begins}
 use Rattle.version_rules.specs.key.PartKey.{PartKey, list_cmp, part_cmp, part_key}
 use Rattle.version_rules.specs.key.Tail.{sections_cmp}
-use Rattle.version_rules.proofs.lemmas.Front.Runs.{begins-drop}
+use Rattle.version_order.proofs.lemmas.Front.Runs.{begins-drop}
 use Rattle.version_texts.specs.declared.order.delimiters.Delimiters.{Delimiters}
 use Rattle.version_texts.proofs.lemmas.order.Piece.Delimiters.{digit_no_end, dot_no_sign, dot_or_sign}
 use Rattle.version_texts.proofs.lemmas.order.Piece.Order.{leaves, tied}
 use Rattle.version_texts.proofs.lemmas.order.Piece.Words.{run_is_piece}
-use Rattle.version_texts.proofs.lemmas.scan.General.Runs.{not_false}
+use Rattle.version_order.proofs.lemmas.Runs.{not_false}
 use Rattle.version_texts.proofs.lemmas.order.Piece.{part_of_number, part_of_word, piece_ends, piece_grows, pieces_are}
-use Rattle.version_texts.specs.order.Piece.{delimits, from_first, further_pieces, is_dot, sign_of}
+use Rattle.version_texts.specs.order.Piece.{delimits, sign_of}
+use Rattle.version_order.specs.texts.Pieces.{from_first, further_pieces, is_dot}
 use Rattle.version_texts.specs.key.TextKey.{parts_of}
 
 in_turn : (o p q : Ordering)

@@ -6,11 +6,9 @@ use Rattle.std.proofs.lemmas.List.{length-drop, take_all}
 use Rattle.std.specs.List.{prefix_len, take_while}
 use Rattle.std.specs.Ordering.{nat_cmp, ordering_then}
 use Rattle.std.specs.declared.cmp.Ordering.TheVariants.{Less, Equal, Greater}
-use Rattle.version_rules.specs.grammar.Front.{begins}
-use Rattle.version_rules.specs.order.Lists.{bytes_cmp}
-use Rattle.version_texts.proofs.lemmas.scan.General.Runs.{run_cons, run_none}
-use Rattle.version_texts.proofs.lemmas.scan.Shape.Section.{begins_within}
-use Rattle.version_texts.proofs.lemmas.scan.TextKind.Messy.{at_byte}
+use Rattle.version_order.specs.texts.Front.{begins}
+use Rattle.version_order.specs.keys.Lists.{bytes_cmp}
+use Rattle.version_order.proofs.lemmas.Runs.{run_cons, run_none, begins_within, at_byte}
 
 unequal_first : (o more : Ordering) → o ≢ Equal → ordering_then o more ≡ o
 unequal_first Less more other = refl

@@ -1,7 +1,7 @@
 use Rattle.std.proofs.Common.{◌∙◌, ap, map, sym}
 use Rattle.version_rules.specs.key.PartKey.{part_key}
 use Rattle.version_texts.proofs.lemmas.order.Parts.{parts_begin}
-use Rattle.version_texts.specs.order.Piece.{further_pieces, is_dot}
+use Rattle.version_order.specs.texts.Pieces.{further_pieces, is_dot}
 use Rattle.version_texts.proofs.requirement.matching.parts.TextPartsParts.rest.Goals as goal
 
 pub returns-clause-some : goal.returns-clause-some

@@ -1,0 +1,5 @@
+pub mod Costs
+pub mod Cut
+pub mod Front
+pub mod Plain
+pub mod Viable

@@ -1,0 +1,125 @@
+-- Upstream versions and revisions that begin alike.
+use Rattle.std.proofs.Common.{◌≡◌, ◌∙◌, ◌<◌, ◌≤◌, ◌-◌, ◌++◌, ◌∷◌, [], ℕ, zero, suc, List, false, true, ap, arith, drop, get_or, inl, inr, length, refl, sym, take}
+use Rattle.std.proofs.lemmas.Bool.{cases_Bool}
+use Rattle.std.proofs.lemmas.Cmp.{nat_cmp_total, nat_list_cmp_total, tied_itself}
+use Rattle.std.specs.Char.{is_ascii_digit}
+use Rattle.std.specs.List.{take_while}
+use Rattle.std.specs.Ordering.{nat_cmp, ordering_then}
+use Rattle.std.specs.Str.Parse.{digits_value}
+use Rattle.std.specs.declared.cmp.Ordering.{Ordering}
+use Rattle.std.specs.declared.cmp.Ordering.TheVariants.{Equal}
+use Rattle.version_order.specs.texts.DigitRun.{run_value, starts_with_digit, behind_digits}
+use Rattle.version_order.specs.texts.Front.{begins}
+use Rattle.version_order.specs.keys.OrderLaws.{then_first}
+use Rattle.version_order.specs.keys.Lists.{ended_cmp}
+use Rattle.version_order.proofs.lemmas.Runs.{run_cons, run_none}
+use Rattle.version_order.proofs.lemmas.RunsWithin.{no_run}
+use Rattle.version_order.proofs.lemmas.Orders.{settled}
+use Rattle.scheme_deb.proofs.lemmas.Cut.{by_numbers, same_bytes}
+use Rattle.version_order.proofs.lemmas.Cuts.{alike, run_common}
+use Rattle.scheme_deb.specs.Laws.{part_writes}
+use Rattle.scheme_deb.specs.Order.{Part, byte_cmp, more_cmp, part_bytes, part_cmp}
+use Rattle.scheme_deb.specs.Texts.{cut_of, is_run, mores, part_in, part_of}
+
+abbrev pub texts_cmp : List ℕ → List ℕ → Ordering
+texts_cmp x y = part_cmp (part_of x) (part_of y)
+
+-- a part ties with itself
+tied : (part : Part) → part_cmp part part ≡ Equal
+tied part =
+    then_first _ _ (sym (part_writes.compares part part [] []) ∙ tied_itself nat_list_cmp_total (part_bytes part ++ []))
+
+pub one_text : (x y : List ℕ) → x ≡ y → texts_cmp x y ≡ Equal
+one_text x y same = ap (λ (text : List ℕ). texts_cmp x text) (sym same) ∙ tied (part_of x)
+
+-- texts that begin with numbers, or are empty
+from_numbers : (x y : List ℕ) → begins is_run x ≡ false → begins is_run y ≡ false
+    → texts_cmp x y
+    ≡ ordering_then (nat_cmp (run_value x) (run_value y)) (texts_cmp (behind_digits x) (behind_digits y))
+from_numbers x y digit other =
+    let one = no_run is_run x digit in
+    let two = no_run is_run y other in
+    by_numbers x y x y Equal (nat_cmp (run_value x) (run_value y))
+    (sym (λ i. ended_cmp byte_cmp (one.0 i) (two.0 i))) refl (sym one.1) (sym two.1) refl
+
+no_run_first : (text : List ℕ) → starts_with_digit text ≡ true → begins is_run text ≡ false
+no_run_first [] digit = refl
+no_run_first (byte ∷ text) digit = rw digit refl
+
+-- numbers that differ decide
+pub numbers_decide : (x y : List ℕ) (o : Ordering) → starts_with_digit x ≡ true → starts_with_digit y ≡ true
+    → o ≡ nat_cmp (run_value x) (run_value y) → ¬ (o ≡ Equal) → o ≡ texts_cmp x y
+numbers_decide x y o digit other e differ =
+    sym (from_numbers x y (no_run_first x digit) (no_run_first y other)
+    ∙ ap (λ (n : Ordering). ordering_then n (texts_cmp (behind_digits x) (behind_digits y))) (sym e)
+    ∙ settled o _ differ)
+
+-- the same digits don't count
+same_digits : (x y : List ℕ) → begins is_run x ≡ false → begins is_run y ≡ false
+    → take_while is_ascii_digit x ≡ take_while is_ascii_digit y
+    → texts_cmp x y ≡ texts_cmp (behind_digits x) (behind_digits y)
+same_digits x y digit other same =
+    let number : nat_cmp (run_value x) (run_value y) ≡ Equal =
+    ap (λ (digits : List ℕ). nat_cmp (digits_value 10 digits) (run_value y)) same
+    ∙ tied_itself nat_cmp_total (run_value y) in
+    from_numbers x y digit other
+    ∙ ap (λ (n : Ordering). ordering_then n (texts_cmp (behind_digits x) (behind_digits y))) number
+
+-- nor does one byte that is no digit
+same_byte : (byte : ℕ) (x y : List ℕ) → is_ascii_digit byte ≡ false → texts_cmp (byte ∷ x) (byte ∷ y) ≡ texts_cmp x y
+same_byte byte x y other =
+    let a = cut_of x in
+    let b = cut_of y in
+    let one : cut_of (byte ∷ x) ≡ record a { run = byte ∷ a.run } = rw other refl in
+    let two : cut_of (byte ∷ y) ≡ record b { run = byte ∷ b.run } = rw other refl in
+    (λ i. part_cmp (part_in (one i)) (part_in (two i)))
+    ∙ ap (λ (o : Ordering). ordering_then
+    (ordering_then (ordering_then o (ended_cmp byte_cmp a.run b.run))
+    (nat_cmp (digits_value 10 a.digits) (digits_value 10 b.digits)))
+    (ended_cmp more_cmp (mores a.more) (mores b.more))) (same_bytes byte)
+
+is_no_run : (byte : ℕ) → is_ascii_digit byte ≡ true → is_run byte ≡ false
+is_no_run byte is = rw is refl
+
+-- nor do digits that end within what both begin with
+digits_common : (front : List ℕ) (byte : ℕ) (a b : List ℕ) → is_ascii_digit byte ≡ false
+    → texts_cmp (behind_digits (front ++ byte ∷ a)) (behind_digits (front ++ byte ∷ b))
+    ≡ texts_cmp (front ++ byte ∷ a) (front ++ byte ∷ b)
+digits_common [] byte a b ends =
+    λ i. texts_cmp ((run_none is_ascii_digit byte a ends).1 i) ((run_none is_ascii_digit byte b ends).1 i)
+digits_common (first ∷ front) byte a b ends = elim (cases_Bool (is_ascii_digit first)) [
+  | inl digit ↦
+      sym (same_digits (first ∷ front ++ byte ∷ a) (first ∷ front ++ byte ∷ b) (is_no_run first digit)
+      (is_no_run first digit) (run_common is_ascii_digit (first ∷ front) byte a b ends))
+  | inr other ↦
+      λ i. texts_cmp ((run_none is_ascii_digit first (front ++ byte ∷ a) other).1 i)
+      ((run_none is_ascii_digit first (front ++ byte ∷ b) other).1 i)
+]
+
+front_common : (front : List ℕ) (byte : ℕ) (a b : List ℕ) → is_ascii_digit byte ≡ false
+    → texts_cmp (front ++ byte ∷ a) (front ++ byte ∷ b) ≡ texts_cmp a b
+front_common [] byte a b ends = same_byte byte a b ends
+front_common (first ∷ front) byte a b ends =
+    let rest = front_common front byte a b ends in
+    let one = front ++ byte ∷ a in
+    let two = front ++ byte ∷ b in
+    elim (cases_Bool (is_ascii_digit first)) [
+      | inl digit ↦
+          sym (digits_common (first ∷ front) byte a b ends)
+          ∙ (λ i. texts_cmp ((run_cons is_ascii_digit first one digit).1 i) ((run_cons is_ascii_digit first two digit).1 i))
+          ∙ digits_common front byte a b ends ∙ rest
+      | inr other ↦ same_byte first one two other ∙ rest
+    ]
+
+-- what both begin with doesn't count, if it ends in no digit
+pub common_front : (x y : List ℕ) (place common : ℕ) → place ≤ common → common ≤ length x → common ≤ length y
+    → take common x ≡ take common y → (0 < place → is_ascii_digit (get_or x (place - 1) 0) ≡ false)
+    → texts_cmp (drop place x) (drop place y) ≡ texts_cmp x y
+common_front x y zero common in_common in_x in_y same ends = refl
+common_front x y (suc place) common in_common in_x in_y same ends =
+    let byte = get_or x place 0 in
+    let both = alike x y place common in_common in_x in_y same in
+    let last : place ≡ suc place - 1 = omega arith in
+    let other : is_ascii_digit byte ≡ false = ap (λ n. is_ascii_digit (get_or x n 0)) last ∙ ends (omega arith) in
+    sym ((λ i. texts_cmp (both.0 i) (both.1 i))
+    ∙ front_common (take place x) byte (drop (suc place) x) (drop (suc place) y) other)

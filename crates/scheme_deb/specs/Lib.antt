@@ -1,0 +1,4 @@
+pub mod Deb
+pub mod Laws
+pub mod Order
+pub mod Texts

@@ -1,0 +1,4 @@
+pub mod Canonical
+pub mod Costs
+pub mod Segments
+pub mod Walks

@@ -1,0 +1,35 @@
+use Rattle.std.proofs.Common.{[], ◌∷◌, sym}
+use Rattle.scheme_pypi.proofs.lemmas.Pieces.{bytes_of_number, bytes_of_text}
+use Rattle.version_order.proofs.lemmas.Taking.{next_fits, owes_all, owes_rest}
+use Rattle.scheme_pypi.proofs.key.put_piece.Goals as goal
+
+pub put_ranked-requires : goal.put_ranked-requires
+put_ranked-requires g c =
+    let laws = g.met.S.Sink in
+    (owes_all laws.fits_first laws.fits_then laws.takes_both
+    (bytes_of_number c.args.piece.now (sym c.if-is_digits.ensures)) c.requires.fits).room
+
+pub returns-then-is_digits : goal.returns-then-is_digits
+returns-then-is_digits g c =
+    let laws = g.met.S.Sink in
+    (owes_all laws.fits_first laws.fits_then laws.takes_both
+    (bytes_of_number c.args.piece.now (sym c.if-is_digits.ensures)) c.requires.fits).ends _ c.put_ranked.ensures.bytes
+
+pub put-requires : goal.put-requires
+put-requires g c =
+    let laws = g.met.S.Sink in
+    next_fits (2 ∷ []) _ (owes_all laws.fits_first laws.fits_then laws.takes_both
+    (bytes_of_text c.args.piece.now (sym c.if-is_digits.ensures)) c.requires.fits)
+
+pub put_text-requires-clause-fits : goal.put_text-requires-clause-fits
+put_text-requires-clause-fits g c =
+    let laws = g.met.S.Sink in
+    (owes_rest (2 ∷ []) _ (owes_all laws.fits_first laws.fits_then laws.takes_both
+    (bytes_of_text c.args.piece.now (sym c.if-is_digits.ensures)) c.requires.fits) c.put.ensures).room
+
+pub returns : goal.returns
+returns g c =
+    let laws = g.met.S.Sink in
+    (owes_rest (2 ∷ []) _ (owes_all laws.fits_first laws.fits_then laws.takes_both
+    (bytes_of_text c.args.piece.now (sym c.if-is_digits.ensures)) c.requires.fits) c.put.ensures).ends _
+    c.put_text.ensures

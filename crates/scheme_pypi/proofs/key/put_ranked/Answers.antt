@@ -1,0 +1,21 @@
+use Rattle.std.proofs.Common.{[], ◌∷◌, refl}
+use Rattle.version_order.proofs.lemmas.Taking.{next_fits, owes_all, owes_rest}
+use Rattle.scheme_pypi.proofs.key.put_ranked.Goals as goal
+
+pub put-requires : goal.put-requires
+put-requires g c =
+    let laws = g.met.S.Sink in
+    next_fits (c.args.rank ∷ []) _ (owes_all laws.fits_first laws.fits_then laws.takes_both refl c.requires)
+
+pub put_number-requires : goal.put_number-requires
+put_number-requires g c =
+    let laws = g.met.S.Sink in
+    (owes_rest (c.args.rank ∷ []) _ (owes_all laws.fits_first laws.fits_then laws.takes_both refl c.requires)
+    c.put.ensures).room
+
+pub returns-clause-bytes : goal.returns-clause-bytes
+returns-clause-bytes g c =
+    let laws = g.met.S.Sink in
+    (owes_rest (c.args.rank ∷ []) _ (owes_all laws.fits_first laws.fits_then laws.takes_both refl c.requires)
+    c.put.ensures).ends _
+    c.put_number.ensures.bytes

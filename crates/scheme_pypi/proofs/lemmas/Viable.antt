@@ -1,0 +1,4 @@
+pub mod Ends
+pub mod Releases
+pub mod Stages
+pub mod Words

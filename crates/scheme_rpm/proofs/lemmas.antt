@@ -1,0 +1,4 @@
+pub mod Costs
+pub mod Plain
+pub mod Rpm
+pub mod Viable

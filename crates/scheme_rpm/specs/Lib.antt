@@ -1,0 +1,4 @@
+pub mod Laws
+pub mod Order
+pub mod Rpm
+pub mod Texts

@@ -1,0 +1,5 @@
+pub mod Laws
+pub mod Order
+pub mod Reading
+pub mod Rules
+pub mod Texts

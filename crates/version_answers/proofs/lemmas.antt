@@ -1,0 +1,4 @@
+pub mod Explain
+pub mod Fields
+pub mod Pieces
+pub mod Sets

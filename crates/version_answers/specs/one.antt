@@ -1,0 +1,5 @@
+pub mod Json
+pub mod Key
+pub mod Next
+pub mod Show
+pub mod Why

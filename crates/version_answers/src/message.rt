@@ -1,0 +1,4 @@
+//! What a message says of a text.
+
+pub(crate) mod quote;
+pub(crate) mod remark;

@@ -1,4 +1,0 @@
-use Rattle.version_commands.proofs.arrange.arrange.Goals as goal
-
-pub returns-in-Newest : goal.returns-in-Newest
-returns-in-Newest g c = rw c.in-Newest.is c.keep_newest.ensures.kept

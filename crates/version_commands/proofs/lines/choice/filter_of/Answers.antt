@@ -1,0 +1,8 @@
+use Rattle.std.proofs.Common.{rules}
+use Rattle.version_commands.proofs.lemmas.lines.Choice.{of_word}
+use Rattle.version_commands.proofs.lines.choice.filter_of.Goals as goal
+
+pub returns-in_err-set_of_word-in-Filter-Some-default-clause-faults :
+    goal.returns-in_err-set_of_word-in-Filter-Some-default-clause-faults
+returns-in_err-set_of_word-in-Filter-Some-default-clause-faults c =
+    search (rules, of_word c.args.scheme c.in-Filter-Some-default.word)

@@ -1,0 +1,10 @@
+pub mod Arranged
+pub mod BySchemes
+pub mod Choice
+pub mod FirstWord
+pub mod Header
+pub mod Label
+pub mod Matched
+pub mod Ordered
+pub mod Picked
+pub mod Place

@@ -1,0 +1,192 @@
+//! The fault of lines that have no version.
+ghost use Rattle.std.specs.Prelude.{◌≡◌, [], None, string_bytes, IfErr, IfOk, OnOk};
+ghost use Rattle.version_commands.specs.lines.Arranged.{policy};
+ghost use Rattle.version_commands.specs.faults.Bad.{ends_in_return, scheme_at, Tells};
+ghost use Rattle.version_commands.specs.faults.Fault.{ComesOfBad};
+ghost use Rattle.version_answers.specs.message.Quote.{shown_front};
+
+use crate::faults::Fault;
+use crate::files::inputs::ends_line;
+use crate::lines::by_schemes::scheme_in;
+use crate::lines::pick::BadLines;
+use crate::lines::place::{column_in, line_text};
+use crate::options::{Invalid, LineOptions, VersionPlace};
+use std::alloc::{AllocError, Global};
+use std::fmt;
+use version_answers::{NoVersion, Others, Remark, Shown, Spelling, shown_front};
+use version_lines::Column;
+use version_schemes::Scheme;
+
+/// The first line that has no version, as a message tells of it.
+#[derive(Debug, PartialEq, Eq, Drop)]
+pub struct Blamed<'w> {
+    /// Its number, counted from 1: in its file, or through all files where they have no names.
+    pub number: usize,
+    /// The name of its file, if it has one.
+    pub file: Option<&'w str>,
+    /// As much as a message shows of the text that should name its version, or of the line where it has no such text.
+    pub text: String,
+    /// What is added to that.
+    pub remark: Option<Remark>,
+    /// Whether it ends in a carriage return that belongs to its end: `--crlf` is missing.
+    pub ends_in_return: bool,
+    /// How many more such lines there are.
+    pub more: usize,
+}
+
+impl fmt::Display for Blamed<'_> {
+    ghost use Rattle.std.specs.Prelude.{Some};
+    ghost use Rattle.version_commands.specs.faults.Fault.{bad_line_text};
+
+    ghost output = { λ bad. Some (bad_line_text bad) };
+
+    fn fmt<W: fmt::Write>(&self, f: &mut fmt::Formatter<W>) -> fmt::Result {
+        let (number, file) = (self.number, OfFile { file: self.file });
+        if self.ends_in_return {
+            let others = Others { more: self.more };
+            return write!(
+                f,
+                "line {number}{file} ends in a carriage return: --crlf{others}"
+            );
+        }
+        let text = NoVersion {
+            text: self.text.as_str(),
+            remark: self.remark,
+            more: self.more,
+        };
+        write!(f, "line {number}{file} is not a version: {text}")
+    }
+}
+
+// Of which file a line is.
+#[derive(Clone, Copy)]
+struct OfFile<'w> {
+    file: Option<&'w str>,
+}
+
+impl fmt::Display for OfFile<'_> {
+    ghost use Rattle.std.specs.Prelude.{Some};
+    ghost use Rattle.version_commands.specs.faults.Fault.{file_text};
+
+    ghost output = { λ of. Some (file_text of.file) };
+
+    fn fmt<W: fmt::Write>(&self, f: &mut fmt::Formatter<W>) -> fmt::Result {
+        match self.file {
+            Some(name) => {
+                let shown = Shown {
+                    text: name.as_bytes(),
+                };
+                write!(f, " of {shown}")
+            }
+            None => Ok(()),
+        }
+    }
+}
+
+/// Fails with the first line that has no version, if there is one and the options ask for that.
+pub fn refuse_bad<'w>(
+    alloc: Global,
+    options: &LineOptions<'_>,
+    bad: &BadLines<'_>,
+) -> Result<(), Fault<'w>>
+    ensures none { OnOk result (policy options.now ≡ Invalid.Fail → bad.now.lines.items ≡ []) }
+    ensures faults { IfErr result (ComesOfBad (policy options.now) options.now.place options.now.scheme_column None
+        options.now.header bad.now) }
+{
+    match policy(options) {
+        Invalid::Fail => {
+            let (place, schemes) = (&options.place, options.scheme_column);
+            refuse_first(alloc, place, schemes, None, options.header, bad)
+        }
+        Invalid::Skip | Invalid::First | Invalid::Last => Ok(()),
+    }
+}
+
+/// Returns what becomes of lines without a version: they are left out of the output where a file takes them.
+pub fn policy(options: &LineOptions<'_>) -> Invalid
+    ensures { result ≡ policy options.now }
+{
+    match options.invalid_to {
+        Some(_) => Invalid::Skip,
+        None => options.invalid,
+    }
+}
+
+/// Fails with the first line of a file that has no version, if there is one, behind a header of so many lines.
+pub fn refuse_first<'w>(
+    alloc: Global,
+    place: &VersionPlace<'_>,
+    schemes: Option<Column<'_>>,
+    file: Option<&'w str>,
+    header: usize,
+    bad: &BadLines<'_>,
+) -> Result<(), Fault<'w>>
+    ensures none { OnOk result (bad.now.lines.items ≡ []) }
+    ensures faults { IfErr result (ComesOfBad Invalid.Fail place.now schemes.entry file.entry header bad.now) }
+{
+    match bad.lines.as_slice() {
+        [] => Ok(()),
+        [first, others @ ..] => {
+            let (text, remark) = told(alloc, place, schemes, first)?;
+            Err(Fault::BadLine(Blamed {
+                number: header.saturating_add(bad.before).saturating_add(1),
+                file,
+                text,
+                remark,
+                ends_in_return: !place.crlf && ends_in_return(first),
+                more: others.len(),
+            }))
+        }
+    }
+}
+
+// Returns what a message shows of a line, and adds to it.
+fn told(
+    alloc: Global,
+    place: &VersionPlace<'_>,
+    schemes: Option<Column<'_>>,
+    line: &[u8],
+) -> Result<(String, Option<Remark>), AllocError>
+    ensures { IfOk result (λ told. Tells place.now schemes.entry line.now (string_bytes told.0) told.1) }
+{
+    let text = column_in(place.column, line_text(place.crlf, line));
+    match (scheme_at(place, schemes, line), text) {
+        (Some(scheme), Some(text)) => {
+            let spelling = Spelling {
+                naming: place.naming,
+                scheme,
+            };
+            Ok((front(alloc, text)?, spelling.remark(text)))
+        }
+        (Some(_), None) => Ok((front(alloc, line)?, Some(Remark::NoColumn))),
+        (None, _) => Ok((front(alloc, line)?, Some(Remark::NoScheme))),
+    }
+}
+
+// Returns as much of a text as a message shows.
+fn front(alloc: Global, text: &[u8]) -> Result<String, AllocError>
+    ensures { IfOk result (λ front. string_bytes front ≡ shown_front text.now) }
+{
+    String::from_str(alloc, shown_front(text))
+}
+
+/// Returns the scheme of a line: that of all, or the one that a column names.
+pub fn scheme_at(
+    place: &VersionPlace<'_>,
+    schemes: Option<Column<'_>>,
+    line: &[u8],
+) -> Option<Scheme>
+    ensures { result ≡ scheme_at place.now schemes.entry line.now }
+{
+    match schemes {
+        None => Some(place.scheme),
+        Some(column) => scheme_in(place, column, line),
+    }
+}
+
+/// Whether a line ends in a carriage return.
+pub fn ends_in_return(line: &[u8]) -> bool
+    ensures { result ≡ ends_in_return line.now }
+{
+    !line.is_empty() && ends_line(b'\r', line)
+}

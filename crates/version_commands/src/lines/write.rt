@@ -1,0 +1,191 @@
+//! Writing what a command answers.
+ghost use Rattle.std.specs.Prelude.{◌≡◌, ◌++◌, [], ℕ, List, map, if◌then◌else◌, IfErr, IfOk, OnErr, OnOk};
+ghost use Rattle.std.specs.Io.KnownBytes.{Appends};
+ghost use Rattle.version_commands.specs.lines.Arranged.{placed, policy};
+ghost use Rattle.version_commands.specs.faults.Early.{UnlessLate};
+ghost use Rattle.version_commands.specs.faults.Ends.{Ends};
+ghost use Rattle.version_commands.specs.faults.Fault.{ComesOfPut};
+ghost use Rattle.version_commands.specs.files.Files.{AltersAtMost, Leaves};
+ghost use Rattle.version_commands.specs.lines.Ordered.{bad_file, put_of, IsPlaced};
+ghost use Rattle.version_lines.specs.Lines.{answer_text, lines_output, output_by, whole_line};
+ghost use Rattle.version_lines.specs.Output.{AppendsProperBeginning, AppendsUpTo};
+
+use crate::faults::Fault;
+use crate::faults::bad::policy;
+use crate::files::Files;
+use crate::lines::pick::BadLines;
+use crate::lines::rows::{Rows, put_rows};
+use crate::options::{Invalid, LineOptions};
+use std::alloc::{AllocError, Global};
+use std::io::Write;
+use version_lines::{
+    Answer, LineCommand, LineEnd, NotWritten, Trouble, answer_lines, make_buffer, write_whole,
+};
+
+/// Writes the lines in their order behind a head, with those that have no version before or after them, or into the
+/// file for these. All memory is taken before anything is written.
+pub fn write_lines<'w, L: Rows, F: Files, W: Write>(
+    alloc: Global,
+    options: &LineOptions<'w>,
+    head: &[u8],
+    bad: &BadLines<'_>,
+    rows: &L,
+    files: &mut F,
+    writer: &mut W,
+) -> Result<(), Fault<'w>>
+    ensures ends { Ends (IsPlaced options.now head.now (map (λ line. line.now) bad.now.lines.items)
+        (L.lines rows.now) (Leaves F.puts files.old files.new)) (ComesOfPut options.now (F.refuses files.old))
+        (W.contents writer.old) (W.contents writer.new) result }
+    ensures files { AltersAtMost F.alters (bad_file options.now) files.old files.new }
+    ensures kept { UnlessLate (files.new ≡ files.old) result }
+{
+    let mut buffer = make_buffer(alloc)?;
+    buffer.extend_from_slice(head)?;
+    put_bad(alloc, options, bad, files)?;
+    write_placed(
+        policy(options),
+        options.end.byte,
+        bad,
+        rows,
+        writer,
+        &mut buffer,
+    )?;
+    Ok(())
+}
+
+// Writes what is in the buffer, and the lines in their order.
+fn write_placed<L: Rows, W: Write>(
+    invalid: Invalid,
+    end: u8,
+    bad: &BadLines<'_>,
+    rows: &L,
+    writer: &mut W,
+    buffer: &mut Vec<u8>,
+) -> Result<(), NotWritten>
+    ensures ok { OnOk result (Appends (W.contents writer.old) (W.contents writer.new)
+        (buffer.old.items ++ lines_output (whole_line end) (placed invalid
+        (map (λ line. line.now) bad.now.lines.items) (L.lines rows.now)))) }
+    ensures err { OnErr result (AppendsProperBeginning (W.contents writer.old)
+        (W.contents writer.new) (buffer.old.items ++ lines_output (whole_line end) (placed invalid
+        (map (λ line. line.now) bad.now.lines.items) (L.lines rows.now)))) }
+{
+    put_placed(invalid, end, bad, rows, writer, buffer)?;
+    write_whole(writer, buffer.as_slice())
+}
+
+// Adds the lines in their order to the buffer.
+fn put_placed<L: Rows, W: Write>(
+    invalid: Invalid,
+    end: u8,
+    bad: &BadLines<'_>,
+    rows: &L,
+    writer: &mut W,
+    buffer: &mut Vec<u8>,
+) -> Result<(), NotWritten>
+    ensures ok { OnOk result (AppendsUpTo (W.contents writer.old) (W.contents writer.new)
+        buffer.new.items (buffer.old.items ++ lines_output (whole_line end) (placed invalid
+        (map (λ line. line.now) bad.now.lines.items) (L.lines rows.now)))) }
+    ensures err { OnErr result (AppendsProperBeginning (W.contents writer.old)
+        (W.contents writer.new) (buffer.old.items ++ lines_output (whole_line end) (placed invalid
+        (map (λ line. line.now) bad.now.lines.items) (L.lines rows.now)))) }
+{
+    match invalid {
+        Invalid::First => put_both(end, &bad.lines, rows, writer, buffer),
+        Invalid::Last => put_both(end, rows, &bad.lines, writer, buffer),
+        Invalid::Fail | Invalid::Skip => put_rows(writer, buffer, end, rows),
+    }
+}
+
+// Adds lines and then others to the buffer.
+fn put_both<A: Rows, B: Rows, W: Write>(
+    end: u8,
+    first: &A,
+    second: &B,
+    writer: &mut W,
+    buffer: &mut Vec<u8>,
+) -> Result<(), NotWritten>
+    ensures ok { OnOk result (AppendsUpTo (W.contents writer.old) (W.contents writer.new)
+        buffer.new.items (buffer.old.items
+        ++ lines_output (whole_line end) (A.lines first.now ++ B.lines second.now))) }
+    ensures err { OnErr result (AppendsProperBeginning (W.contents writer.old)
+        (W.contents writer.new) (buffer.old.items
+        ++ lines_output (whole_line end) (A.lines first.now ++ B.lines second.now))) }
+{
+    put_rows(writer, buffer, end, first)?;
+    put_rows(writer, buffer, end, second)
+}
+
+// Writes the lines that have no version into the file for these, if there is one.
+fn put_bad<'w, F: Files>(
+    alloc: Global,
+    options: &LineOptions<'w>,
+    bad: &BadLines<'_>,
+    files: &mut F,
+) -> Result<(), Fault<'w>>
+    ensures put { OnOk result (Leaves F.puts files.old files.new
+        (put_of options.now (map (λ line. line.now) bad.now.lines.items))) }
+    ensures files { AltersAtMost F.alters (bad_file options.now) files.old files.new }
+    ensures faults { IfErr result (ComesOfPut options.now (F.refuses files.old)) }
+{
+    let Some(name) = options.invalid_to else {
+        return Ok(());
+    };
+    let bytes = joined_lines(alloc, options.end.byte, bad.lines.as_slice())?;
+    match files.put(name, bytes.as_slice()) {
+        Ok(()) => Ok(()),
+        Err(Trouble::Memory) => Err(Fault::Memory),
+        Err(Trouble::System) => Err(Fault::Write(Some(name))),
+    }
+}
+
+// Returns the lines, each with the byte that ends it.
+fn joined_lines(alloc: Global, end: u8, lines: &[&[u8]]) -> Result<Vec<u8>, AllocError>
+    ensures { IfOk result (λ bytes. bytes.items
+        ≡ lines_output (whole_line end) (map (λ line. line.now) lines.now)) }
+{
+    let mut bytes = Vec::new(alloc);
+    for line in lines {
+        bytes.extend_from_slice(line)?;
+        bytes.push(end)?;
+    }
+    Ok(bytes)
+}
+
+/// Writes what a command answers for each line. Not inlined, so that each of its forms has the registers for itself.
+#[inline(never)]
+pub fn write_answers<'w, C: LineCommand, W: Write>(
+    alloc: Global,
+    command: &C,
+    end: LineEnd,
+    input: &[u8],
+    writer: &mut W,
+) -> Result<(), Fault<'w>>
+    ensures { Ends (λ output. output ≡ output_by end (C.line_output command.now end.byte) input.now)
+        (λ fault. fault ≡ Fault.Memory) (W.contents writer.old) (W.contents writer.new) result }
+{
+    let mut buffer = make_buffer(alloc)?;
+    answer_lines(command, end, input, writer, &mut buffer)?;
+    Ok(())
+}
+
+/// Returns the answer for a line: all of it, if it is kept.
+#[inline(always)]
+pub fn whole_if(kept: bool) -> Answer
+    ensures { (end : ℕ) → (line : List ℕ) → answer_text end result line
+        ≡ if kept then whole_line end line else [] }
+{
+    if kept {
+        Answer::Line(b"")
+    } else {
+        Answer::Nothing
+    }
+}
+
+/// Writes an answer that was gathered.
+pub fn write_answer<'w, W: Write>(writer: &mut W, answer: &[u8]) -> Result<(), Fault<'w>>
+    ensures { Ends (λ output. output ≡ answer.now) (λ _. ⊥)
+        (W.contents writer.old) (W.contents writer.new) result }
+{
+    write_whole(writer, answer)?;
+    Ok(())
+}

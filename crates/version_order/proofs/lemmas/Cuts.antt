@@ -1,0 +1,156 @@
+-- Texts that are cut at a byte, that begin alike, and how long an epoch is in a key.
+use Rattle.std.proofs.Common.{◌≡◌, ◌∙◌, ◌<◌, ◌≤◌, ◌==◌, ◌+◌, ◌-◌, ◌*◌, ◌++◌, ◌∷◌, [], ℕ, Bool, List, Option, None, Some, false, true, ap, arith, drop, get_or, if◌then◌else◌, inl, inr, length, refl, suc, sym, take}
+use Rattle.std.proofs.Math.Seq.{drop-cons}
+use Rattle.std.proofs.lemmas.Bool.{cases_Bool, eqb-true}
+use Rattle.std.proofs.lemmas.List.{get_or-take, length-append, length-drop, take-append-drop, take-take, take_all}
+use Rattle.std.specs.Char.{is_ascii_digit}
+use Rattle.std.specs.Cmp.{first_so, second_so}
+use Rattle.std.specs.List.{list_all, take_while}
+use Rattle.std.specs.Option.{option_map}
+use Rattle.std.specs.Str.Parse.{digits_value}
+use Rattle.version_order.proofs.lemmas.Front.Runs.{take_while-all}
+use Rattle.version_order.specs.texts.DigitRun.{is_digits, run_value}
+use Rattle.version_order.specs.keys.NumberBytes.{number_bytes}
+use Rattle.version_order.proofs.lemmas.Lengths.{number_length}
+use Rattle.version_order.proofs.lemmas.Runs.{run_cons, run_none}
+use Rattle.version_order.specs.texts.Cuts.{cut_first, cut_last, is_epoch, split_epoch}
+
+pub cut_between : (at : ℕ) (front rest : List ℕ) → cut_last at rest ≡ None → cut_last at (front ++ at ∷ rest) ≡ Some (front, rest)
+cut_between at [] rest none =
+    let same : (at == at) ≡ true = grind arith in
+    rw (none, same) refl
+cut_between at (byte ∷ front) rest none = rw (cut_between at front rest none) refl
+
+-- a text is cut at a place behind which the byte isn't
+pub cut_at : (at : ℕ) (text : List ℕ) (place : ℕ) → place < length text → get_or text place 0 ≡ at
+    → cut_last at (drop (place + 1) text) ≡ None
+    → Some (take place text, take (length text - (place + 1)) (drop (place + 1) text)) ≡ cut_last at text
+cut_at at text place within is none =
+    let rest = drop (place + 1) text in
+    let next : suc place ≡ place + 1 = omega arith in
+    let from : drop place text ≡ at ∷ rest =
+    drop-cons text place 0 within ∙ (λ i. is i ∷ drop (next i) text) in
+    let whole : text ≡ take place text ++ at ∷ rest =
+    sym (take-append-drop place text) ∙ ap (λ (l : List ℕ). take place text ++ l) from in
+    let all : take (length text - (place + 1)) rest ≡ rest =
+    take_all (length text - (place + 1)) rest (omega (arith, length-drop (place + 1) text)) in
+    ap (λ (l : List ℕ). Some (take place text, l)) all
+    ∙ sym (ap (cut_last at) whole ∙ cut_between at (take place text) rest none)
+
+-- a byte at which a test fails cuts no text whose bytes pass it
+pub not_cut : (test : ℕ → Bool) (at : ℕ) (text : List ℕ) → test at ≡ false → list_all test text ≡ true
+    → (cut_first at text ≡ None) × (cut_last at text ≡ None)
+not_cut test at [] fails all = (refl, refl)
+not_cut test at (byte ∷ text) fails all =
+    let rest = not_cut test at text fails (second_so (test byte) (list_all test text) all) in
+    let other : (byte == at) ≡ false = elim (cases_Bool (byte == at)) [
+      | inl is ↦ cc (sym (first_so (test byte) (list_all test text) all) ∙ ap test (eqb-true byte at is) ∙ fails)
+      | inr differ ↦ differ
+    ] in
+    (rw (other, rest.0) refl, rw (other, rest.1) refl)
+
+-- a text that is cut is as long as what stands before the byte, the byte, and what stands behind it
+pub cut_first-length : (at : ℕ) (text : List ℕ) (cut : List ℕ × List ℕ) → cut_first at text ≡ Some cut
+    → length text ≡ length cut.0 + 1 + length cut.1
+cut_first-length at [] cut e = cc e
+cut_first-length at (byte ∷ text) cut e = by (byte == at) e (cut_first at text) refl (cut_first-length at text)
+  where
+    by : (is : Bool)
+        → (if is then Some ([], text) else option_map (λ (c : List ℕ × List ℕ). (byte ∷ c.0, c.1)) (cut_first at text))
+        ≡ Some cut
+        → (rest : Option (List ℕ × List ℕ)) → cut_first at text ≡ rest
+        → ((inner : List ℕ × List ℕ) → cut_first at text ≡ Some inner → length text ≡ length inner.0 + 1 + length inner.1)
+        → length (byte ∷ text) ≡ length cut.0 + 1 + length cut.1
+    by true whole rest is shorter =
+        let same : ([], text) ≡ cut = cc whole in
+        rw (sym same) (omega arith)
+    by false whole None is shorter = cc (rw is at whole)
+    by false whole (Some inner) is shorter =
+        let same : (byte ∷ inner.0, inner.1) ≡ cut = cc (rw is at whole) in
+        rw (sym same) (omega (arith, shorter inner is))
+
+pub cut_last-whole : (at : ℕ) (text : List ℕ) (cut : List ℕ × List ℕ) → cut_last at text ≡ Some cut
+    → text ≡ cut.0 ++ at ∷ cut.1
+cut_last-whole at [] cut e = cc e
+cut_last-whole at (byte ∷ text) cut e = by (cut_last at text) refl (byte == at) refl (cut_last-whole at text)
+  where
+    by : (rest : Option (List ℕ × List ℕ)) → cut_last at text ≡ rest → (here : Bool) → (byte == at) ≡ here
+        → ((inner : List ℕ × List ℕ) → cut_last at text ≡ Some inner → text ≡ inner.0 ++ at ∷ inner.1)
+        → byte ∷ text ≡ cut.0 ++ at ∷ cut.1
+    by (Some inner) is here at_byte more =
+        let same : (byte ∷ inner.0, inner.1) ≡ cut = cc (rw is at e) in
+        rw (sym same) (ap (λ (l : List ℕ). byte ∷ l) (more inner is))
+    by None is true at_byte more =
+        let same : ([], text) ≡ cut = cc (rw (is, at_byte) at e) in
+        rw (sym same) (ap (λ (b : ℕ). b ∷ text) (eqb-true byte at at_byte))
+    by None is false at_byte more = cc (rw (is, at_byte) at e)
+
+pub cut_last-length : (at : ℕ) (text : List ℕ) (cut : List ℕ × List ℕ) → cut_last at text ≡ Some cut
+    → length text ≡ length cut.0 + 1 + length cut.1
+cut_last-length at text cut e =
+    omega (arith, ap (λ (l : List ℕ). length l) (cut_last-whole at text cut e), length-append cut.0 (at ∷ cut.1))
+
+-- a byte within what two texts have in common is in both, behind the same bytes
+pub alike : (x y : List ℕ) (place common : ℕ) → suc place ≤ common → common ≤ length x → common ≤ length y
+    → take common x ≡ take common y
+    → (x ≡ take place x ++ get_or x place 0 ∷ drop (suc place) x)
+    × (y ≡ take place x ++ get_or x place 0 ∷ drop (suc place) y)
+alike x y place common in_common in_x in_y same =
+    let fronts : take place x ≡ take place y =
+    sym (take-take place common x (omega (arith, in_common))) ∙ ap (take place) same
+    ∙ take-take place common y (omega (arith, in_common)) in
+    let bytes : get_or x place 0 ≡ get_or y place 0 =
+    sym (get_or-take common x place 0 (omega (arith, in_common))) ∙ ap (λ (l : List ℕ). get_or l place 0) same
+    ∙ get_or-take common y place 0 (omega (arith, in_common)) in (
+      sym (take-append-drop place x)
+          ∙ ap (λ (l : List ℕ). take place x ++ l) (drop-cons x place 0 (omega (arith, in_common, in_x))),
+      sym (take-append-drop place y)
+          ∙ ap (λ (l : List ℕ). take place y ++ l) (drop-cons y place 0 (omega (arith, in_common, in_y)))
+          ∙ sym (λ i. fronts i ++ bytes i ∷ drop (suc place) y),
+    )
+
+-- a run that ends within what two texts have in common is the same in both
+pub run_common : (kind : ℕ → Bool) (front : List ℕ) (byte : ℕ) (a b : List ℕ) → kind byte ≡ false
+    → take_while kind (front ++ byte ∷ a) ≡ take_while kind (front ++ byte ∷ b)
+run_common kind [] byte a b ends = (run_none kind byte a ends).0 ∙ sym (run_none kind byte b ends).0
+run_common kind (first ∷ front) byte a b ends = elim (cases_Bool (kind first)) [
+  | inl is ↦
+      (run_cons kind first (front ++ byte ∷ a) is).0
+      ∙ ap (λ (l : List ℕ). first ∷ l) (run_common kind front byte a b ends)
+      ∙ sym (run_cons kind first (front ++ byte ∷ b) is).0
+  | inr other ↦
+      (run_none kind first (front ++ byte ∷ a) other).0 ∙ sym (run_none kind first (front ++ byte ∷ b) other).0
+]
+
+-- digits, one or more, are their own run
+run_of_digits : (digits : List ℕ) → is_digits digits ≡ true
+    → (list_all is_ascii_digit digits ≡ true) × (0 < length digits) × (run_value digits ≡ digits_value 10 digits)
+run_of_digits [] is = cc is
+run_of_digits (digit ∷ digits) is =
+    let all = second_so _ _ is in (
+      all,
+      omega arith,
+      ap (digits_value 10) (take_while-all is_ascii_digit (digit ∷ digits) all),
+    )
+
+-- the bytes of an epoch and twice those behind it are at most one more than twice those of the text
+pub epoch_length : (most : ℕ) (text : List ℕ) (cut : ℕ × List ℕ) → split_epoch most text ≡ Some cut
+    → length (number_bytes cut.0) + 2 * length cut.1 ≤ 2 * length text + 1
+epoch_length most text cut e = by (cut_first 58 text) refl
+  where
+    by_epoch : (inner : List ℕ × List ℕ) → cut_first 58 text ≡ Some inner → (is : Bool) → is_epoch most inner.0 ≡ is
+        → length (number_bytes cut.0) + 2 * length cut.1 ≤ 2 * length text + 1
+    by_epoch inner first true is =
+        let same : (run_value inner.0, inner.1) ≡ cut = cc (rw (first, is) at e) in
+        let digits = run_of_digits inner.0 (first_so _ _ is) in
+        let number : length (number_bytes (run_value inner.0)) ≤ 2 * length inner.0 =
+        rw digits.2 (number_length inner.0 digits.0 digits.1) in
+        rw (sym same) (omega (arith, number, cut_first-length 58 text inner first))
+    by_epoch inner first false is = cc (rw (first, is) at e)
+
+    by : (first : Option (List ℕ × List ℕ)) → cut_first 58 text ≡ first
+        → length (number_bytes cut.0) + 2 * length cut.1 ≤ 2 * length text + 1
+    by None is =
+        let same : (0, text) ≡ cut = cc (rw is at e) in
+        rw (sym same) (omega arith)
+    by (Some inner) is = by_epoch inner is (is_epoch most inner.0) refl

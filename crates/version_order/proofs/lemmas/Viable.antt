@@ -1,0 +1,6 @@
+pub mod Cuts
+pub mod Epochs
+pub mod Laws
+pub mod Left
+pub mod Walks
+pub mod Within

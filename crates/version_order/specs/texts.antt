@@ -1,0 +1,9 @@
+pub mod Bytes
+pub mod Class
+pub mod Cuts
+pub mod DigitRun
+pub mod Front
+pub mod Grammar
+pub mod Pieces
+pub mod Reading
+pub mod Sep

@@ -1,0 +1,29 @@
+-- What texts of several schemes are made of.
+use Rattle.std.specs.Prelude.{◌==◌, ◌&&◌, ℕ, Bool, List, [], ◌∷◌, if◌then◌else◌, nat_le, Option, None, Some}
+use Rattle.std.specs.Option.{option_map, option_or}
+use Rattle.version_order.specs.texts.DigitRun.{is_digits, run_value}
+
+-- the text before the first byte of this kind, and behind it
+abbrev pub cut_first : ℕ → List ℕ → Option (List ℕ × List ℕ)
+cut_first at [] = None
+cut_first at (byte ∷ text) =
+    if byte == at then Some ([], text) else option_map (λ cut. (byte ∷ cut.0, cut.1)) (cut_first at text)
+
+-- the text before the last one, and behind it
+abbrev pub cut_last : ℕ → List ℕ → Option (List ℕ × List ℕ)
+cut_last at [] = None
+cut_last at (byte ∷ text) =
+    option_or (option_map (λ cut. (byte ∷ cut.0, cut.1)) (cut_last at text))
+    (if byte == at then Some ([], text) else None)
+
+-- an epoch: digits whose number is at most this
+abbrev pub is_epoch : ℕ → List ℕ → Bool
+is_epoch most digits = is_digits digits && nat_le (run_value digits) most
+
+-- the epoch before the first colon, zero where there is no colon, and the text behind it
+abbrev pub split_epoch : ℕ → List ℕ → Option (ℕ × List ℕ)
+split_epoch most text = by (cut_first 58 text)
+  where
+    by : Option (List ℕ × List ℕ) → Option (ℕ × List ℕ)
+    by None = Some (0, text)
+    by (Some cut) = if is_epoch most cut.0 then Some (run_value cut.0, cut.1) else None

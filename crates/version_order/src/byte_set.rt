@@ -1,0 +1,61 @@
+//! Sets of bytes of a scheme's own, and runs of them.
+
+ghost use Rattle.std.specs.Prelude.{◌≡◌, Bool, drop, ℕ};
+ghost use Rattle.std.specs.List.{list_all, prefix_len, take_while};
+
+/// A set of bytes that a scheme's texts are made of.
+pub trait ByteSet {
+    // A byte is one of them.
+    ghost has: { ℕ → Bool };
+
+    /// Returns whether a byte is one of them: by a table, which is faster than comparisons.
+    fn has(byte: u8) -> bool
+        ensures { result ≡ has byte };
+}
+
+/// Returns the longest run of bytes of a set at the start of a text, which may be empty, and the rest.
+#[inline(always)]
+pub fn split_set<B: ByteSet>(text: &[u8]) -> (&[u8], &[u8])
+    ensures run { result.0.now ≡ take_while B.has text.now }
+    ensures rest { result.1.now ≡ drop (prefix_len B.has text.now) text.now }
+{
+    text.split_at(text.len() - after_set::<B>(text).len())
+}
+
+/// Returns whether all bytes of a text are of a set.
+#[inline(always)]
+pub fn are_of<B: ByteSet>(text: &[u8]) -> bool
+    ensures { result ≡ list_all B.has text.now }
+{
+    after_set::<B>(text).is_empty()
+}
+
+// Returns a text without the bytes of a set that it begins with.
+#[inline(always)]
+fn after_set<B: ByteSet>(text: &[u8]) -> &[u8]
+    ensures { result.now ≡ drop (prefix_len B.has text.now) text.now }
+{
+    // The first look-up, before the loop, keeps the address of the table out of the loop.
+    let [first, rest @ ..] = text else {
+        return text;
+    };
+    if !B::has(*first) {
+        return text;
+    }
+    after_more::<B>(rest)
+}
+
+// Returns the same, for what follows a byte of the set.
+#[inline(always)]
+fn after_more<B: ByteSet>(text: &[u8]) -> &[u8]
+    ensures { result.now ≡ drop (prefix_len B.has text.now) text.now }
+{
+    let mut left = text;
+    while let [byte, rest @ ..] = left {
+        if !B::has(*byte) {
+            return left;
+        }
+        left = rest;
+    }
+    left
+}

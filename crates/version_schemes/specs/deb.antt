@@ -1,5 +1,0 @@
-pub mod Deb
-pub mod Laws
-pub mod Order
-pub mod Room
-pub mod Texts

@@ -1,4 +1,0 @@
--- Lemmas that speak of no definition of this crate: runs and splits of a text.
-pub mod Runs
-pub mod RunsWithin
-pub mod Splits

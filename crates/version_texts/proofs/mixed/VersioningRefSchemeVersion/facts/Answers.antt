@@ -1,0 +1,5 @@
+use Rattle.version_texts.proofs.lemmas.Mixed.{mixed_within}
+use Rattle.version_texts.proofs.mixed.VersioningRefSchemeVersion.facts.Goals as goal
+
+pub returns-clause-within : goal.returns-clause-within
+returns-clause-within c = mixed_within

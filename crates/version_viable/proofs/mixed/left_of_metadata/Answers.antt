@@ -1,7 +1,0 @@
-use Rattle.version_viable.proofs.lemmas.Mixed.{some_metadata}
-use Rattle.version_viable.proofs.mixed.left_of_metadata.Goals as goal
-
-pub returns-in-Some : goal.returns-in-Some
-returns-in-Some c =
-    some_metadata c.args.text.now c.in-Some.behind.now _ _ c.in-Some.ensures c.split_run.ensures.run
-    c.split_run.ensures.rest
