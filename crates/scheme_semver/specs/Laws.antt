@@ -3,14 +3,14 @@ use Rattle.std.proofs.Common.{◌≡◌, ◌++◌, ℕ, List, [], Option, None, 
 use Rattle.std.specs.Ordering.{ordering_then}
 use Rattle.version_order.proofs.lemmas.Codes.{writes_on, writes_then}
 use Rattle.version_order.proofs.lemmas.NumberBytes.{number_writes, some_bytes}
-use Rattle.version_rules.proofs.lemmas.ReleaseOrder.{release_writes}
+use Rattle.version_rules.proofs.lemmas.Key.{release_writes}
 use Rattle.version_rules.specs.grammar.Chunk.{PlainChunk}
 use Rattle.version_rules.specs.grammar.SemVer.{PlainSemVer}
 use Rattle.version_order.specs.keys.Codes.{Writes}
 use Rattle.version_order.specs.keys.NumberBytes.{number_bytes}
 use Rattle.version_order.specs.keys.Lists.{bytes_cmp, none_last_cmp}
-use Rattle.version_rules.specs.order.ReleaseOrder.{release_cmp}
-use Rattle.version_rules.specs.order.SemVerOrder.{semver_cmp}
+use Rattle.version_rules.specs.order.Parts.{release_cmp}
+use Rattle.version_rules.specs.order.Kinds.{semver_cmp}
 use Rattle.std.specs.Prelude.{IfSome, codes, is_some}
 use Rattle.version_order.proofs.lemmas.Keyed.{compares_by_keys, some_key}
 use Rattle.version_order.specs.Keyed.{by_key}

@@ -3,7 +3,7 @@ use Rattle.std.specs.Prelude.{ℕ, List, [], ◌∷◌, ◌++◌, Option, None, 
 use Rattle.version_rules.specs.grammar.Chunk.{PlainChunk}
 use Rattle.version_rules.specs.grammar.SemVer.{PlainSemVer}
 use Rattle.version_order.specs.keys.NumberBytes.{number_bytes}
-use Rattle.version_rules.specs.order.ReleaseOrder.{release_bytes}
+use Rattle.version_rules.specs.order.Parts.{release_bytes}
 
 -- a pre-release comes before its release
 abbrev pub pre_release_bytes : Option (List PlainChunk) → List ℕ

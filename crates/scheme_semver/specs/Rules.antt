@@ -6,7 +6,7 @@ use Rattle.version_order.specs.Rules.{Rules, rules_of}
 use Rattle.version_order.specs.declared.facts.Operators.TheVariants.{Plain}
 use Rattle.version_order.specs.texts.DigitRun.{run_value}
 use Rattle.version_rules.specs.grammar.SemVer.{PlainSemVer}
-use Rattle.version_rules.specs.order.SemVerOrder.{semver_cmp}
+use Rattle.version_rules.specs.order.Kinds.{semver_cmp}
 use Rattle.scheme_semver.specs.declared.version.SemVer.{SemVer}
 use Rattle.scheme_semver.specs.Order.{semver_bytes}
 use Rattle.scheme_semver.specs.Texts.{identifiers_of, semver_of}

@@ -10,7 +10,7 @@ use Rattle.version_order.specs.texts.Bytes.{hyphen, is_identifier_byte, plus}
 use Rattle.version_rules.specs.grammar.Chunk.{PlainChunk}
 use Rattle.version_order.specs.texts.DigitRun.{is_digits}
 use Rattle.version_rules.specs.grammar.SemVer.{PlainSemVer}
-use Rattle.version_rules.specs.order.SemVerOrder.{semver_cmp}
+use Rattle.version_rules.specs.order.Kinds.{semver_cmp}
 use Rattle.version_texts.specs.key.TextKey.{chunks_of}
 use Rattle.version_order.specs.texts.Pieces.{pieces}
 use Rattle.version_order.specs.texts.Front.{is_run}

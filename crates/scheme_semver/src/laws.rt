@@ -5,7 +5,7 @@ ghost use Rattle.std.specs.declared.cmp.Ordering.TheVariants.{Equal, Greater, Le
 ghost use Rattle.version_order.specs.Rules.{ComparesByKeys};
 ghost use Rattle.version_order.specs.Viable.{IsViable};
 ghost use Rattle.version_order.specs.keys.Codes.{Writes};
-ghost use Rattle.version_rules.specs.order.SemVerOrder.{semver_cmp};
+ghost use Rattle.version_rules.specs.order.Kinds.{semver_cmp};
 ghost use Rattle.scheme_semver.specs.Order.{semver_bytes};
 ghost use Rattle.scheme_semver.specs.Rules.{semver_rules};
 ghost use Rattle.scheme_semver.specs.Texts.{semver_of, texts_cmp};

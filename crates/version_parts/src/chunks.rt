@@ -10,12 +10,11 @@ ghost use Rattle.version_parts.specs.Body.{plain_chunks};
 ghost use Rattle.version_parts.specs.Front.{Reads};
 ghost use Rattle.version_parts.specs.Last.{plain_last, plain_last_ref};
 ghost use Rattle.version_order.specs.keys.OrderLaws.{same_where_tied};
-ghost use Rattle.version_rules.specs.order.PartOrder.{chunks_cmp};
-ghost use Rattle.version_rules.specs.laws.PartOrder.{chunks_cmp_ties, chunks_cmp_total};
+ghost use Rattle.version_rules.specs.order.Parts.{chunks_cmp, release_cmp};
+ghost use Rattle.version_rules.specs.laws.Part.{chunks_cmp_ties, chunks_cmp_total};
 ghost use Rattle.version_parts.specs.Release.{release_fed};
 ghost use Rattle.version_rules.specs.grammar.Release.{release_text};
 ghost use Rattle.version_rules.specs.laws.Release.{release_total, releases_same};
-ghost use Rattle.version_rules.specs.order.ReleaseOrder.{release_cmp};
 
 use crate::chunk::{Chunk, Part};
 use crate::key::compare_part_lists;

@@ -15,8 +15,8 @@ ghost use Rattle.version_rules.specs.laws.Last.{last_total, lasts_same};
 ghost use Rattle.version_rules.specs.order.LastOrder.{last_plain_cmp, last_rank};
 ghost use Rattle.version_order.specs.keys.OrderLaws.{same_where_tied};
 ghost use Rattle.version_rules.specs.key.PartKey.{part_bytes, part_key};
-ghost use Rattle.version_rules.specs.order.PartOrder.{last_cmp};
-ghost use Rattle.version_rules.specs.laws.PartOrder.{last_cmp_ties, last_cmp_total};
+ghost use Rattle.version_rules.specs.order.Parts.{last_cmp};
+ghost use Rattle.version_rules.specs.laws.Part.{last_cmp_ties, last_cmp_total};
 
 use crate::chunk::{Chunk, ChunkRef};
 use crate::key::{PartText, PieceBytes, compare_parts};

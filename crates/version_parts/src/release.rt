@@ -12,7 +12,7 @@ ghost use Rattle.version_order.specs.keys.OrderLaws.{same_where_tied};
 ghost use Rattle.version_parts.specs.Release.{plain_release, release_fed};
 ghost use Rattle.version_rules.specs.grammar.Release.{release_front, release_text};
 ghost use Rattle.version_rules.specs.laws.Release.{release_total, releases_same};
-ghost use Rattle.version_rules.specs.order.ReleaseOrder.{release_bytes, release_cmp};
+ghost use Rattle.version_rules.specs.order.Parts.{release_bytes, release_cmp};
 
 use crate::chunk::{Chunk, ReleaseChunk};
 use crate::key::{ItemsLeft, ListLeft};

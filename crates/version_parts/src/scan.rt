@@ -10,7 +10,7 @@ ghost use Rattle.version_order.specs.texts.Class.{contains, IsAsciiClass};
 ghost use Rattle.version_order.specs.texts.Front.{after_mark, behind, dotted_front, elements_at, run_front, Consumes, Front};
 ghost use Rattle.version_parts.specs.Front.{Reads};
 ghost use Rattle.version_order.specs.keys.Lists.{split_last};
-ghost use Rattle.version_rules.specs.grammar.Metadata.{meta_front};
+ghost use Rattle.version_rules.specs.grammar.Release.{meta_front};
 ghost use Rattle.version_rules.specs.grammar.Numeral.{unsigned_front, SpellsNumeral};
 ghost use Rattle.version_parts.specs.Sep.{plain_sep};
 ghost use Rattle.version_order.specs.texts.Sep.{sep_front};

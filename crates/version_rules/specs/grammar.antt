@@ -1,11 +1,9 @@
 pub mod Body
 pub mod Chunk
 pub mod Conversions
-pub mod Kind
 pub mod Last
 pub mod MChunk
 pub mod Mess
-pub mod Metadata
 pub mod Numeral
 pub mod Release
 pub mod SemVer

@@ -1,14 +1,7 @@
 pub mod Front
 pub mod Key
 pub mod Last
-pub mod MChunk
 pub mod Matching
-pub mod Mess
-pub mod Orders
 pub mod Part
-pub mod PartKey
-pub mod PartOrder
 pub mod Release
-pub mod SemVer
-pub mod Version
 pub mod Versioning

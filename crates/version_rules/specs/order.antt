@@ -1,6 +1,4 @@
+pub mod Kinds
 pub mod LastOrder
 pub mod Orders
-pub mod PartOrder
-pub mod ReleaseOrder
-pub mod SemVerOrder
-pub mod VersionOrder
+pub mod Parts

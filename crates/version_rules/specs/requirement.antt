@@ -1,10 +1,6 @@
-pub mod Ends
-pub mod Inexact
 pub mod Matching
-pub mod Op
 pub mod Range
 pub mod Requirement
 pub mod Requirements
-pub mod RequirementsRef
 pub mod SemVerMatch
 pub mod VersionMatch

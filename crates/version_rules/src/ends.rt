@@ -1,11 +1,9 @@
 //! The ends of ranges: which bytes each operator takes from the key of its version.
 
 ghost use Rattle.std.specs.Prelude.{◌≡◌, Some, true};
-ghost use Rattle.version_rules.specs.requirement.Ends.{kept_parts, range_from, AreWhole};
+ghost use Rattle.version_rules.specs.requirement.Range.{kept_parts, range_from, AreWhole, all_kinds, is_strict, kind_alone, no_kinds, op_range, range_without_version, series_range};
 ghost use Rattle.version_rules.specs.key.Key.{key_of, Key};
-ghost use Rattle.version_rules.specs.grammar.Kind.{versioning_kind};
-ghost use Rattle.version_rules.specs.requirement.Range.{all_kinds, is_strict, kind_alone, no_kinds, op_range, range_without_version, series_range};
-ghost use Rattle.version_rules.specs.grammar.Versioning.{PlainVersioning};
+ghost use Rattle.version_rules.specs.grammar.Versioning.{versioning_kind, PlainVersioning};
 ghost use Rattle.version_rules.specs.declared.kind.Kind.TheVariants.{Complex};
 ghost use Rattle.version_order.specs.declared.ends.End.TheVariants.{Zero};
 
@@ -71,7 +69,7 @@ impl Ends {
 
 /// Returns the ends of the range that an operator with a version of a kind asks for. docs/REQUIREMENTS.md has the
 /// rules. Does not allocate.
-#[tactic(auto, using(crate::proofs::lemmas::Ends::ends_written))]
+#[tactic(auto, using(crate::proofs::lemmas::Range::ends_written))]
 pub fn ends_of(op: Op, kind: Kind) -> Ends
     ensures range { (v : PlainVersioning) → versioning_kind v ≡ kind
         → range_from result (key_of v) ≡ op_range op v }
@@ -102,7 +100,7 @@ pub fn ends_without_version(op: Op) -> Ends
 }
 
 // Returns the ends for `~` or `^`, by the parts that they keep.
-#[tactic(auto, using(crate::proofs::lemmas::Ends::ends_written))]
+#[tactic(auto, using(crate::proofs::lemmas::Range::ends_written))]
 fn series_ends(kind: Kind, kept: Kept) -> Ends
     ensures range { (v : PlainVersioning) → versioning_kind v ≡ kind
         → range_from result (key_of v) ≡ series_range (kept_parts kept) v }

@@ -3,7 +3,7 @@
 ghost use Rattle.std.specs.Prelude.{◌≡◌, Some};
 ghost use Rattle.std.specs.Option.{option_map};
 ghost use Rattle.version_order.specs.texts.Front.{after_mark};
-ghost use Rattle.version_rules.specs.requirement.Op.{after_word, op_front, op_text};
+ghost use Rattle.version_rules.specs.requirement.Requirement.{after_word, op_front, op_text};
 
 use std::fmt;
 
@@ -31,7 +31,7 @@ pub enum Op {
 impl Op {
     /// Returns the operator that a text begins with, and the rest, or None without one. Of two operators the longer
     /// counts. Does not allocate.
-    #[tactic(auto, unfolding(crate::specs::requirement::Op::op_front))]
+    #[tactic(auto, unfolding(crate::specs::requirement::Requirement::op_front))]
     pub fn split(text: &[u8]) -> Option<(Op, &[u8])>
         ensures { option_map (λ r. (r.0, r.1.now)) result ≡ op_front text.now }
     {

@@ -5,7 +5,7 @@ use Rattle.version_order.specs.declared.ends.End.{End}
 use Rattle.version_order.specs.declared.ends.End.TheVariants.{AboveBegun, AfterKey, Begun, Key, Lowest}
 use Rattle.version_order.specs.declared.ends.Kept.TheVariants.{All, ButLastOrOnly, ThroughOther}
 use Rattle.version_order.specs.texts.Front.{Front}
-use Rattle.version_rules.specs.requirement.Op.{after_word}
+use Rattle.version_rules.specs.requirement.Requirement.{after_word}
 use Rattle.version_order.specs.declared.facts.Operators.{Operators}
 use Rattle.version_order.specs.declared.facts.Operators.TheVariants.{Doubled, Parts}
 use Rattle.version_order.specs.Keyed.{PlainKeyed, end_of}

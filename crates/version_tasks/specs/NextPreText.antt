@@ -7,7 +7,7 @@ use Rattle.std.specs.declared.cmp.Ordering.TheVariants.{Greater}
 use Rattle.version_order.specs.texts.Bytes.{dot, hyphen, is_identifier_byte}
 use Rattle.version_rules.specs.grammar.Chunk.{PlainChunk, Numeric}
 use Rattle.version_rules.specs.grammar.SemVer.{PlainSemVer}
-use Rattle.version_rules.specs.order.ReleaseOrder.{release_cmp}
+use Rattle.version_rules.specs.order.Parts.{release_cmp}
 use Rattle.version_texts.specs.key.TextKey.{chunks_of}
 use Rattle.version_order.specs.texts.Pieces.{pieces}
 use Rattle.version_texts.specs.scan.TextKind.{is_chunk}

@@ -6,7 +6,7 @@ use Rattle.std.specs.List.{flat_map}
 use Rattle.std.specs.Option.{is_none}
 use Rattle.std.specs.Ordering.{on}
 use Rattle.version_order.proofs.lemmas.Codes.{ended, writes_on}
-use Rattle.version_rules.proofs.lemmas.KeyLaws.{key_writes}
+use Rattle.version_rules.proofs.lemmas.Order.{key_writes}
 use Rattle.version_order.specs.declared.ends.Kept.{Kept}
 use Rattle.version_order.specs.declared.ends.Kept.TheVariants.{All, ButLast, ButLastOrOnly, ThroughOther}
 use Rattle.version_order.specs.Facts.{PlainFacts}
@@ -15,13 +15,11 @@ use Rattle.version_order.specs.declared.facts.Operators.TheVariants.{Parts}
 use Rattle.version_order.specs.texts.Bytes.{colon, dot, hyphen, plus, tilde, underscore}
 use Rattle.version_rules.specs.grammar.Versioning.{PlainVersioning, Ideal, General, Complex, versioning_of}
 use Rattle.version_order.specs.keys.Codes.{Writes, items_bytes}
-use Rattle.version_rules.specs.key.Key.{key_of, precedence}
-use Rattle.version_rules.specs.key.KeyBytes.{key_bytes}
+use Rattle.version_rules.specs.key.Key.{key_of, precedence, key_bytes}
 use Rattle.version_order.specs.keys.NumberBytes.{number_bytes}
 use Rattle.version_rules.specs.key.PartKey.{PartKey, Number, Word, part_bytes, parts_bytes}
 use Rattle.version_rules.specs.key.Tail.{tail_bytes}
-use Rattle.version_rules.specs.requirement.Ends.{kept_parts}
-use Rattle.version_rules.specs.requirement.Range.{begun, but_last, or_others, through_other}
+use Rattle.version_rules.specs.requirement.Range.{kept_parts, begun, but_last, or_others, through_other}
 use Rattle.version_rules.specs.requirement.VersionMatch.{is_plain_zero}
 use Rattle.version_order.specs.Keyed.{BeginsKey, PlainKeyed}
 use Rattle.version_order.proofs.lemmas.NumberBytes.{some_bytes}

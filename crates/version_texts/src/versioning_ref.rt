@@ -6,8 +6,7 @@ ghost use Rattle.std.specs.List.{list_all};
 ghost use Rattle.std.specs.Str.Parse.{digits_value};
 ghost use Rattle.version_texts.specs.scan.Shape.{shape_of};
 ghost use Rattle.version_order.specs.keys.Sinks.{saturated};
-ghost use Rattle.version_rules.specs.grammar.Kind.{versioning_kind};
-ghost use Rattle.version_rules.specs.grammar.Versioning.{kind_rank, PlainVersioning};
+ghost use Rattle.version_rules.specs.grammar.Versioning.{versioning_kind, kind_rank, PlainVersioning};
 
 pub(crate) mod field;
 pub(crate) mod numbers;
@@ -43,10 +42,8 @@ impl<'a> VersioningRef<'a> {
     ghost use Rattle.std.specs.Option.{is_none, option_map};
     ghost use Rattle.std.specs.declared.cmp.Ordering.TheVariants.{Equal};
     ghost use Rattle.version_order.specs.keys.Lists.{bytes_cmp};
-    ghost use Rattle.version_rules.specs.requirement.Ends.{end_bytes, kept_parts};
-    ghost use Rattle.version_rules.specs.key.Key.{key_of, precedence, versioning_epoch};
-    ghost use Rattle.version_rules.specs.key.KeyBytes.{key_bytes};
-    ghost use Rattle.version_rules.specs.requirement.Range.{begun, has_kind, AreBetween};
+    ghost use Rattle.version_rules.specs.requirement.Range.{end_bytes, kept_parts, begun, has_kind, AreBetween};
+    ghost use Rattle.version_rules.specs.key.Key.{key_of, precedence, versioning_epoch, key_bytes};
     ghost use Rattle.version_rules.specs.grammar.Versioning.{is_prerelease, versioning_nth, versioning_of, versioning_plain_cmp, versioning_text};
     ghost use Rattle.version_texts.specs.order.Difference.{difference_of};
     ghost use Rattle.version_texts.specs.versioning_ref.Field.{epoch_and_parts, field_span};
@@ -521,7 +518,7 @@ impl<'a> Ord for VersioningRef<'a> {
     ghost use Rattle.std.specs.Cmp.{on_total};
     ghost use Rattle.std.specs.Ordering.{on};
     ghost use Rattle.version_rules.specs.order.Orders.{versioning_cmp};
-    ghost use Rattle.version_rules.specs.laws.Orders.{versioning_cmp_ties, versioning_cmp_total};
+    ghost use Rattle.version_rules.specs.laws.Key.{versioning_cmp_ties, versioning_cmp_total};
     ghost use Rattle.version_texts.specs.versioning_ref.VersioningRef.{plain_versioning_ref};
 
     ghost cmp = { on plain_versioning_ref versioning_cmp };
@@ -546,7 +543,7 @@ impl<'a> PartialOrd for VersioningRef<'a> {
     ghost use Rattle.std.specs.Cmp.{on_total, po};
     ghost use Rattle.std.specs.Ordering.{as_partial_cmp, on};
     ghost use Rattle.version_rules.specs.order.Orders.{versioning_cmp};
-    ghost use Rattle.version_rules.specs.laws.Orders.{versioning_cmp_ties, versioning_cmp_total};
+    ghost use Rattle.version_rules.specs.laws.Key.{versioning_cmp_ties, versioning_cmp_total};
     ghost use Rattle.version_texts.specs.versioning_ref.VersioningRef.{plain_versioning_ref};
 
     ghost partial_cmp = { as_partial_cmp (on plain_versioning_ref versioning_cmp) };

@@ -7,8 +7,7 @@ use Rattle.versions.specs.declared.key.list.CurrentList.{CurrentList}
 use Rattle.versions.specs.declared.key.list.CurrentList.TheVariants.{Ended, One, Two, Three, Parts, Section, Chunks}
 use Rattle.versions.specs.declared.key.tail.TailLeft.{TailLeft}
 use Rattle.versions.specs.declared.key.tail.TailLeft.TheVariants.{Nothing, Bare, Release, Sections, AfterSection}
-use Rattle.version_rules.specs.key.Key.{plain}
-use Rattle.version_rules.specs.key.KeyBytes.{further_bytes}
+use Rattle.version_rules.specs.key.Key.{plain, further_bytes}
 use Rattle.versions.specs.Mess.{plain_mess}
 use Rattle.versions.specs.declared.mess.Mess.{Mess}
 use Rattle.version_rules.specs.key.Tail.{tail_bytes}

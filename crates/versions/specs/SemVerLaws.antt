@@ -4,8 +4,8 @@ use Rattle.std.specs.Cmp.{Equal-is}
 use Rattle.std.specs.Ordering.{eq_by_cmp}
 use Rattle.version_rules.specs.grammar.SemVer.{PlainSemVer}
 use Rattle.versions.specs.SemVer.{semver_fed}
-use Rattle.version_rules.specs.order.SemVerOrder.{semver_cmp}
-use Rattle.version_rules.specs.laws.SemVer.{tied_same}
+use Rattle.version_rules.specs.order.Kinds.{semver_cmp}
+use Rattle.version_rules.specs.laws.Versioning.{tied_same}
 
 -- equal versions are fed alike
 pub fed_alike : (a b : PlainSemVer) → eq_by_cmp semver_cmp a b ≡ true → semver_fed a ≡ semver_fed b

@@ -6,13 +6,11 @@ use Rattle.versions.specs.declared.versioning.Versioning.{Versioning}
 use Rattle.versions.specs.Mess.{mess_fed, plain_mess}
 use Rattle.versions.specs.SemVer.{plain_semver, semver_fed}
 use Rattle.versions.specs.Version.{plain_version, version_fed}
-use Rattle.version_rules.specs.key.Key.{key_of}
-use Rattle.version_rules.specs.key.KeyBytes.{key_bytes}
-use Rattle.version_rules.specs.grammar.Kind.{versioning_kind}
+use Rattle.version_rules.specs.key.Key.{key_of, key_bytes}
+use Rattle.version_rules.specs.grammar.Versioning.{versioning_kind, PlainVersioning, Ideal, General, Complex, versioning_text}
 use Rattle.version_rules.specs.requirement.Matching.{Matches}
 use Rattle.version_rules.specs.order.Orders.{versioning_cmp}
 use Rattle.version_rules.specs.requirement.Requirement.{PlainRequirement}
-use Rattle.version_rules.specs.grammar.Versioning.{PlainVersioning, Ideal, General, Complex, versioning_text}
 use Rattle.std.specs.Hash as fed
 use Rattle.versions.specs.declared.versioning.Versioning.TheVariants as owned
 

@@ -5,12 +5,11 @@ use Rattle.std.specs.Hash.{HashWrites}
 use Rattle.std.specs.Ordering.{eq_by_cmp}
 use Rattle.version_rules.specs.grammar.Mess.{PlainMess, mess_plain_cmp}
 use Rattle.versions.specs.Mess.{mess_fed}
-use Rattle.version_rules.specs.laws.Mess.{messes_same}
+use Rattle.version_rules.specs.laws.Versioning.{messes_same, versions_same}
 use Rattle.versions.specs.SemVerLaws.{fed_alike}
 use Rattle.version_rules.specs.grammar.Version.{PlainVersion}
 use Rattle.versions.specs.Version.{version_fed}
-use Rattle.version_rules.specs.laws.Version.{versions_same}
-use Rattle.version_rules.specs.order.VersionOrder.{version_plain_cmp}
+use Rattle.version_rules.specs.order.Kinds.{version_plain_cmp}
 use Rattle.version_rules.specs.grammar.Versioning.{PlainVersioning, Ideal, General, Complex, versioning_plain_cmp}
 use Rattle.versions.specs.Versioning.{versioning_fed}
 use Rattle.std.specs.Hash as fed

@@ -11,7 +11,7 @@ ghost use Rattle.version_order.specs.keys.OrderLaws.{same_where_tied};
 ghost use Rattle.versions.specs.Errors.{IllegalMess, ReadsOr};
 ghost use Rattle.version_rules.specs.grammar.Mess.{behind_colons, further_front, mess_front, mess_of, mess_plain_cmp, mess_text, nth_number, section_front};
 ghost use Rattle.versions.specs.Mess.{mess_fed, plain_further, plain_mess, plain_mess_ref, plain_section};
-ghost use Rattle.version_rules.specs.laws.Mess.{mess_total, messes_same};
+ghost use Rattle.version_rules.specs.laws.Versioning.{mess_total, messes_same};
 
 use crate::errors::{Error, ReadError};
 use crate::reading::or_illegal;

@@ -8,10 +8,9 @@ ghost use Rattle.version_rules.specs.requirement.Matching.{IsConvex, Matches};
 ghost use Rattle.versions.specs.Range.{plain_range};
 ghost use Rattle.version_rules.specs.requirement.Range.{requirement_range, IsIn};
 ghost use Rattle.versions.specs.Requirement.{plain_requirement};
-ghost use Rattle.version_rules.specs.requirement.Requirement.{requirement_front, requirement_of, requirement_text, RequirementOwns};
+ghost use Rattle.version_rules.specs.requirement.Requirement.{requirement_front, requirement_of, requirement_text, RequirementOwns, op_front};
 ghost use Rattle.versions.specs.Versioning.{plain_versioning};
 ghost use Rattle.version_rules.specs.grammar.Versioning.{PlainVersioning};
-ghost use Rattle.version_rules.specs.requirement.Op.{op_front};
 ghost use Rattle.version_rules.specs.declared.op.Op.TheVariants.{Wildcard};
 
 use crate::errors::{Error, ReadError};

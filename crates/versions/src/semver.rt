@@ -7,12 +7,12 @@ ghost use Rattle.std.specs.Ordering.{as_partial_cmp, eq_by_cmp, on};
 ghost use Rattle.version_parts.specs.Front.{Reads};
 ghost use Rattle.version_parts.specs.Release.{plain_release};
 ghost use Rattle.version_order.specs.keys.Lists.{none_last_cmp};
-ghost use Rattle.version_rules.specs.order.ReleaseOrder.{release_cmp};
+ghost use Rattle.version_rules.specs.order.Parts.{release_cmp};
 ghost use Rattle.versions.specs.Errors.{IllegalSemver, ReadsOr};
 ghost use Rattle.versions.specs.SemVerLaws.{fed_alike};
-ghost use Rattle.version_rules.specs.laws.SemVer.{semver_total};
+ghost use Rattle.version_rules.specs.laws.Versioning.{semver_total};
 ghost use Rattle.version_rules.specs.requirement.SemVerMatch.{numbers, MatchesCaret, MatchesTilde};
-ghost use Rattle.version_rules.specs.order.SemVerOrder.{semver_cmp};
+ghost use Rattle.version_rules.specs.order.Kinds.{semver_cmp};
 ghost use Rattle.versions.specs.SemVer.{plain_semver, semver_fed, plain_semver_ref, semver_of_text, IsSemVerText};
 ghost use Rattle.version_rules.specs.grammar.SemVer.{semver_front, semver_of, semver_text, SemVerOwns};
 

@@ -15,9 +15,9 @@ ghost use Rattle.versions.specs.BodyParts.{first_part, more_parts};
 ghost use Rattle.version_rules.specs.key.Key.{key_of_version};
 ghost use Rattle.version_rules.specs.grammar.Version.{epoch_front, version_front, version_nth, version_of, version_text, VersionOwns};
 ghost use Rattle.versions.specs.Version.{plain_version_ref, plain_version, version_fed};
-ghost use Rattle.version_rules.specs.laws.Version.{version_plain_total, versions_same};
+ghost use Rattle.version_rules.specs.laws.Versioning.{version_plain_total, versions_same};
 ghost use Rattle.version_rules.specs.requirement.VersionMatch.{epoch_and_parts, MatchesCaret, MatchesTilde};
-ghost use Rattle.version_rules.specs.order.VersionOrder.{version_plain_cmp};
+ghost use Rattle.version_rules.specs.order.Kinds.{version_plain_cmp};
 
 use crate::errors::{Error, ReadError};
 use crate::optional::{

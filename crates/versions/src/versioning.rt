@@ -6,15 +6,13 @@ ghost use Rattle.std.specs.Option.{is_some, option_map};
 ghost use Rattle.std.specs.Ordering.{eq_by_cmp, on};
 ghost use Rattle.version_parts.specs.Front.{Reads};
 ghost use Rattle.versions.specs.Errors.{IllegalVersioning, ReadsOr};
-ghost use Rattle.version_rules.specs.grammar.Kind.{versioning_kind};
+ghost use Rattle.version_rules.specs.grammar.Versioning.{versioning_kind, is_complex, is_general, is_ideal, kind_rank, semver_nth, versioning_front, versioning_nth, versioning_of, versioning_plain_cmp, versioning_text, VersioningOwns};
 ghost use Rattle.versions.specs.SemVer.{plain_semver};
-ghost use Rattle.version_rules.specs.grammar.Versioning.{is_complex, is_general, is_ideal, kind_rank, semver_nth, versioning_front, versioning_nth, versioning_of, versioning_plain_cmp, versioning_text, VersioningOwns};
-ghost use Rattle.versions.specs.Versioning.{plain_versioning, versioning_fed};
+ghost use Rattle.versions.specs.Versioning.{plain_versioning, versioning_fed, AnswersAlike};
 ghost use Rattle.version_rules.specs.grammar.Versioning as plain;
 ghost use Rattle.version_rules.specs.laws.Versioning.{versioning_plain_total};
 ghost use Rattle.versions.specs.VersioningLaws.{versions_fed_alike};
 ghost use Rattle.version_texts.specs.versioning_ref.VersioningRef.{plain_versioning_ref};
-ghost use Rattle.versions.specs.Versioning.{AnswersAlike};
 
 use crate::errors::{Error, ReadError};
 use crate::mess::{Mess, MessRef};

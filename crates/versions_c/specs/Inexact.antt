@@ -3,8 +3,7 @@ use Rattle.std.specs.Prelude.{◌≡◌, ◌⊎◌, ℕ, ℤ, List, [], ◌∷�
 use Rattle.std.proofs.Common.{inl, inr}
 use Rattle.version_rules.specs.grammar.Versioning.{PlainVersioning}
 use Rattle.version_rules.specs.laws.Matching.{matches_all_or_not}
-use Rattle.version_rules.specs.requirement.Inexact.{inexact_text}
-use Rattle.version_rules.specs.requirement.Range.{PlainRange, range_of}
+use Rattle.version_rules.specs.requirement.Range.{inexact_text, PlainRange, range_of}
 use Rattle.version_rules.specs.requirement.Requirement.{PlainRequirement}
 use Rattle.version_rules.specs.requirement.Requirements.{requirements_of}
 use Rattle.versions_c.specs.Matching.{bit}

@@ -6,10 +6,9 @@ use Rattle.std.specs.declared.cmp.Ordering.TheVariants.{Less, Equal, Greater}
 use Rattle.version_order.specs.keys.Lists.{bytes_cmp}
 use Rattle.version_texts.specs.requirement.RangeRef.{high_length}
 use Rattle.version_order.specs.keys.Sinks.{saturated}
-use Rattle.version_rules.specs.grammar.Kind.{versioning_kind}
+use Rattle.version_rules.specs.grammar.Versioning.{versioning_kind, PlainVersioning}
 use Rattle.version_rules.specs.requirement.Range.{IsIn, PlainRange, bytes_of, has_kind, range_of}
 use Rattle.version_rules.specs.requirement.Requirement.{PlainRequirement}
-use Rattle.version_rules.specs.grammar.Versioning.{PlainVersioning}
 use Rattle.versions_c.specs.Matching.{bit}
 use Rattle.versions_c.specs.declared.ranges.TheConstants.{COMPLEX, EXACT, GENERAL, HIGH, IDEAL}
 use Rattle.versions_c.specs.declared.status.TheConstants.{OK, NO_REQUIREMENTS, NO_ROOM}

@@ -7,10 +7,9 @@ use Rattle.std.specs.Option.{option_map_or}
 use Rattle.std.specs.Ordering.{bool_cmp, nat_cmp, on, then_cmp}
 use Rattle.std.specs.declared.cmp.Ordering.{Ordering}
 use Rattle.std.specs.declared.cmp.Ordering.TheVariants.{Less}
-use Rattle.version_rules.specs.grammar.Kind.{versioning_kind}
+use Rattle.version_rules.specs.grammar.Versioning.{versioning_kind, versioning_of}
 use Rattle.version_order.specs.keys.Lists.{bytes_cmp, none_last_cmp}
 use Rattle.version_rules.specs.order.Orders.{versioning_cmp}
-use Rattle.version_rules.specs.grammar.Versioning.{versioning_of}
 use Rattle.version_rules.specs.declared.kind.Kind.{Kind}
 use Rattle.version_rules.specs.declared.kind.Kind.TheVariants.{Ideal}
 use Rattle.version_schemes.specs.Scheme.{is_mixed, rules}

@@ -2,9 +2,8 @@
 
 ghost use Rattle.std.specs.Prelude.{◌≡◌, ◌≢◌, ◌↔◌, ◌<◌, ◌≤◌, ◌++◌, [], drop, length, IfSome, List, Some};
 ghost use Rattle.version_texts.specs.versioning_ref.VersioningRef.{plain_versioning_ref};
-ghost use Rattle.version_rules.specs.requirement.Inexact.{inexact_members, inexact_text};
+ghost use Rattle.version_rules.specs.requirement.Range.{inexact_members, inexact_text, range_of, IsIn};
 ghost use Rattle.version_rules.specs.requirement.Matching.{MatchesAll};
-ghost use Rattle.version_rules.specs.requirement.Range.{range_of, IsIn};
 ghost use Rattle.version_rules.specs.requirement.Requirement.{PlainRequirement};
 ghost use Rattle.version_rules.specs.requirement.Requirements.{requirements_of};
 ghost use Rattle.version_rules.specs.grammar.Versioning.{versioning_of, PlainVersioning};

@@ -1,8 +1,7 @@
 //! The kinds of texts.
 
 ghost use Rattle.std.specs.Prelude.{◌≡◌, ◌≢◌, ◌<◌, ℕ, if◌then◌else◌, length, pos, slice_index, IfSome, Some};
-ghost use Rattle.version_rules.specs.grammar.Kind.{versioning_kind};
-ghost use Rattle.version_rules.specs.grammar.Versioning.{is_prerelease, versioning_of, PlainVersioning};
+ghost use Rattle.version_rules.specs.grammar.Versioning.{versioning_kind, is_prerelease, versioning_of, PlainVersioning};
 ghost use Rattle.versions_c.specs.Kinds.{kind_of, version_status};
 ghost use Rattle.versions_c.specs.Offsets.{text_at, AreOffsets};
 

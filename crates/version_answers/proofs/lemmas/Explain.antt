@@ -14,13 +14,12 @@ use Rattle.std.specs.Str.Parse.{digits_value}
 use Rattle.std.specs.declared.cmp.Ordering.{Ordering}
 use Rattle.std.specs.declared.cmp.Ordering.TheVariants.{Less, Equal, Greater}
 use Rattle.version_answers.specs.two.Explain.{behind_epoch, behind_parts, part_at, parts_text, tail_of}
-use Rattle.version_rules.proofs.lemmas.Conversions.{strict_is_general}
+use Rattle.version_rules.proofs.lemmas.Versioning.{strict_is_general, versioning_of-Some, versioning_printed}
 use Rattle.version_order.proofs.lemmas.Front.Runs.{all_weaker, prefix_len-append}
-use Rattle.version_rules.proofs.lemmas.PartKey.{lists_same}
+use Rattle.version_rules.proofs.lemmas.Key.{lists_same}
 use Rattle.version_rules.proofs.lemmas.SemVer.{optional_begins}
-use Rattle.version_rules.proofs.lemmas.Versioning.{versioning_of-Some, versioning_printed}
 use Rattle.version_order.specs.declared.class.Class.TheVariants.{NotSign}
-use Rattle.version_order.specs.texts.Bytes.{colon, hyphen}
+use Rattle.version_order.specs.texts.Bytes.{colon, hyphen, is_section_byte}
 use Rattle.version_order.specs.texts.Class.{contains}
 use Rattle.version_rules.specs.grammar.Conversions.{version_of_semver}
 use Rattle.version_order.specs.texts.DigitRun.{is_digits}
@@ -47,7 +46,6 @@ use Rattle.version_texts.specs.key.TextKey.{parts_of, sections_of, tail_of_secti
 use Rattle.version_order.specs.texts.Pieces.{pieces}
 use Rattle.version_texts.specs.order.Difference.{difference_of}
 use Rattle.version_texts.specs.scan.Shape.{body_start}
-use Rattle.version_order.specs.texts.Bytes.{is_section_byte}
 use Rattle.version_texts.specs.versioning_ref.Field.{field_text}
 use Rattle.version_texts.specs.declared.versioning_ref.field.Field.TheVariants as field
 

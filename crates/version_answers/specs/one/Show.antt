@@ -4,8 +4,7 @@ use Rattle.std.specs.Fmt.{decimal}
 use Rattle.std.specs.List.{concat, flat_map}
 use Rattle.std.specs.Option.{option_map}
 use Rattle.version_rules.specs.key.Key.{versioning_epoch}
-use Rattle.version_rules.specs.grammar.Kind.{versioning_kind}
-use Rattle.version_rules.specs.grammar.Versioning.{PlainVersioning, versioning_nth, versioning_text}
+use Rattle.version_rules.specs.grammar.Versioning.{versioning_kind, PlainVersioning, versioning_nth, versioning_text}
 use Rattle.version_rules.specs.declared.kind.Kind.{Kind}
 use Rattle.version_rules.specs.declared.kind.Kind.TheVariants.{Ideal, General, Complex}
 use Rattle.version_tasks.specs.Stability.{stability_of}

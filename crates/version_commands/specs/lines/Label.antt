@@ -5,9 +5,8 @@ use Rattle.version_answers.specs.one.Show.{kind_name}
 use Rattle.version_commands.specs.declared.options.Labels.{Labels}
 use Rattle.version_commands.specs.declared.options.Labels.TheVariants.{Strict, Every}
 use Rattle.version_lines.specs.Lines.{labelled_line, line_feed, output_by, plain_end, whole_line}
-use Rattle.version_rules.specs.grammar.Kind.{versioning_kind}
+use Rattle.version_rules.specs.grammar.Versioning.{versioning_kind, versioning_of}
 use Rattle.version_rules.specs.grammar.SemVer.{semver_of}
-use Rattle.version_rules.specs.grammar.Versioning.{versioning_of}
 use Rattle.version_rules.specs.declared.kind.Kind.{Kind}
 use Rattle.version_rules.specs.declared.kind.Kind.TheVariants.{Ideal}
 use Rattle.std.specs.Option.{option_map}

@@ -9,7 +9,7 @@ ghost use Rattle.version_order.specs.keys.Lists.{Growing, GrowsWithin};
 ghost use Rattle.version_order.specs.keys.NumberBytes.{number_bytes};
 ghost use Rattle.version_rules.specs.key.PartKey.{part_bytes, part_key, Number};
 ghost use Rattle.version_parts.specs.Pieces.{GonePast, after_number_bytes, place_bytes};
-ghost use Rattle.version_rules.specs.order.ReleaseOrder.{chunk_bytes};
+ghost use Rattle.version_rules.specs.order.Parts.{chunk_bytes};
 
 use crate::chunk::ChunkRef;
 use crate::key::PartText;

@@ -13,7 +13,7 @@ use Rattle.version_order.specs.texts.Reading.{EndsList, EndsRun, IsComplete, IsP
 use Rattle.version_rules.specs.grammar.Release.{release_text}
 use Rattle.version_rules.proofs.lemmas.Chunk.{parts_complete, parts_printed, parts_sound}
 use Rattle.version_order.proofs.lemmas.Front.Repeated.{cases_Option}
-use Rattle.version_rules.proofs.lemmas.Lists.{split_last-append}
+use Rattle.version_rules.proofs.lemmas.Grammar.{split_last-append}
 use Rattle.version_rules.proofs.lemmas.Last.{last_of-is, last_of-only, last_printed}
 
 -- what the front gives, by the list of parts

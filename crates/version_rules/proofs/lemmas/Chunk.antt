@@ -9,10 +9,9 @@ use Rattle.version_order.specs.texts.Bytes.{dot, is_identifier_byte, is_metadata
 use Rattle.version_rules.specs.grammar.Chunk.{PlainChunk, Numeric, Alphanum, SpellsChunk, SpellsChunkOf, SpellsPart, chunk_front, chunk_front_of, chunk_text, part_front}
 use Rattle.version_order.specs.texts.Front.{Front, begins, behind, dotted_front, map_value, optional, run_front}
 use Rattle.version_order.specs.texts.Grammar.{SpellsDotted, SpellsOptional}
-use Rattle.version_rules.specs.grammar.Metadata.{SpellsMetadata}
+use Rattle.version_rules.specs.grammar.Release.{SpellsMetadata, SpellsRelease, release_text}
 use Rattle.version_rules.specs.grammar.Numeral.{unsigned_front}
 use Rattle.version_order.specs.texts.Reading.{EndsList, EndsRun, IsComplete, IsPrinted, IsSound}
-use Rattle.version_rules.specs.grammar.Release.{SpellsRelease, release_text}
 use Rattle.version_order.proofs.lemmas.Front.Dotted.{behind-Some, dotted_complete, dotted_sound}
 use Rattle.version_order.proofs.lemmas.Front.Repeated.{cases_Option}
 use Rattle.version_rules.proofs.lemmas.Numeral.{numeral_printed, unsigned_complete, unsigned_sound}

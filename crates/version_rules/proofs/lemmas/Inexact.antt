@@ -7,15 +7,12 @@ use Rattle.std.proofs.lemmas.List.Elements.{All-cons, All-filter, All-head, All-
 use Rattle.std.specs.List.{AllZip, join_with_byte}
 use Rattle.std.specs.Option.{option_map_or}
 use Rattle.version_rules.proofs.lemmas.Range.{common_in, requirement_exact}
-use Rattle.version_rules.proofs.lemmas.Requirement.{requirement_printed}
-use Rattle.version_rules.proofs.lemmas.Requirements.{requirements_of-Some, requirements_of-spells, requirements_printed}
-use Rattle.version_rules.specs.requirement.Inexact.{inexact_members, inexact_text}
+use Rattle.version_rules.proofs.lemmas.Requirement.{requirement_printed, requirements_of-Some, requirements_of-spells, requirements_printed}
+use Rattle.version_rules.specs.requirement.Range.{inexact_members, inexact_text, IsIn, PlainRange, common, everything, range_of, requirement_range}
 use Rattle.version_rules.specs.requirement.Matching.{Matches, MatchesAll}
-use Rattle.version_rules.specs.requirement.Op.{op_text}
+use Rattle.version_rules.specs.requirement.Requirement.{op_text, PlainRequirement, SpellsRequirement, requirement_text}
 use Rattle.version_rules.specs.declared.op.Op.{Op}
 use Rattle.version_rules.specs.declared.op.Op.TheVariants as op
-use Rattle.version_rules.specs.requirement.Range.{IsIn, PlainRange, common, everything, range_of, requirement_range}
-use Rattle.version_rules.specs.requirement.Requirement.{PlainRequirement, SpellsRequirement, requirement_text}
 use Rattle.version_rules.specs.requirement.Requirements.{comma, requirements_of, requirements_text}
 use Rattle.version_rules.specs.grammar.Versioning.{PlainVersioning, versioning_text}
 

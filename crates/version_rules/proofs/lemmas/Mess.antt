@@ -15,8 +15,7 @@ use Rattle.version_order.proofs.lemmas.Front.Dotted.{dotted_sound_before}
 use Rattle.version_rules.proofs.lemmas.MChunk.{mchunk_kept, mchunk_sound, section_complete, section_consumes, section_printed, sep_front-Some, sep_of_byte, sign_ends}
 use Rattle.version_order.proofs.lemmas.Front.Repeated.{Shrinks, cases_Option, each_ends, each_printed, repeated-reads, repeated_follows, repeated_sound}
 use Rattle.version_rules.specs.grammar.Mess.{Further, PlainMess, Section, SpellsFurther, SpellsMess, further_front, further_text, joined_section, mess_front, mess_of, mess_text, section_front}
-use Rattle.version_rules.proofs.lemmas.Versioning.Spelled.{of_mess}
-use Rattle.version_rules.proofs.lemmas.Reading.{whole-Some}
+use Rattle.version_rules.proofs.lemmas.Grammar.{of_mess, whole-Some}
 
 -- ---- a sign and the section after it
 

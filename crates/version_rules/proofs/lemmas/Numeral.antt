@@ -1,21 +1,60 @@
 -- Numerals: the front of an unsigned number reads what is spelled, and nothing else.
-use Rattle.std.proofs.Common.{◌≡◌, ◌==◌, ◌^◌, ℕ, ◌<◌, true, false, List, [], ◌∷◌, ◌++◌, length, Some, None, nat_lt, refl, sym, ap, ◌∙◌, arith, inl, inr}
+use Rattle.std.proofs.Common.{◌≡◌, ◌+◌, ◌*◌, ◌-◌, ◌<◌, ◌^◌, ℕ, true, List, get_or, length, take, arith, Result, Ok, Err, OkIff, Option, SomeIff, rules, ◌==◌, false, [], ◌∷◌, ◌++◌, Some, None, nat_lt, refl, sym, ap, ◌∙◌, inl, inr, ◌%◌, Bool, ◌||◌, ◌⊎◌}
 use Rattle.std.proofs.lemmas.Bool.{cases_Bool, eqb-true, ltb-true, lt-ltb}
-use Rattle.std.proofs.lemmas.Fmt.{decimal-digits_value}
-use Rattle.std.specs.Char.{is_ascii_digit}
-use Rattle.std.specs.Fmt.{decimal}
-use Rattle.std.proofs.lemmas.Str.Parse.{digits_value_short}
-use Rattle.std.specs.List.{list_all}
-use Rattle.std.specs.Option.{option_and_then}
+use Rattle.std.proofs.lemmas.Bool.Decides.{nat_tests}
+use Rattle.std.proofs.lemmas.Int.Digits.{digits_value_more}
+use Rattle.std.proofs.lemmas.List.Folds.{list_all_at, list_all-append}
+use Rattle.std.proofs.lemmas.Str.Parse.{digits_value-take-le, IsNumeralModel, numerals_by_value, digits_value_short}
+use Rattle.std.specs.Char.{digit_value, is_ascii_digit}
+use Rattle.std.specs.List.{list_all, list_any, position_or_len}
 use Rattle.std.specs.Str.Parse.{digits_value}
+use Rattle.std.specs.Result.{result_ok}
+use Rattle.std.proofs.lemmas.Fmt.{decimal-digits_value, decimal_by_steps}
+use Rattle.std.specs.Fmt.{decimal}
+use Rattle.std.specs.Option.{option_and_then}
 use Rattle.version_order.specs.texts.Front.{after_mark, run_front}
 use Rattle.version_rules.specs.grammar.Numeral.{HasNoLeadingZero, SpellsNumeral, unsigned_front, value_of_run}
 use Rattle.version_order.specs.texts.Reading.{EndsRun, IsComplete, IsPrinted, IsSound}
 use Rattle.version_order.proofs.lemmas.Front.Repeated.{cases_Option}
-use Rattle.version_rules.proofs.lemmas.Numeral.Runs.{digits_model}
-use Rattle.version_order.proofs.lemmas.Front.Runs.{after_mark-Some, reads_run, run_front-reads}
-pub mod Digits
-pub mod Runs
+use Rattle.version_order.proofs.lemmas.Front.Runs.{after_mark-Some, reads_run, run_front-reads, prefix_len-append}
+use borrow.Author.Tests.{le-leb}
+use Rattle.std.proofs.lemmas.List.{append-nil, drop_all, drop_at, take_all, take_at}
+use Rattle.std.specs.Cmp.{first_so, second_so}
+use Rattle.version_order.specs.texts.DigitRun.{is_digits, number_front, starts_with_digit}
+use Rattle.version_rules.specs.key.PartKey.{split_of}
+
+-- ---- the value of a run of digits, digit by digit
+
+digit_less : (c : ℕ) → is_ascii_digit c ≡ true → digit_value c ≡ c - 48
+digit_less c digit = grind (arith, nat_tests)
+
+digit_at : (text : List ℕ) (i : ℕ) → list_all is_ascii_digit text ≡ true → i < length text
+    → is_ascii_digit (get_or text i 0) ≡ true
+digit_at text i all inside = grind (arith, cases_Bool, list_all_at)
+
+-- the value of the digits up to the next one, from the value before it
+pub next_value : (text : List ℕ) (i value : ℕ) → list_all is_ascii_digit text ≡ true
+    → i < length text → value ≡ digits_value 10 (take i text)
+    → value * 10 + (get_or text i 0 - 48) ≡ digits_value 10 (take (i + 1) text)
+next_value text i value all inside e = grind (arith, digit_less, digit_at, digits_value_more)
+
+-- it fits if the whole value does
+pub next_fits : (text : List ℕ) (i value : ℕ) → list_all is_ascii_digit text ≡ true
+    → i < length text → value ≡ digits_value 10 (take i text)
+    → digits_value 10 text < 2 ^ 32 → value * 10 + (get_or text i 0 - 48) < 2 ^ 32
+next_fits text i value all inside e fits = grind (arith, next_value, digits_value-take-le)
+
+-- ---- runs of digits, and the numbers that they denote
+
+-- what std's lemmas on numerals need of a run of digits
+pub digits_model : IsNumeralModel (λ ds. list_all is_ascii_digit ds ≡ true) (digits_value 10)
+digits_model = numerals_by_value _ (search rules)
+
+-- `r.ok()` of a result that is `Ok` under two facts, of which one holds
+pub some_if_ok : {E : Type 0} (P Q : Type 0) (v : ℕ) (r : Result ℕ E) (o : Option ℕ)
+    → OkIff r (P × Q) v → P → o ≡ result_ok r → SomeIff o Q v
+some_if_ok P Q v (Ok x) o h p e = rw e (h.0.1, h.1)
+some_if_ok P Q v (Err x) o h p e = rw e (λ q. h (p, q))
 
 zero_numeral : SpellsNumeral (48 ∷ []) 0
 zero_numeral = record { digits = refl; canonical = tt; value = refl; fits = omega arith }
@@ -163,3 +202,69 @@ nine_digits digits all short =
 
 pub ruleset numerals_read =
     (numeral_zero, zero_spelled, numeral_run, numeral_none, numeral_large, run_spelled)
+
+-- ---- if a text is put together of such pieces, they are the text before its first digit and the number
+-- there.
+
+begins : (digits rest : List ℕ) → starts_with_digit digits ≡ true
+    → starts_with_digit (digits ++ rest) ≡ true
+begins [] rest e = cc e
+begins (b ∷ digits) rest e = e
+
+pub number_front-digits : (digits rest : List ℕ) → is_digits digits ≡ true
+    → starts_with_digit rest ≡ false
+    → number_front (digits ++ rest) ≡ Some (digits_value 10 digits, rest)
+number_front-digits digits rest run ends =
+    grind (arith, begins, prefix_len-append, take_at, drop_at)
+
+pub number_front-none : (text : List ℕ) → starts_with_digit text ≡ false → number_front text ≡ None
+number_front-none text e = rw e refl
+
+neither : (s t : Bool) → (s || t) ≡ false → (s ≡ false) × (t ≡ false)
+neither true t e = cc e
+neither false t e = (refl, e)
+
+-- the text before the first digit ends if a digit follows it, or nothing does
+before_end : (before rest : List ℕ) → list_any is_ascii_digit before ≡ false
+    → (rest ≡ []) ⊎ (starts_with_digit rest ≡ true)
+    → position_or_len is_ascii_digit (before ++ rest) ≡ length before
+before_end [] [] none ends = refl
+before_end [] (b ∷ rest) none (inl e) = cc e
+before_end [] (b ∷ rest) none (inr e) = rw e refl
+before_end (b ∷ before) rest none ends =
+    let both = neither (is_ascii_digit b) (list_any is_ascii_digit before) none in
+    rw (both.0, before_end before rest both.1 ends) (omega arith)
+
+pub split_of-no_digit : (text : List ℕ) → list_any is_ascii_digit text ≡ false
+    → split_of text ≡ record { before = text; number = None }
+split_of-no_digit text none =
+    let n : position_or_len is_ascii_digit text ≡ length text =
+    rw append-nil at (before_end text [] none (inl refl)) in
+    rw (n, take_all (length text) text (omega arith), drop_all (length text) text (omega arith))
+    refl
+
+pub split_of-digits : (before digits rest : List ℕ) → list_any is_ascii_digit before ≡ false
+    → is_digits digits ≡ true → starts_with_digit rest ≡ false
+    → split_of (before ++ (digits ++ rest))
+    ≡ record { before = before; number = Some (digits_value 10 digits, rest) }
+split_of-digits before digits rest none run ends =
+    grind (arith, begins, before_end, take_at, drop_at, number_front-digits)
+
+-- ---- what `decimal` writes is a run of digits
+
+digit : (d : ℕ) → d < 10 → is_ascii_digit (48 + d) ≡ true
+digit d h = rw (le-leb 48 (48 + d) (omega arith), le-leb (48 + d) 57 (omega arith)) refl
+
+pub decimal-digits : (n : ℕ) → n < 2 ^ 64 → is_digits (decimal n) ≡ true
+decimal-digits = decimal_by_steps (λ n ds. is_digits ds ≡ true)
+    (λ n h. rw (digit n h) refl)
+    (λ n ds h run.
+    let first = first_so (starts_with_digit ds) (list_all is_ascii_digit ds) run in
+    let all = second_so (starts_with_digit ds) (list_all is_ascii_digit ds) run in
+    let last = digit (n % 10) (omega arith) in
+    rw (
+      begins ds ((48 + n % 10) ∷ []) first,
+      list_all-append is_ascii_digit ds ((48 + n % 10) ∷ []),
+      all,
+      last,
+    ) refl)

@@ -6,7 +6,7 @@ use Rattle.version_order.proofs.lemmas.Front.Repeated.{cases_Option}
 use Rattle.version_order.proofs.lemmas.Front.Runs.{after_mark-Some}
 use Rattle.version_rules.specs.declared.op.Op.{Op}
 use Rattle.version_rules.specs.declared.op.Op.TheVariants.{Exact, Greater, GreaterEq, Less, LessEq, Tilde, Caret, Wildcard}
-use Rattle.version_rules.specs.requirement.Op.{after_word, first_op, op_front, op_text, tried_ops}
+use Rattle.version_rules.specs.requirement.Requirement.{after_word, first_op, op_front, op_text, tried_ops}
 
 -- what follows a word is the rest of the text
 after_word-Some : (word text rest : List ℕ) → after_word word text ≡ Some rest → text ≡ word ++ rest

@@ -1,6 +1,6 @@
 -- Ranges of requirements: what a list matches is in its range, and a range that is exact has no
 -- other version.
-use Rattle.std.proofs.Common.{◌≡◌, ◌↔◌, ◌&&◌, ℕ, Bool, List, [], ◌∷◌, ◌++◌, fold, if◌then◌else◌, Option, Some, None, IsTrue, arith, refl, sym, ap, ◌∙◌, subst}
+use Rattle.std.proofs.Common.{◌≡◌, ◌↔◌, ◌&&◌, ℕ, Bool, List, [], ◌∷◌, ◌++◌, fold, if◌then◌else◌, Option, Some, None, IsTrue, arith, refl, sym, ap, ◌∙◌, subst, ◌<◌, ◌^◌, inl, inr}
 use Rattle.std.proofs.lemmas.List.{append-nil}
 use Rattle.std.proofs.lemmas.List.Elements.{All-cons, All-nil, All-rest}
 use Rattle.std.specs.Cmp.{Equal-is, alike_right, first_so, second_so}
@@ -11,25 +11,32 @@ use Rattle.std.specs.Ordering.{is_lt, ordering_reverse, ordering_then}
 use Rattle.std.specs.declared.cmp.Ordering.{Ordering}
 use Rattle.std.specs.declared.cmp.Ordering.TheVariants.{Less, Equal, Greater}
 use Rattle.version_order.specs.keys.Lists.{bytes_cmp}
-use Rattle.version_rules.proofs.lemmas.Matching.Convex.{back, not_below_stays}
-use Rattle.version_rules.proofs.lemmas.OrdersLaws.{key_bytes_alone, key_bytes_compare}
-use Rattle.version_rules.proofs.lemmas.SemVerOrder.{precedence_of_semvers}
+use Rattle.version_rules.proofs.lemmas.Matching.{back, not_below_stays}
+use Rattle.version_rules.proofs.lemmas.Order.{key_bytes_alone, key_bytes_compare}
+use Rattle.version_rules.proofs.lemmas.Key.{precedence_of_semvers, plain_number}
 use Rattle.version_rules.proofs.lemmas.Range.Series.{caret_exact, caret_in, tilde_exact, tilde_in}
 use Rattle.version_rules.specs.declared.kind.Kind.{Kind}
 use Rattle.version_rules.specs.declared.op.Op.{Op}
 use Rattle.version_rules.specs.declared.kinds.Kinds.{Kinds}
-use Rattle.version_rules.specs.key.Key.{Key, key_of, precedence}
-use Rattle.version_rules.specs.key.KeyBytes.{key_bytes}
-use Rattle.version_rules.specs.grammar.Kind.{versioning_kind}
+use Rattle.version_rules.specs.key.Key.{Key, key_of, precedence, strict_body, key_bytes}
+use Rattle.version_rules.specs.grammar.Versioning.{versioning_kind, PlainVersioning, Ideal, General, Complex, versioning_plain_cmp}
 use Rattle.version_rules.specs.requirement.Matching.{Matches, MatchesAll, MatchesOp}
-use Rattle.version_rules.specs.laws.Orders.{keys_tied}
-use Rattle.version_rules.specs.requirement.Range.{IsIn, PlainRange, all_kinds, bytes_of, common, common_kinds, earlier, earlier_high, everything, has_kind, kind_alone, later, nothing, op_range, range_of, range_without_version, requirement_range}
+use Rattle.version_rules.specs.laws.Key.{keys_tied}
+use Rattle.version_rules.specs.requirement.Range.{IsIn, PlainRange, all_kinds, bytes_of, common, common_kinds, earlier, earlier_high, everything, has_kind, kind_alone, later, nothing, op_range, range_of, range_without_version, requirement_range, alike_from, series_range, kept_parts}
 use Rattle.version_order.specs.Keyed.{after}
 use Rattle.version_rules.specs.requirement.Requirement.{PlainRequirement}
-use Rattle.version_rules.specs.order.SemVerOrder.{semver_cmp}
-use Rattle.version_rules.specs.grammar.Versioning.{PlainVersioning, Ideal, General, Complex, versioning_plain_cmp}
+use Rattle.version_rules.specs.order.Kinds.{semver_cmp}
 use Rattle.version_rules.specs.declared.kind.Kind.TheVariants as kind
 use Rattle.version_rules.specs.declared.op.Op.TheVariants as op
+use Rattle.std.proofs.lemmas.Bool.{cases_Bool}
+use Rattle.version_order.specs.keys.Codes.{items_bytes}
+use Rattle.version_rules.specs.grammar.Last.{last_text}
+use Rattle.version_rules.specs.key.PartKey.{PartKey, chunk_parts, part_bytes, part_key}
+use Rattle.version_order.specs.declared.ends.Kept.{Kept}
+use Rattle.version_order.specs.declared.ends.Kept.TheVariants.{All, ButLast, ButLastOrOnly, ThroughOther}
+use Rattle.version_rules.specs.requirement.VersionMatch.{is_plain_zero}
+use Rattle.version_rules.specs.grammar.Chunk as chunk
+use Rattle.version_rules.specs.grammar.Last as last
 pub mod Series
 
 -- ---- comparisons of bytes
@@ -351,3 +358,42 @@ pub list_exact : (list : List PlainRequirement) (v : PlainVersioning)
     → IsTrue (range_of list).is_exact
     → IsIn (range_of list) v → MatchesAll list v
 list_exact list v exact inside = (more_exact list everything v exact inside).2
+
+-- ---- the ends of ranges for `~` and `^`: by the kind of the version, and by its parts
+
+-- of a messy version
+pub series_messy : (kept : List PartKey → List PartKey) (v : PlainVersioning)
+    → versioning_kind v ≡ kind.Complex
+    → series_range kept v ≡ nothing
+series_messy kept (Ideal v) is = cc is
+series_messy kept (General v) is = cc is
+series_messy kept (Complex v) is = refl
+
+-- of any other
+pub series_alike : (kept : List PartKey → List PartKey) (v : PlainVersioning)
+    → ¬ (versioning_kind v ≡ kind.Complex)
+    → series_range kept v ≡ alike_from kept v
+series_alike kept (Ideal v) other = refl
+series_alike kept (General v) other = refl
+series_alike kept (Complex v) other = absurd (other refl)
+
+-- the last part is kept, unless only those before it are
+pub last_kept : (kept : Kept) (part : PartKey) → ¬ (kept ≡ ButLast)
+    → items_bytes part_bytes (kept_parts kept (part ∷ [])) ≡ part_bytes (Some part)
+last_kept All part other = append-nil (part_bytes (Some part))
+last_kept ButLast part other = absurd (other refl)
+last_kept ButLastOrOnly part other = append-nil (part_bytes (Some part))
+last_kept ThroughOther part other = elim (cases_Bool (is_plain_zero part)) [
+  | inl zero ↦ rw zero (append-nil (part_bytes (Some part)))
+  | inr not ↦ rw not (append-nil (part_bytes (Some part)))
+]
+
+-- three numbers as parts
+pub three_parts : (major minor patch : ℕ) → major < 2 ^ 32 → minor < 2 ^ 32 → patch < 2 ^ 32
+    → chunk_parts (chunk.Numeric major ∷ chunk.Numeric minor ∷ []) ++ part_key
+    (last_text (last.Numeric patch)) ∷ []
+    ≡ strict_body major minor patch
+three_parts major minor patch first second third =
+    rw (plain_number major first, plain_number minor second, plain_number patch third) refl
+
+pub ruleset ends_written = (series_messy, series_alike)

@@ -1,12 +1,12 @@
 -- Requirements: a whole text parses as the requirement that it spells, and that requirement prints
 -- the text.
-use Rattle.std.proofs.Common.{◌≡◌, ◌==◌, ◌∙◌, ◌&&◌, ℕ, Bool, true, false, not, eqb, List, [], ◌∷◌, ◌++◌, Option, Some, None, IsSomeAnd, refl, sym, arith, inl, inr}
+use Rattle.std.proofs.Common.{◌≡◌, ◌==◌, ◌∙◌, ◌&&◌, ℕ, Bool, true, false, not, eqb, List, [], ◌∷◌, ◌++◌, Option, Some, None, IsSomeAnd, refl, sym, arith, inl, inr, ◌<◌, ◌+◌, zero, suc, get_or, length, map, ap, ◌↔◌}
 use Rattle.std.proofs.lemmas.Bool.Decides.{nat_tests}
-use Rattle.std.proofs.lemmas.List.Elements.{All-cons, All-nil}
+use Rattle.std.proofs.lemmas.List.Elements.{All-cons, All-nil, All-head, All-tail}
 use Rattle.std.proofs.lemmas.List.Folds.{list_all-append}
 use Rattle.std.specs.Cmp.{first_so, second_so}
-use Rattle.std.specs.List.{All, list_all}
-use Rattle.std.specs.Option.{option_map, option_map_or}
+use Rattle.std.specs.List.{All, list_all, AllZip, count_by, join_with_byte, slice_split}
+use Rattle.std.specs.Option.{option_map, option_map_or, is_some}
 use Rattle.version_order.specs.texts.Bytes.{is_metadata_byte}
 use Rattle.version_order.specs.texts.Front.{begins}
 use Rattle.version_order.specs.texts.Reading.{IsPrinted}
@@ -14,14 +14,16 @@ use Rattle.version_order.specs.texts.Sep.{PlainSep, Colon, Hyphen, Plus, Undersc
 use Rattle.version_order.proofs.lemmas.Front.Repeated.{cases_Option}
 use Rattle.version_order.proofs.lemmas.Front.Runs.{all_weaker}
 use Rattle.version_rules.specs.declared.op.Op.{Op}
-use Rattle.version_rules.specs.requirement.Op.{op_front, op_text}
-use Rattle.version_rules.specs.requirement.Requirement.{PlainRequirement, RequirementOwns, SpellsOperand, SpellsRequirement, operand_of, requirement_of, requirement_text}
-use Rattle.version_rules.specs.requirement.Requirements.{comma}
+use Rattle.version_rules.specs.requirement.Requirement.{op_front, op_text, PlainRequirement, RequirementOwns, SpellsOperand, SpellsRequirement, operand_of, requirement_of, requirement_text}
+use Rattle.version_rules.specs.requirement.Requirements.{comma, SpellsRequirements, every, requirements_of, requirements_text, before_others}
 use Rattle.version_rules.specs.grammar.Versioning.{PlainVersioning, SpellsVersioning, VersioningOwns, versioning_of, versioning_text}
 use Rattle.version_rules.proofs.lemmas.Op.{op_front-Some, op_front-reads}
-use Rattle.version_rules.proofs.lemmas.Versioning.Spelled.{of_versioning}
+use Rattle.version_rules.proofs.lemmas.Grammar.{of_versioning}
 use Rattle.version_rules.proofs.lemmas.Versioning.{versioning_of-Some, versioning_of-spells, versioning_printed}
 use Rattle.version_rules.specs.declared.op.Op.TheVariants as op
+use Rattle.std.proofs.lemmas.List.Splits.{join_with_byte-slice_split, length-slice_split, slice_split_at, slice_split_none}
+use Rattle.std.proofs.lemmas.Slice.Zip.{AllZip-long}
+use Rattle.version_rules.specs.requirement.Matching.{Matches, MatchesAll}
 
 -- ---- the bytes of versions and of requirements
 
@@ -190,3 +192,172 @@ requirement_unique text r q s t =
     let same : Some r ≡ Some q =
     sym (requirement_of-Some text r s) ∙ requirement_of-Some text q t in
     cc same
+
+-- ---- lists of requirements: a whole text parses as the list that it spells, and that list prints the
+-- text.
+
+-- texts without commas, joined by commas, are cut where they were joined
+cut_where_joined : (first : List ℕ) (texts : List (List ℕ)) (list : List PlainRequirement)
+    → AllZip SpellsRequirement (first ∷ texts) list
+    → slice_split (λ b. eqb b comma) (join_with_byte comma (first ∷ texts)) ≡ first ∷ texts
+cut_where_joined first [] [] z = absurd z
+cut_where_joined first [] (r ∷ list) z =
+    slice_split_none (λ b. eqb b comma) first (requirement_without_comma first r z.0)
+cut_where_joined first (second ∷ texts) [] z = absurd z
+cut_where_joined first (second ∷ texts) (r ∷ list) z =
+    slice_split_at (λ b. eqb b comma) first comma (join_with_byte comma (second ∷ texts))
+    (requirement_without_comma first r z.0) refl
+    ∙ ap (λ (l : List (List ℕ)). first ∷ l) (cut_where_joined second texts list z.1)
+
+-- each text that spells its member parses as that member
+every_read : (texts : List (List ℕ)) (list : List PlainRequirement)
+    → AllZip SpellsRequirement texts list → every (map requirement_of texts) ≡ Some list
+every_read [] [] z = refl
+every_read [] (r ∷ list) z = absurd z
+every_read (text ∷ texts) [] z = absurd z
+every_read (text ∷ texts) (r ∷ list) z =
+    rw (requirement_of-Some text r z.0, every_read texts list z.1) refl
+
+pub every_spells : (texts : List (List ℕ)) (list : List PlainRequirement)
+    → every (map requirement_of texts) ≡ Some list → AllZip SpellsRequirement texts list
+every_spells [] [] e = tt
+every_spells [] (r ∷ list) e = cc e
+every_spells (text ∷ texts) list e = elim (cases_Option (requirement_of text)) [
+  | inl none ↦ cc (rw none at e)
+  | inr one ↦ elim (cases_Option (every (map requirement_of texts))) [
+    | inl none ↦ cc (rw (one.1, none) at e)
+    | inr others ↦
+        let same : one.0 ∷ others.0 ≡ list = cc (rw (one.1, others.1) at e) in
+        rw (← same) (requirement_of-spells text one.0 one.1, every_spells texts others.0 others.1)
+  ]
+]
+
+-- a list parses if each of its pieces parses as a requirement
+every_is_some : (texts : List (List ℕ))
+    → list_all (λ text. is_some (requirement_of text)) texts
+    ≡ is_some (every (map requirement_of texts))
+every_is_some [] = refl
+every_is_some (text ∷ texts) = elim (cases_Option (requirement_of text)) [
+  | inl none ↦ rw none refl
+  | inr one ↦ elim (cases_Option (every (map requirement_of texts))) [
+    | inl none ↦ rw (one.1, every_is_some texts, none) refl
+    | inr others ↦ rw (one.1, every_is_some texts, others.1) refl
+  ]
+]
+
+pub requirements_of-is_some : (text : List ℕ)
+    → list_all (λ member. is_some (requirement_of member)) (slice_split (λ b. eqb b comma) text)
+    ≡ is_some (requirements_of text)
+requirements_of-is_some text = every_is_some (slice_split (λ b. eqb b comma) text)
+
+-- one more value after the others
+pub every_push : {A X : Type 0} (read : A → Option X) (texts : List A) (text : A) (values : List X)
+    (value : X) → every (map read texts) ≡ Some values → read text ≡ Some value
+    → every (map read (texts ++ text ∷ [])) ≡ Some (values ++ value ∷ [])
+every_push read [] text [] value e one = rw one refl
+every_push read [] text (x ∷ values) value e one = cc e
+every_push read (first ∷ texts) text values value e one = elim (cases_Option (read first)) [
+  | inl none ↦ cc (rw none at e)
+  | inr x ↦ elim (cases_Option (every (map read texts))) [
+    | inl none ↦ cc (rw (x.1, none) at e)
+    | inr others ↦
+        let same : x.0 ∷ others.0 ≡ values = cc (rw (x.1, others.1) at e) in
+        rw (← same, x.1, every_push read texts text others.0 value others.1 one) refl
+  ]
+]
+
+-- if one text does not parse, the list does not
+every_stops : (texts : List (List ℕ)) (n : ℕ) (d : List ℕ) → n < length texts
+    → requirement_of (get_or texts n d) ≡ None → every (map requirement_of texts) ≡ None
+every_stops [] n d fits none = absurd (omega arith)
+every_stops (text ∷ texts) zero d fits none = rw none refl
+every_stops (text ∷ texts) (suc n) d fits none = elim (cases_Option (requirement_of text)) [
+  | inl absent ↦ rw absent refl
+  | inr one ↦ rw (one.1, every_stops texts n d (omega arith) none) refl
+]
+
+pub requirements_of-stops : (text : List ℕ) (n : ℕ) (d : List ℕ)
+    → n < length (slice_split (λ b. eqb b comma) text)
+    → requirement_of (get_or (slice_split (λ b. eqb b comma) text) n d) ≡ None
+    → requirements_of text ≡ None
+requirements_of-stops text n d = every_stops (slice_split (λ b. eqb b comma) text) n d
+
+requirements_of-joined : (texts : List (List ℕ)) (list : List PlainRequirement) → 0 < length list
+    → AllZip SpellsRequirement texts list
+    → requirements_of (join_with_byte comma texts) ≡ Some list
+requirements_of-joined [] [] some z = absurd (omega arith)
+requirements_of-joined [] (r ∷ list) some z = absurd z
+requirements_of-joined (first ∷ texts) list some z =
+    rw (cut_where_joined first texts list z) (every_read (first ∷ texts) list z)
+
+pub requirements_of-Some : (text : List ℕ) (list : List PlainRequirement)
+    → SpellsRequirements text list → requirements_of text ≡ Some list
+requirements_of-Some text list s =
+    rw s.whole (requirements_of-joined s.members list s.some s.members_are)
+
+pub requirements_of-spells : (text : List ℕ) (list : List PlainRequirement)
+    → requirements_of text ≡ Some list → SpellsRequirements text list
+requirements_of-spells text list e =
+    let members = slice_split (λ b. eqb b comma) text in
+    let zipped = every_spells members list e in
+    let long : length list ≡ length members = AllZip-long SpellsRequirement members list zipped in
+    let cut : length members ≡ count_by (λ b. eqb b comma) text + 1 =
+    length-slice_split (λ b. eqb b comma) text in
+    record {
+      members = members;
+      whole = sym (join_with_byte-slice_split comma text);
+      members_are = zipped;
+      some = omega (arith, long, cut);
+    }
+
+members_printed : (texts : List (List ℕ)) (list : List PlainRequirement)
+    → AllZip SpellsRequirement texts list → map requirement_text list ≡ texts
+members_printed [] [] z = refl
+members_printed [] (r ∷ list) z = absurd z
+members_printed (text ∷ texts) [] z = absurd z
+members_printed (text ∷ texts) (r ∷ list) z =
+    rw (requirement_printed text r z.0, members_printed texts list z.1) refl
+
+pub requirements_printed : IsPrinted SpellsRequirements requirements_text
+requirements_printed text list s = rw (members_printed s.members list s.members_are) (sym s.whole)
+
+-- a text spells at most one list
+pub requirements_unique : (text : List ℕ) (list others : List PlainRequirement)
+    → SpellsRequirements text list → SpellsRequirements text others → list ≡ others
+requirements_unique text list others s t =
+    cc (sym (requirements_of-Some text list s) ∙ requirements_of-Some text others t)
+
+-- ---- A scanned list of requirements: what its members match, one after another
+
+-- there is a list, and each member of it matches a version
+abbrev pub Asked : PlainVersioning → Option (List PlainRequirement) → Type 0
+Asked v members = IsSomeAnd members (λ list. MatchesAll list v)
+
+-- the first member matches, and the others decide
+pub others_decide : (v : PlainVersioning) (r : PlainRequirement)
+    (others : Option (List PlainRequirement)) → Matches r v
+    → Asked v (before_others (Some r) others) ↔ Asked v others
+others_decide v r None asks = (λ e. e, λ e. e)
+others_decide v r (Some list) asks = (
+  λ all. All-tail (λ q. Matches q v) r list all,
+  λ all. All-cons (λ q. Matches q v) r list asks all,
+)
+
+-- the first member does not match
+pub first_decides : (v : PlainVersioning) (r : PlainRequirement)
+    (others : Option (List PlainRequirement)) → ¬ (Matches r v)
+    → ¬ (Asked v (before_others (Some r) others))
+first_decides v r None other e = absurd e
+first_decides v r (Some list) other all = other (All-head (λ q. Matches q v) r list all)
+
+-- the same for a list with others
+pub first_asks : (v : PlainVersioning) (r : PlainRequirement) (list : List PlainRequirement)
+    → Matches r v → MatchesAll list v ↔ MatchesAll (r ∷ list) v
+first_asks v r list asks = (
+  λ all. All-cons (λ q. Matches q v) r list asks all,
+  λ all. All-tail (λ q. Matches q v) r list all,
+)
+
+pub first_asks_not : (v : PlainVersioning) (r : PlainRequirement) (list : List PlainRequirement)
+    → ¬ (Matches r v) → ¬ (MatchesAll (r ∷ list) v)
+first_asks_not v r list other all = other (All-head (λ q. Matches q v) r list all)

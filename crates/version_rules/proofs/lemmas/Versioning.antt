@@ -1,17 +1,20 @@
 -- Versions of any kind: a text parses as the version of the first kind that fits, and the version
 -- prints the text.
-use Rattle.std.proofs.Common.{◌≡◌, List, ℕ, Some, None, refl, inl, inr}
+use Rattle.std.proofs.Common.{◌≡◌, List, ℕ, Some, None, refl, inl, inr, ◌∙◌, [], ◌∷◌, ◌++◌, append_assoc}
 use Rattle.std.specs.Str.{IsAscii}
 use Rattle.version_order.specs.texts.Reading.{IsPrinted}
 use Rattle.version_order.proofs.lemmas.Front.Repeated.{cases_Option}
 use Rattle.version_rules.specs.grammar.Mess.{mess_of}
-use Rattle.version_rules.specs.grammar.SemVer.{PlainSemVer, SpellsSemVer, semver_of}
-use Rattle.version_rules.specs.grammar.Version.{PlainVersion, SpellsVersion, version_of}
+use Rattle.version_rules.specs.grammar.SemVer.{PlainSemVer, SpellsSemVer, semver_of, semver_text}
+use Rattle.version_rules.specs.grammar.Version.{PlainVersion, SpellsVersion, version_of, SpellsEpoch, version_text}
 use Rattle.version_rules.specs.grammar.Versioning.{PlainVersioning, Ideal, General, Complex, SpellsVersioning, versioning_of, versioning_text}
 use Rattle.version_rules.proofs.lemmas.Mess.{mess_of-Some, mess_of-spells, mess_ascii, mess_printed}
 use Rattle.version_rules.proofs.lemmas.SemVer.{semver_ascii, semver_of-Some, semver_of-spells, semver_printed}
 use Rattle.version_rules.proofs.lemmas.Version.{version_ascii, version_of-Some, version_of-spells, version_printed}
-pub mod Spelled
+use Rattle.version_order.specs.texts.Bytes.{dot}
+use Rattle.version_rules.specs.grammar.Chunk.{PlainChunk, Numeric, SpellsPart}
+use Rattle.version_order.specs.texts.Grammar.{SpellsDotted}
+use Rattle.version_rules.specs.grammar.Conversions.{version_of_semver}
 
 -- a text parses as no strict version exactly if it spells none
 no_semver : (text : List ℕ) → ((w : PlainSemVer) → ¬ (SpellsSemVer text w)) → semver_of text ≡ None
@@ -75,3 +78,43 @@ pub versioning_ascii : (text : List ℕ) (v : PlainVersioning) → SpellsVersion
 versioning_ascii text (Ideal v) s = semver_ascii text v s
 versioning_ascii text (General v) s = version_ascii text v s.0
 versioning_ascii text (Complex m) s = mess_ascii text m s.0
+
+-- ---- A strict version widened to a general one: its text spells that too, and it prints alike
+
+three_parts : (a b c : List ℕ) (x y z : PlainChunk) → SpellsPart a x → SpellsPart b y
+    → SpellsPart c z
+    → SpellsDotted SpellsPart (a ++ dot ∷ (b ++ dot ∷ c)) (x ∷ y ∷ z ∷ [])
+unfolding SpellsDotted
+three_parts a b c x y z p q r = (a, b ++ dot ∷ c, refl, p, (b, c, refl, q, r))
+
+no_epoch : SpellsEpoch [] None
+unfolding SpellsEpoch
+no_epoch = refl
+
+regroup : (a b c d : List ℕ) → a ++ dot ∷ (b ++ dot ∷ (c ++ d)) ≡ (a ++ dot ∷ (b ++ dot ∷ c)) ++ d
+regroup a b c d = simp append_assoc
+
+-- a text that spells a strict version spells a general one
+pub strict_is_general : (text : List ℕ) (v : PlainSemVer) → SpellsSemVer text v
+    → SpellsVersion text (version_of_semver v)
+strict_is_general text v s = record {
+  epoch = [];
+  body = s.major ++ dot ∷ (s.minor ++ dot ∷ s.patch);
+  release = s.pre_rel;
+  meta = s.meta;
+  whole = s.whole ∙ regroup s.major s.minor s.patch (s.pre_rel ++ s.meta);
+  epoch_is = no_epoch;
+  body_is = record {
+    part = Numeric v.patch;
+    parts_are = three_parts s.major s.minor s.patch (Numeric v.major) (Numeric v.minor)
+        (Numeric v.patch) s.major_is s.minor_is s.patch_is;
+    last_is = refl;
+  };
+  release_is = s.pre_rel_is;
+  meta_is = s.meta_is;
+}
+
+-- a strict version prints the same as its general conversion
+pub version_of_semver_printed : (v : PlainSemVer)
+    → version_text (version_of_semver v) ≡ semver_text v
+version_of_semver_printed v = simp append_assoc

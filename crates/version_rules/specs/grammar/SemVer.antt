@@ -5,9 +5,8 @@ use Rattle.version_order.specs.texts.Bytes.{dot, hyphen, plus}
 use Rattle.version_rules.specs.grammar.Chunk.{PlainChunk}
 use Rattle.version_order.specs.texts.Front.{◌>>=◌, Front, behind, optional, whole}
 use Rattle.version_order.specs.texts.Grammar.{SpellsOptional}
-use Rattle.version_rules.specs.grammar.Metadata.{SpellsMetadata, meta_front}
+use Rattle.version_rules.specs.grammar.Release.{SpellsMetadata, meta_front, SpellsRelease, release_front, release_text}
 use Rattle.version_rules.specs.grammar.Numeral.{SpellsNumeral, unsigned_front}
-use Rattle.version_rules.specs.grammar.Release.{SpellsRelease, release_front, release_text}
 
 -- a strict version as plain data
 pub record PlainSemVer : Type 0 where

@@ -9,9 +9,8 @@ use Rattle.version_rules.specs.grammar.Chunk.{PlainChunk, number_of}
 use Rattle.version_order.specs.texts.Front.{◌>>=◌, Front, after_mark, optional, whole}
 use Rattle.version_order.specs.texts.Grammar.{SpellsOptional}
 use Rattle.version_rules.specs.grammar.Last.{PlainLast, first_number}
-use Rattle.version_rules.specs.grammar.Metadata.{SpellsMetadata, meta_front}
+use Rattle.version_rules.specs.grammar.Release.{SpellsMetadata, meta_front, SpellsRelease, release_front, release_text}
 use Rattle.version_rules.specs.grammar.Numeral.{SpellsNumeral, unsigned_front}
-use Rattle.version_rules.specs.grammar.Release.{SpellsRelease, release_front, release_text}
 use Rattle.version_rules.specs.grammar.SemVer.{optional_text}
 
 -- a general version as plain data

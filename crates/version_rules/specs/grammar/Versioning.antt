@@ -6,9 +6,10 @@ use Rattle.std.specs.declared.cmp.Ordering.{Ordering}
 use Rattle.version_order.specs.texts.Front.{Front, map_value}
 use Rattle.version_rules.specs.grammar.Mess.{PlainMess, SpellsMess, mess_front, mess_of, mess_plain_cmp, mess_text, nth_number}
 use Rattle.version_rules.specs.grammar.SemVer.{PlainSemVer, SemVerOwns, SpellsSemVer, semver_front, semver_of, semver_text}
-use Rattle.version_rules.specs.order.SemVerOrder.{SameButMetadata, semver_cmp}
+use Rattle.version_rules.specs.order.Kinds.{SameButMetadata, semver_cmp, version_plain_cmp}
 use Rattle.version_rules.specs.grammar.Version.{PlainVersion, SpellsVersion, VersionOwns, version_front, version_nth, version_of, version_text}
-use Rattle.version_rules.specs.order.VersionOrder.{version_plain_cmp}
+use Rattle.version_rules.specs.declared.kind.Kind.{Kind}
+use Rattle.version_rules.specs.declared.kind.Kind.TheVariants as kind
 
 pub data PlainVersioning : Type 0 where
   Ideal : PlainSemVer → PlainVersioning
@@ -98,3 +99,11 @@ SameVersioning (Ideal a) (Ideal b) = SameButMetadata a b
 SameVersioning (General a) (General b) = a ≡ b
 SameVersioning (Complex a) (Complex b) = a ≡ b
 SameVersioning _ _ = ⊥
+
+-- ---- the kinds of versions
+
+-- the kind of a version
+abbrev pub versioning_kind : PlainVersioning → Kind
+versioning_kind (Ideal v) = kind.Ideal
+versioning_kind (General v) = kind.General
+versioning_kind (Complex m) = kind.Complex

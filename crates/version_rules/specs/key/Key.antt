@@ -7,13 +7,16 @@ use Rattle.std.specs.declared.cmp.Ordering.{Ordering}
 use Rattle.version_order.specs.texts.DigitRun.{is_digits}
 use Rattle.version_rules.specs.grammar.Last.{last_text}
 use Rattle.version_rules.specs.grammar.MChunk.{PlainMChunk, mchunk_text}
-use Rattle.version_rules.specs.key.PartKey.{PartKey, Number, chunk_parts, list_cmp, part_key, section_parts}
-use Rattle.version_rules.specs.grammar.Mess.{PlainMess}
+use Rattle.version_rules.specs.key.PartKey.{PartKey, Number, chunk_parts, list_cmp, part_key, section_parts, parts_bytes}
+use Rattle.version_rules.specs.grammar.Mess.{PlainMess, Further}
 use Rattle.version_order.specs.texts.Sep.{PlainSep, Colon}
 use Rattle.version_rules.specs.grammar.SemVer.{PlainSemVer}
-use Rattle.version_rules.specs.key.Tail.{Tail, PreReleased, Bare, Released, Sections, tail_cmp}
+use Rattle.version_rules.specs.key.Tail.{Tail, PreReleased, Bare, Released, Sections, tail_cmp, section_bytes, tail_bytes}
 use Rattle.version_rules.specs.grammar.Version.{PlainVersion}
-use Rattle.version_rules.specs.grammar.Versioning.{PlainVersioning, Ideal, General, Complex}
+use Rattle.version_rules.specs.grammar.Versioning.{PlainVersioning, Ideal, General, Complex, versioning_plain_cmp}
+use Rattle.version_order.specs.keys.Codes.{list_bytes}
+use Rattle.version_order.specs.keys.NumberBytes.{number_bytes}
+use Rattle.std.specs.declared.cmp.Ordering.TheVariants.{Equal}
 
 -- what versions are compared by
 pub record Key : Type 0 where
@@ -105,3 +108,20 @@ abbrev pub versioning_epoch : PlainVersioning → Option ℕ
 versioning_epoch (Ideal v) = None
 versioning_epoch (General v) = v.epoch
 versioning_epoch (Complex m) = mess_epoch m.first m.more
+
+-- ---- the bytes of a key, which compare as precedence does
+
+-- the epoch, the parts of the body with their end, and the tail
+abbrev pub key_bytes : Key → List ℕ
+key_bytes k = number_bytes k.epoch ++ (parts_bytes k.body ++ tail_bytes k.tail)
+
+-- the bytes of further messy sections, and of their end
+abbrev pub further_bytes : List Further → List ℕ
+further_bytes more = list_bytes section_bytes (map (λ further. section_parts further.1) more)
+
+-- ---- what breaks the tie of the keys of two versions
+
+-- two versions whose keys tie: strict ones are alike, others compare by kind, then field by field
+abbrev pub key_tie_cmp : PlainVersioning → PlainVersioning → Ordering
+key_tie_cmp (Ideal a) (Ideal b) = Equal
+key_tie_cmp a b = versioning_plain_cmp a b

@@ -7,7 +7,7 @@ use Rattle.std.specs.declared.cmp.Ordering.TheVariants.{Equal}
 use Rattle.version_rules.specs.grammar.Chunk.{PlainChunk}
 use Rattle.version_order.specs.keys.Codes.{list_bytes}
 use Rattle.version_rules.specs.key.PartKey.{PartKey, list_cmp, parts_bytes}
-use Rattle.version_rules.specs.order.ReleaseOrder.{release_bytes, release_cmp}
+use Rattle.version_rules.specs.order.Parts.{release_bytes, release_cmp}
 
 -- a strict pre-release, nothing, a general release, or further messy sections, at least one
 pub data Tail : Type 0 where

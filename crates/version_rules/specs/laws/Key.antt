@@ -1,17 +1,24 @@
 -- Precedence is total; so are the orders of tails and of sections.
 use Rattle.std.proofs.Common.{◌≡◌, List, ◌∷◌, Option, Some, None, refl, subst}
-use Rattle.std.specs.Cmp.{IsTotalOrder, nat_cmp_total, on_total, then_total}
+use Rattle.std.specs.Cmp.{IsTotalOrder, nat_cmp_total, on_total, then_total, tied_itself}
 use Rattle.std.specs.Cmp.Lexicographic.{lists_total, options_total}
 use Rattle.std.specs.Option.{option_cmp}
-use Rattle.std.specs.Ordering.{nat_cmp, on, then_cmp}
+use Rattle.std.specs.Ordering.{nat_cmp, on, then_cmp, eq_by_cmp}
 use Rattle.version_rules.specs.grammar.Chunk.{PlainChunk}
-use Rattle.version_order.specs.keys.OrderLaws.{then_equal}
+use Rattle.version_order.specs.keys.OrderLaws.{then_equal, ties_behind, ties_same}
 use Rattle.version_rules.specs.key.PartKey.{PartKey}
 use Rattle.version_rules.specs.laws.Part.{list_total}
 use Rattle.version_rules.specs.laws.Release.{release_total}
-use Rattle.version_rules.specs.order.ReleaseOrder.{release_cmp}
-use Rattle.version_rules.specs.key.Key.{Key, precedence}
+use Rattle.version_rules.specs.order.Parts.{release_cmp}
+use Rattle.version_rules.specs.key.Key.{Key, precedence, key_of, key_of_mess, key_of_version}
 use Rattle.version_rules.specs.key.Tail.{Tail, PreReleased, Bare, Released, Sections, sections_cmp, tail_cmp, tail_rank}
+use Rattle.std.specs.declared.cmp.Ordering.TheVariants.{Equal}
+use Rattle.version_rules.specs.grammar.Mess.{PlainMess, mess_plain_cmp}
+use Rattle.version_rules.specs.laws.Versioning.{mess_total, messes_same, tied_same, version_plain_total, versions_same, versioning_plain_total}
+use Rattle.version_rules.specs.order.Orders.{mess_cmp, version_cmp, versioning_cmp}
+use Rattle.version_rules.specs.grammar.Version.{PlainVersion}
+use Rattle.version_rules.specs.order.Kinds.{version_plain_cmp}
+use Rattle.version_rules.specs.grammar.Versioning.{PlainVersioning, Ideal, General, Complex, versioning_plain_cmp}
 
 pub sections_total : IsTotalOrder sections_cmp
 sections_total = lists_total list_total
@@ -70,3 +77,38 @@ precedence_total =
     then_total (on_total (λ (k : Key). k.epoch) nat_cmp_total)
     (then_total (on_total (λ (k : Key). k.body) list_total)
     (on_total (λ (k : Key). k.tail) tail_total))
+
+-- ---- the laws of the orders of versions, which the impls of `Ord` cite
+
+pub version_cmp_total : IsTotalOrder version_cmp
+version_cmp_total = then_total (on_total key_of_version precedence_total) version_plain_total
+
+pub version_cmp_ties : (a b : PlainVersion)
+    → eq_by_cmp version_plain_cmp a b ≡ eq_by_cmp version_cmp a b
+version_cmp_ties = ties_same (on_total key_of_version precedence_total) versions_same
+
+pub mess_cmp_total : IsTotalOrder mess_cmp
+mess_cmp_total = then_total (on_total key_of_mess precedence_total) mess_total
+
+pub mess_cmp_ties : (a b : PlainMess) → eq_by_cmp mess_plain_cmp a b ≡ eq_by_cmp mess_cmp a b
+mess_cmp_ties = ties_same (on_total key_of_mess precedence_total) messes_same
+
+pub versioning_cmp_total : IsTotalOrder versioning_cmp
+versioning_cmp_total = then_total (on_total key_of precedence_total) versioning_plain_total
+
+-- versions whose fields tie have one key, since metadata is not in it
+pub keys_tied : (a b : PlainVersioning) → versioning_plain_cmp a b ≡ Equal
+    → precedence (key_of a) (key_of b) ≡ Equal
+keys_tied (Ideal a) (Ideal b) tied =
+    let same = tied_same a b tied in
+    rw (same.major, same.minor, same.patch, same.pre_rel)
+    (tied_itself precedence_total (key_of (Ideal b)))
+keys_tied (General a) (General b) tied =
+    rw (versions_same a b tied) (tied_itself precedence_total (key_of (General b)))
+keys_tied (Complex a) (Complex b) tied =
+    rw (messes_same a b tied) (tied_itself precedence_total (key_of (Complex b)))
+keys_tied _ _ tied = cc tied
+
+pub versioning_cmp_ties : (a b : PlainVersioning)
+    → eq_by_cmp versioning_plain_cmp a b ≡ eq_by_cmp versioning_cmp a b
+versioning_cmp_ties = ties_behind keys_tied

@@ -1,14 +1,20 @@
 -- The laws of the orders of parts and of lists of parts, which the impls of `Ord` cite.
-use Rattle.std.proofs.Common.{◌≡◌, ℕ, List, Option, Some, None, refl, ap, subst}
+use Rattle.std.proofs.Common.{◌≡◌, ℕ, List, Option, Some, None, refl, ap, subst, []}
 use Rattle.std.specs.Cmp.{IsTotalOrder, nat_cmp_total, on_total, then_total}
 use Rattle.std.specs.Cmp.Lexicographic.{lists_total, nat_list_cmp_total, options_total}
 use Rattle.std.specs.FinMap.{IsAntisymmetric, nat_cmp-IsAntisymmetric}
 use Rattle.std.specs.Option.{option_cmp}
-use Rattle.std.specs.Ordering.{nat_cmp, on, then_cmp}
+use Rattle.std.specs.Ordering.{nat_cmp, on, then_cmp, eq_by_cmp}
 use Rattle.version_order.specs.keys.Lists.{none_last_cmp, with_end}
-use Rattle.version_order.specs.keys.OrderLaws.{bytes_same, none_last_same, none_last_total, options_same, then_equal, then_first, then_second}
-use Rattle.version_rules.specs.key.PartKey.{PartKey, Word, Number, list_cmp, part_cmp}
-use Rattle.version_rules.specs.key.Split.{Split, numbered_cmp, split_cmp}
+use Rattle.version_order.specs.keys.OrderLaws.{bytes_same, none_last_same, none_last_total, options_same, then_equal, then_first, then_second, ties_same}
+use Rattle.version_rules.specs.key.PartKey.{PartKey, Word, Number, list_cmp, part_cmp, Split, numbered_cmp, split_cmp, part_bytes, chunk_parts, part_key}
+use Rattle.version_rules.specs.grammar.Chunk.{PlainChunk, Numeric, Alphanum}
+use Rattle.version_rules.specs.order.Parts.{chunk_bytes, as_part_cmp, chunks_cmp, last_cmp, mchunk_cmp, release_cmp}
+use Rattle.version_rules.specs.grammar.Last.{PlainLast, last_text}
+use Rattle.version_rules.specs.laws.Last.{last_total, lasts_same, mchunk_total, mchunks_same}
+use Rattle.version_rules.specs.order.LastOrder.{last_plain_cmp}
+use Rattle.version_rules.specs.grammar.MChunk.{PlainMChunk, mchunk_plain_cmp, mchunk_text}
+use Rattle.version_rules.specs.laws.Release.{release_total, releases_same}
 
 numbered_total : IsTotalOrder numbered_cmp
 numbered_total =
@@ -92,3 +98,37 @@ parts_same (Some (Number m s)) (Some (Number n t)) e =
     let numbers = nat_cmp-IsAntisymmetric m n (then_first _ _ e) in
     let suffixes = none_last_same splits_same s t (then_second _ _ e) in
     λ i. Some (Number (numbers i) (suffixes i))
+
+-- ---- laws that the impls of `Code` cite
+
+pub part_begins : (key : PartKey) → ¬ (part_bytes (Some key) ≡ [])
+part_begins (Word w) e = cc e
+part_begins (Number n suffix) e = cc e
+
+pub chunk_begins : (chunk : PlainChunk) → ¬ (chunk_bytes (Some chunk) ≡ [])
+chunk_begins (Numeric n) e = cc e
+chunk_begins (Alphanum text) e = cc e
+
+-- ---- the laws of the orders of chunks, last parts and messy chunks, which the impls of `Ord` cite
+
+pub chunks_cmp_total : IsTotalOrder chunks_cmp
+chunks_cmp_total = then_total (on_total chunk_parts list_total) release_total
+
+pub chunks_cmp_ties : (a b : List PlainChunk) → eq_by_cmp release_cmp a b ≡ eq_by_cmp chunks_cmp a b
+chunks_cmp_ties = ties_same (on_total chunk_parts list_total) releases_same
+
+as_part_total : IsTotalOrder as_part_cmp
+as_part_total = on_total (λ text. Some (part_key text)) part_total
+
+pub last_cmp_total : IsTotalOrder last_cmp
+last_cmp_total = then_total (on_total last_text as_part_total) last_total
+
+pub last_cmp_ties : (a b : PlainLast) → eq_by_cmp last_plain_cmp a b ≡ eq_by_cmp last_cmp a b
+last_cmp_ties = ties_same (on_total last_text as_part_total) lasts_same
+
+pub mchunk_cmp_total : IsTotalOrder mchunk_cmp
+mchunk_cmp_total = then_total (on_total mchunk_text as_part_total) mchunk_total
+
+pub mchunk_cmp_ties : (a b : PlainMChunk)
+    → eq_by_cmp mchunk_plain_cmp a b ≡ eq_by_cmp mchunk_cmp a b
+mchunk_cmp_ties = ties_same (on_total mchunk_text as_part_total) mchunks_same

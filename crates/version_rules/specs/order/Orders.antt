@@ -4,7 +4,7 @@ use Rattle.std.specs.declared.cmp.Ordering.{Ordering}
 use Rattle.version_rules.specs.key.Key.{key_of, key_of_mess, key_of_version, precedence}
 use Rattle.version_rules.specs.grammar.Mess.{PlainMess, mess_plain_cmp}
 use Rattle.version_rules.specs.grammar.Version.{PlainVersion}
-use Rattle.version_rules.specs.order.VersionOrder.{version_plain_cmp}
+use Rattle.version_rules.specs.order.Kinds.{version_plain_cmp}
 use Rattle.version_rules.specs.grammar.Versioning.{PlainVersioning, versioning_plain_cmp}
 
 -- two general versions

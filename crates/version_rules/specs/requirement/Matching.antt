@@ -8,7 +8,7 @@ use Rattle.version_rules.specs.key.Key.{key_of, precedence}
 use Rattle.version_rules.specs.requirement.Requirement.{PlainRequirement}
 use Rattle.version_rules.specs.grammar.SemVer.{PlainSemVer}
 use Rattle.version_rules.specs.requirement.SemVerMatch.{numbers}
-use Rattle.version_rules.specs.order.SemVerOrder.{semver_cmp}
+use Rattle.version_rules.specs.order.Kinds.{semver_cmp}
 use Rattle.version_rules.specs.requirement.VersionMatch.{epoch_and_parts}
 use Rattle.version_rules.specs.grammar.Versioning.{PlainVersioning, Ideal, General, versioning_plain_cmp}
 use Rattle.std.specs.declared.cmp.Ordering.TheVariants as ordering

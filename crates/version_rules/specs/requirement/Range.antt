@@ -1,6 +1,6 @@
 -- The range of keys that a requirement, or a list of them, asks for.
-use Rattle.std.specs.Prelude.{◌≡◌, ℕ, Bool, true, false, ◌&&◌, IsTrue, IfSome, List, [], ◌∷◌, ◌++◌, fold, if◌then◌else◌, Option, Some, None}
-use Rattle.std.specs.Option.{option_map_or}
+use Rattle.std.specs.Prelude.{◌≡◌, ℕ, Bool, true, false, ◌&&◌, IsTrue, IfSome, List, [], ◌∷◌, ◌++◌, fold, if◌then◌else◌, Option, Some, None, not}
+use Rattle.std.specs.Option.{option_map_or, option_map}
 use Rattle.std.specs.Ordering.{is_lt}
 use Rattle.std.specs.declared.cmp.Ordering.TheVariants.{Less}
 use Rattle.version_order.specs.keys.Codes.{items_bytes}
@@ -11,14 +11,19 @@ use Rattle.version_rules.specs.declared.kind.Kind.{Kind}
 use Rattle.version_rules.specs.declared.op.Op.{Op}
 use Rattle.version_rules.specs.declared.op.Op.TheVariants.{Exact, Greater, GreaterEq, Less as LessThan, LessEq, Tilde, Caret, Wildcard}
 use Rattle.version_rules.specs.declared.kinds.Kinds.{Kinds}
-use Rattle.version_rules.specs.key.Key.{key_of}
-use Rattle.version_rules.specs.key.KeyBytes.{key_bytes}
-use Rattle.version_rules.specs.grammar.Kind.{versioning_kind}
+use Rattle.version_rules.specs.key.Key.{key_of, key_bytes, Key}
+use Rattle.version_rules.specs.grammar.Versioning.{versioning_kind, PlainVersioning, Complex}
 use Rattle.version_rules.specs.requirement.Requirement.{PlainRequirement}
 use Rattle.version_rules.specs.requirement.VersionMatch.{is_plain_zero}
-use Rattle.version_rules.specs.grammar.Versioning.{PlainVersioning, Complex}
 use Rattle.version_rules.specs.declared.kind.Kind.TheVariants as kind
 use Rattle.version_order.specs.Keyed.{after}
+use Rattle.version_order.specs.declared.ends.End.{End}
+use Rattle.version_rules.specs.declared.ends.Ends.{Ends}
+use Rattle.version_order.specs.declared.ends.Kept.{Kept}
+use Rattle.version_order.specs.declared.ends.Kept.TheVariants.{All, ButLast, ButLastOrOnly, ThroughOther}
+use Rattle.version_order.specs.declared.ends.End.TheVariants as end
+use Rattle.std.specs.List.{filter}
+use Rattle.version_rules.specs.requirement.Requirements.{requirements_text}
 
 -- keys from a low bound up to a high one, which may be missing, of versions of some kinds; if it is
 -- exact, all these versions match
@@ -186,3 +191,50 @@ common a b = record {
 -- the range that a list asks for: what is in the range of each member
 abbrev pub range_of : List PlainRequirement → PlainRange
 range_of list = fold (λ range r. common range (requirement_range r)) everything list
+
+-- ---- the ends of ranges, by the key of a version
+
+-- the parts that are kept of those of a body
+abbrev pub kept_parts : Kept → List PartKey → List PartKey
+kept_parts All parts = parts
+kept_parts ButLast parts = but_last parts
+kept_parts ButLastOrOnly parts = but_last_or_only parts
+kept_parts ThroughOther parts = through_other parts
+
+-- the bytes of an end, by the key of the version
+abbrev pub end_bytes : End → Key → List ℕ
+end_bytes end.Lowest k = []
+end_bytes end.Zero k = 0 ∷ []
+end_bytes end.Key k = key_bytes k
+end_bytes end.AfterKey k = after (key_bytes k)
+end_bytes (end.Begun kept) k = begun k.epoch (kept_parts kept k.body)
+end_bytes (end.AboveBegun kept) k = above_begun k.epoch (kept_parts kept k.body)
+
+-- whether an end needs none of the parts alone
+abbrev pub is_whole : End → Bool
+is_whole (end.Begun kept) = false
+is_whole (end.AboveBegun kept) = false
+is_whole _ = true
+
+-- neither end needs the parts alone
+abbrev pub AreWhole : Ends → Type 0
+AreWhole ends = IsTrue (is_whole ends.low) × IfSome ends.high (λ high. IsTrue (is_whole high))
+
+-- the range that has these ends, by the key of the version
+abbrev pub range_from : Ends → Key → PlainRange
+range_from ends k = record {
+  low = end_bytes ends.low k;
+  high = option_map (λ high. end_bytes high k) ends.high;
+  kinds = ends.kinds;
+  is_exact = ends.is_exact;
+}
+
+-- ---- the members of a list of requirements that the range of the list leaves open
+
+-- the members that need not match each version in their range
+abbrev pub inexact_members : List PlainRequirement → List PlainRequirement
+inexact_members list = filter (λ r. not (requirement_range r).is_exact) list
+
+-- their printed text, which is empty if there are none
+abbrev pub inexact_text : List PlainRequirement → List ℕ
+inexact_text list = requirements_text (inexact_members list)

@@ -1,9 +1,11 @@
 -- Lists of requirements.
 use Rattle.std.specs.Prelude.{◌≡◌, ℕ, ◌<◌, eqb, List, [], ◌∷◌, length, map, Option, Some}
 use Rattle.std.specs.List.{AllZip, join_with_byte, slice_split}
-use Rattle.std.specs.Option.{option_map}
+use Rattle.std.specs.Option.{option_map, IsSomeAnd}
 use Rattle.version_order.specs.texts.Front.{◌>>=◌}
 use Rattle.version_rules.specs.requirement.Requirement.{PlainRequirement, SpellsRequirement, requirement_of, requirement_text}
+use Rattle.version_rules.specs.requirement.Matching.{MatchesAll}
+use Rattle.version_rules.specs.grammar.Versioning.{PlainVersioning}
 
 -- the byte between the members of a list
 abbrev pub comma : ℕ
@@ -30,3 +32,14 @@ every (reading ∷ readings) = reading >>= λ x. option_map (λ xs. x ∷ xs) (e
 -- as a member
 abbrev pub requirements_of : List ℕ → Option (List PlainRequirement)
 requirements_of text = every (map requirement_of (slice_split (λ b. eqb b comma) text))
+
+-- ---- the members of a list of requirements, one before others, and whether they keep a version
+
+-- a member before others, or None if either is None
+abbrev pub before_others : Option PlainRequirement → Option (List PlainRequirement)
+    → Option (List PlainRequirement)
+before_others member others = member >>= λ r. option_map (λ list. r ∷ list) others
+
+-- there is a version, and each member of the list matches it
+abbrev pub Keeps : List PlainRequirement → Option PlainVersioning → Type 0
+Keeps list spelled = IsSomeAnd spelled (MatchesAll list)

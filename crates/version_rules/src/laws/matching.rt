@@ -1,9 +1,8 @@
 //! Laws of matching.
 
 ghost use Rattle.std.specs.Prelude.{◌⊎◌, ◌↔◌, IsTrue, List};
-ghost use Rattle.version_rules.specs.requirement.Inexact.{inexact_members};
+ghost use Rattle.version_rules.specs.requirement.Range.{inexact_members, IsIn, range_of};
 ghost use Rattle.version_rules.specs.requirement.Matching.{MatchesAll};
-ghost use Rattle.version_rules.specs.requirement.Range.{IsIn, range_of};
 ghost use Rattle.version_rules.specs.requirement.Requirement.{PlainRequirement};
 ghost use Rattle.version_rules.specs.grammar.Versioning.{PlainVersioning};
 ghost use Rattle.version_rules.specs.worked.Ranges.{WorkedRanges};
@@ -26,7 +25,7 @@ fn ranges()
 {}
 
 // The ranges of lists with every operator and kind, byte by byte.
-#[tactic(auto, using(crate::proofs::lemmas::WorkedRanges::worked_ranges))]
+#[tactic(auto, using(crate::proofs::lemmas::Worked::worked_ranges))]
 fn worked_ranges()
     ensures { WorkedRanges }
 {}

@@ -1,5 +1,5 @@
 //! Laws of precedence and of the bytes of keys.
-#![tactic(auto, using(crate::proofs::lemmas::OrdersLaws::laws))]
+#![tactic(auto, using(crate::proofs::lemmas::Order::laws))]
 
 ghost use Rattle.std.specs.Cmp.{IsTotalOrder};
 ghost use Rattle.std.specs.Ordering.{ordering_then};
@@ -9,18 +9,15 @@ ghost use Rattle.version_order.specs.keys.Codes.{Writes, list_bytes};
 ghost use Rattle.version_order.specs.keys.Lists.{bytes_cmp};
 ghost use Rattle.version_rules.specs.grammar.MChunk.{PlainMChunk};
 ghost use Rattle.version_rules.specs.key.PartKey.{PartKey};
-ghost use Rattle.version_rules.specs.key.PartTexts.{AreBytes};
-ghost use Rattle.version_rules.specs.key.Key.{Key, key_of, key_of_semver, key_of_version, precedence, sections_tail};
-ghost use Rattle.version_rules.specs.key.KeyBytes.{key_bytes};
+ghost use Rattle.version_rules.specs.key.Texts.{AreBytes, key_text, texts_of};
+ghost use Rattle.version_rules.specs.key.Key.{Key, key_of, key_of_semver, key_of_version, precedence, sections_tail, key_bytes};
 ghost use Rattle.version_rules.specs.grammar.Mess.{mess_plain_cmp, PlainMess};
 ghost use Rattle.version_order.specs.texts.Sep.{PlainSep};
 ghost use Rattle.version_rules.specs.order.Orders.{mess_cmp, version_cmp, versioning_cmp};
 ghost use Rattle.version_rules.specs.grammar.SemVer.{PlainSemVer};
-ghost use Rattle.version_rules.specs.order.SemVerOrder.{semver_cmp, SameButMetadata};
+ghost use Rattle.version_rules.specs.order.Kinds.{semver_cmp, SameButMetadata, version_plain_cmp};
 ghost use Rattle.version_rules.specs.key.Tail.{Tail, section_bytes, sections_cmp, tail_bytes, tail_cmp};
-ghost use Rattle.version_rules.specs.key.Texts.{key_text, texts_of};
 ghost use Rattle.version_rules.specs.grammar.Version.{PlainVersion};
-ghost use Rattle.version_rules.specs.order.VersionOrder.{version_plain_cmp};
 ghost use Rattle.version_rules.specs.grammar.Versioning.{versioning_plain_cmp, PlainVersioning, SameVersioning};
 ghost use Rattle.version_rules.specs.worked.Keys.{WorkedKeys};
 

@@ -9,10 +9,9 @@ ghost use Rattle.version_rules.specs.grammar.Chunk.{chunk_front, chunk_text, par
 ghost use Rattle.version_order.specs.texts.Front.{dotted_front, run_front};
 ghost use Rattle.version_rules.specs.grammar.Last.{last_of, last_text, IsLastOf, PlainLast};
 ghost use Rattle.version_rules.specs.grammar.MChunk.{mchunk_front, mchunk_text, EndsChunk, SpellsMChunk};
-ghost use Rattle.version_rules.specs.grammar.Metadata.{SpellsMetadata};
+ghost use Rattle.version_rules.specs.grammar.Release.{SpellsMetadata, release_text, SpellsRelease};
 ghost use Rattle.version_rules.specs.grammar.Numeral.{unsigned_front, SpellsNumeral};
 ghost use Rattle.version_order.specs.texts.Reading.{EndsList, EndsRun, IsComplete, IsKept, IsPrinted, IsSound, IsSoundBefore};
-ghost use Rattle.version_rules.specs.grammar.Release.{release_text, SpellsRelease};
 
 // A number parses as numerals are spelled, and prints as its numeral.
 fn numerals()

@@ -1,5 +1,5 @@
 //! Laws of the orders of parts and releases, and of their bytes.
-#![tactic(auto, using(crate::proofs::lemmas::OrderLaws::laws))]
+#![tactic(auto, using(crate::proofs::lemmas::Order::part_laws))]
 
 ghost use Rattle.std.specs.Cmp.{IsTotalOrder};
 ghost use Rattle.std.specs.Ordering.{nat_cmp};
@@ -17,10 +17,8 @@ ghost use Rattle.version_rules.specs.order.LastOrder.{last_plain_cmp};
 ghost use Rattle.version_order.specs.keys.Lists.{bytes_cmp};
 ghost use Rattle.version_rules.specs.grammar.MChunk.{PlainMChunk};
 ghost use Rattle.version_order.specs.keys.NumberBytes.{length_bytes, number_bytes};
-ghost use Rattle.version_rules.specs.key.PartKey.{Number, PartKey, Word, list_cmp, part_bytes, part_cmp, part_key, parts_bytes, suffix_of};
-ghost use Rattle.version_rules.specs.order.PartOrder.{chunks_cmp, last_cmp, mchunk_cmp};
-ghost use Rattle.version_rules.specs.order.ReleaseOrder.{chunk_cmp, release_bytes, release_cmp};
-ghost use Rattle.version_rules.specs.key.Split.{Split, split_bytes, split_cmp, split_of};
+ghost use Rattle.version_rules.specs.key.PartKey.{Number, PartKey, Word, list_cmp, part_bytes, part_cmp, part_key, parts_bytes, suffix_of, Split, split_bytes, split_cmp, split_of};
+ghost use Rattle.version_rules.specs.order.Parts.{chunks_cmp, last_cmp, mchunk_cmp, chunk_cmp, release_bytes, release_cmp};
 ghost use Rattle.version_order.specs.keys.TextBytes.{text_bytes};
 ghost use Rattle.version_rules.specs.worked.Parts.{WorkedBytes, WorkedOrder};
 

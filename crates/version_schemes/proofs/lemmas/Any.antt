@@ -6,11 +6,10 @@ use Rattle.std.specs.Option.{option_cmp, option_map, option_map_or}
 use Rattle.std.specs.Ordering.{nat_cmp, ordering_then}
 use Rattle.std.specs.Prelude.{option_and_then}
 use Rattle.std.specs.declared.cmp.Ordering.{Ordering}
-use Rattle.version_rules.proofs.lemmas.OrdersLaws.{key_bytes_alone}
+use Rattle.version_rules.proofs.lemmas.Order.{key_bytes_alone}
 use Rattle.version_rules.proofs.lemmas.Versioning.{versioning_of-spells, versioning_printed}
 use Rattle.version_rules.specs.declared.kind.Kind.TheVariants.{Ideal}
-use Rattle.version_rules.specs.grammar.Kind.{versioning_kind}
-use Rattle.version_rules.specs.grammar.Versioning.{PlainVersioning, versioning_of, versioning_text}
+use Rattle.version_rules.specs.grammar.Versioning.{versioning_kind, PlainVersioning, versioning_of, versioning_text}
 use Rattle.version_rules.specs.key.Key.{key_of, precedence}
 use Rattle.version_order.specs.keys.Codes.{Writes}
 use Rattle.version_order.specs.keys.Lists.{bytes_cmp}

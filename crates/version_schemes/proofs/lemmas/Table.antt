@@ -25,7 +25,7 @@ use Rattle.version_order.specs.Facts.{key_room}
 use Rattle.version_order.specs.Keyed.{AreWithin}
 use Rattle.version_order.specs.Rules.{ComparesByKeys}
 use Rattle.version_order.specs.Viable.{IsViable}
-use Rattle.version_rules.proofs.lemmas.KeyLaws.{key_writes}
+use Rattle.version_rules.proofs.lemmas.Order.{key_writes}
 use Rattle.version_rules.specs.grammar.Versioning.{versioning_of}
 use Rattle.version_rules.specs.key.Key.{key_of}
 use Rattle.version_texts.proofs.lemmas.Mixed.{mixed_within}

@@ -11,8 +11,7 @@ use Rattle.scheme_rpm.specs.Order.{rpm_bytes}
 use Rattle.scheme_semver.specs.Rules.{plain_semver}
 use Rattle.scheme_semver.specs.Order.{semver_bytes}
 use Rattle.version_rules.specs.declared.kind.Kind.TheVariants.{Ideal}
-use Rattle.version_rules.specs.grammar.Kind.{versioning_kind}
-use Rattle.version_rules.specs.grammar.Versioning.{versioning_text}
+use Rattle.version_rules.specs.grammar.Versioning.{versioning_kind, versioning_text}
 use Rattle.version_schemes.specs.any.Order.{PlainAny}
 use Rattle.version_schemes.specs.declared.any.AnyVersion.{AnyVersion}
 use Rattle.version_schemes.specs.declared.any.AnyVersion.TheVariants as any

@@ -5,8 +5,7 @@ use Rattle.std.specs.Ordering.{nat_cmp, on, then_cmp}
 use Rattle.std.specs.declared.cmp.Ordering.{Ordering}
 use Rattle.version_rules.specs.declared.kind.Kind.{Kind}
 use Rattle.version_rules.specs.declared.kind.Kind.TheVariants.{Ideal}
-use Rattle.version_rules.specs.grammar.Kind.{versioning_kind}
-use Rattle.version_rules.specs.grammar.Versioning.{versioning_of}
+use Rattle.version_rules.specs.grammar.Versioning.{versioning_kind, versioning_of}
 use Rattle.version_order.specs.keys.Lists.{bytes_cmp}
 use Rattle.version_schemes.specs.Scheme.{is_mixed, rules, scheme_number}
 use Rattle.version_schemes.specs.declared.scheme.Scheme.{Scheme}

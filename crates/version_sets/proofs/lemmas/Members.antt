@@ -6,13 +6,12 @@ use Rattle.std.specs.Ordering.{is_eq, is_ge, is_gt, is_le, is_lt, ordering_then}
 use Rattle.std.specs.declared.cmp.Ordering.{Ordering}
 use Rattle.std.specs.declared.cmp.Ordering.TheVariants.{Less, Equal, Greater}
 use Rattle.version_order.proofs.lemmas.Codes.{writes_alone}
-use Rattle.version_rules.proofs.lemmas.KeyLaws.{key_writes}
+use Rattle.version_rules.proofs.lemmas.Order.{key_writes}
 use Rattle.version_order.proofs.lemmas.NumberBytes.{number_writes}
-use Rattle.version_rules.proofs.lemmas.PartKey.{lists_same, part_writes}
+use Rattle.version_rules.proofs.lemmas.Key.{lists_same, part_writes}
 use Rattle.version_rules.specs.grammar.Versioning.{PlainVersioning}
 use Rattle.version_order.specs.keys.Codes.{Writes, items_bytes}
-use Rattle.version_rules.specs.key.Key.{Key, key_of, precedence}
-use Rattle.version_rules.specs.key.KeyBytes.{key_bytes}
+use Rattle.version_rules.specs.key.Key.{Key, key_of, precedence, key_bytes}
 use Rattle.version_order.specs.keys.NumberBytes.{number_bytes}
 use Rattle.version_rules.specs.key.PartKey.{PartKey, Number, Word, part_bytes, part_cmp, parts_bytes}
 use Rattle.version_rules.specs.key.Tail.{tail_bytes}

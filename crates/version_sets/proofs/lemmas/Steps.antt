@@ -7,7 +7,7 @@ use Rattle.std.specs.List.{concat}
 use Rattle.version_order.proofs.lemmas.Front.Repeated.{cases_Option}
 use Rattle.version_order.specs.declared.ends.End.{End}
 use Rattle.version_order.specs.texts.Front.{after_mark}
-use Rattle.version_rules.specs.requirement.Op.{after_word}
+use Rattle.version_rules.specs.requirement.Requirement.{after_word}
 use Rattle.version_sets.specs.declared.read.slip.Slip.{Slip as Slips}
 use Rattle.version_order.specs.declared.facts.Operators.{Operators}
 use Rattle.version_order.specs.declared.facts.Operators.TheVariants.{Doubled, Parts, Plain}

@@ -5,7 +5,7 @@ use Rattle.version_order.proofs.lemmas.Front.Repeated.{cases_Option}
 use Rattle.version_order.specs.declared.ends.End.{End}
 use Rattle.version_rules.specs.grammar.Versioning.{PlainVersioning, versioning_of}
 use Rattle.version_rules.specs.key.Key.{key_of}
-use Rattle.version_rules.specs.requirement.Ends.{end_bytes}
+use Rattle.version_rules.specs.requirement.Range.{end_bytes}
 use Rattle.version_texts.specs.key.KeyRoom.{room_for}
 use Rattle.version_order.specs.Keyed.{AreWithin, end_of}
 use Rattle.version_texts.specs.Mixed.{mixed}

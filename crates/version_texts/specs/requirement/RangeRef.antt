@@ -5,9 +5,8 @@ use Rattle.version_texts.specs.declared.requirement.range_ref.Bound.{Bound}
 use Rattle.version_texts.specs.declared.requirement.range_ref.RangeRef.{RangeRef}
 use Rattle.version_texts.specs.versioning_ref.VersioningRef.{plain_versioning_ref}
 use Rattle.version_rules.specs.declared.op.Op.TheVariants.{Wildcard}
-use Rattle.version_rules.specs.requirement.Ends.{end_bytes}
+use Rattle.version_rules.specs.requirement.Range.{end_bytes, PlainRange}
 use Rattle.version_rules.specs.key.Key.{key_of}
-use Rattle.version_rules.specs.requirement.Range.{PlainRange}
 use Rattle.version_rules.specs.requirement.Requirement.{PlainRequirement}
 
 -- the bytes of a bound

@@ -1,12 +1,11 @@
 -- Which member of a list of requirements doesn't match a version, and why.
 use Rattle.std.specs.Prelude.{◌≡◌, ℕ, ◌+◌, IsTrue, IfSome, List, ◌++◌, codes, length}
 use Rattle.std.specs.declared.cmp.Ordering.TheVariants.{Less}
-use Rattle.version_rules.specs.grammar.Kind.{versioning_kind}
+use Rattle.version_rules.specs.grammar.Versioning.{versioning_kind, PlainVersioning, versioning_text}
 use Rattle.version_order.specs.keys.Lists.{bytes_cmp}
 use Rattle.version_rules.specs.requirement.Matching.{Matches}
 use Rattle.version_rules.specs.requirement.Range.{PlainRange, IsIn, bytes_of, has_kind, requirement_range}
 use Rattle.version_rules.specs.requirement.Requirement.{PlainRequirement}
-use Rattle.version_rules.specs.grammar.Versioning.{PlainVersioning, versioning_text}
 use Rattle.version_texts.specs.requirement.MemberPlace.{IsFirstFailing, text_between}
 use Rattle.version_texts.specs.declared.requirement.why.Excluded.{Excluded}
 use Rattle.version_texts.specs.declared.requirement.why.Why.{Why}

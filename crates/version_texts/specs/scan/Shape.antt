@@ -8,8 +8,7 @@ use Rattle.version_order.specs.texts.DigitRun.{starts_with_digit}
 use Rattle.version_order.specs.texts.Front.{begins}
 use Rattle.version_order.specs.texts.Sep.{is_sep}
 use Rattle.version_rules.specs.declared.kind.Kind.{Kind}
-use Rattle.version_rules.specs.grammar.Kind.{versioning_kind}
-use Rattle.version_rules.specs.grammar.Versioning.{versioning_of}
+use Rattle.version_rules.specs.grammar.Versioning.{versioning_kind, versioning_of}
 use Rattle.version_texts.specs.declared.scan.shape.Shape.{Shape}
 use Rattle.version_texts.specs.declared.scan.shape.TailKind.{TailKind}
 use Rattle.version_texts.specs.declared.scan.shape.TailKind.TheVariants.{PreRelease, Nothing, Release, Sections}

@@ -1,8 +1,8 @@
 //! A whole key, or the bytes of an end, written into a buffer or compared with given bytes.
 
 ghost use Rattle.std.specs.Prelude.{◌≡◌, ◌+◌, ◌≤◌, length};
-ghost use Rattle.version_rules.specs.requirement.Ends.{end_bytes};
-ghost use Rattle.version_rules.specs.key.KeyBytes.{key_bytes};
+ghost use Rattle.version_rules.specs.requirement.Range.{end_bytes};
+ghost use Rattle.version_rules.specs.key.Key.{key_bytes};
 ghost use Rattle.version_order.specs.keys.Lists.{bytes_cmp};
 ghost use Rattle.version_rules.specs.key.Tail.{tail_bytes};
 ghost use Rattle.version_texts.specs.scan.Shape.{tail_in, Fits};

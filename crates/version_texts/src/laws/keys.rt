@@ -5,8 +5,7 @@ ghost use Rattle.std.specs.Prelude.{◌≡◌, List, Some, ℕ};
 ghost use Rattle.version_texts.specs.scan.Shape.{shape_at, Fits};
 ghost use Rattle.version_texts.specs.key.TextKey.{text_key};
 ghost use Rattle.version_rules.specs.key.Key.{key_of};
-ghost use Rattle.version_rules.specs.grammar.Kind.{versioning_kind};
-ghost use Rattle.version_rules.specs.grammar.Versioning.{versioning_of, PlainVersioning};
+ghost use Rattle.version_rules.specs.grammar.Versioning.{versioning_kind, versioning_of, PlainVersioning};
 
 // The pieces that the shape of a version names lie in its text, and have only bytes of their kinds. The key of the
 // version is the one that these pieces give.

@@ -6,7 +6,7 @@ ghost use Rattle.std.specs.List.{list_all};
 ghost use Rattle.std.specs.Ordering.{nat_cmp};
 ghost use Rattle.std.specs.declared.cmp.Ordering.TheVariants.{Equal, Greater};
 ghost use Rattle.version_order.specs.texts.DigitRun.{run_value};
-ghost use Rattle.version_rules.specs.order.ReleaseOrder.{chunk_cmp, release_cmp};
+ghost use Rattle.version_rules.specs.order.Parts.{chunk_cmp, release_cmp};
 ghost use Rattle.version_order.specs.texts.Pieces.{behind_piece, first_piece};
 ghost use Rattle.version_texts.specs.key.TextKey.{chunk_of, chunks_of};
 

@@ -3,7 +3,7 @@
 ghost use Rattle.std.specs.Prelude.{◌≡◌, ◌++◌, IfNone, IsSome, List, ℕ};
 ghost use Rattle.std.specs.Option.{option_map};
 ghost use Rattle.version_order.specs.keys.Codes.{items_bytes};
-ghost use Rattle.version_rules.specs.requirement.Ends.{end_bytes};
+ghost use Rattle.version_rules.specs.requirement.Range.{end_bytes};
 ghost use Rattle.version_order.specs.keys.Lists.{bytes_cmp};
 ghost use Rattle.version_rules.specs.key.PartKey.{part_bytes};
 ghost use Rattle.version_texts.specs.requirement.EndOrder.{after_key, fixed_bytes, is_key, kept_of, mark_of, Begins, IsOfPart};

@@ -1,8 +1,7 @@
 //! The ends of ranges, read off the texts of versions.
 
 ghost use Rattle.std.specs.Prelude.{◌≡◌, ◌++◌, IfSome, List, ℕ};
-ghost use Rattle.version_rules.specs.requirement.Ends.{end_bytes, kept_parts};
-ghost use Rattle.version_rules.specs.requirement.Range.{begun, but_last, through_other};
+ghost use Rattle.version_rules.specs.requirement.Range.{end_bytes, kept_parts, begun, but_last, through_other};
 ghost use Rattle.version_texts.specs.order.Parts.{parts_behind};
 ghost use Rattle.version_texts.specs.scan.Shape.{Fits};
 ghost use Rattle.version_texts.specs.key.TextKey.{parts_of, text_key};

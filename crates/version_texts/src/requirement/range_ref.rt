@@ -3,10 +3,9 @@
 ghost use Rattle.std.specs.Prelude.{◌≡◌, ◌↔◌, ◌≤◌, ◌++◌, ◌∷◌, IfSome, IsTrue, length, take};
 ghost use Rattle.std.specs.Option.{option_map};
 ghost use Rattle.std.specs.declared.cmp.Ordering.TheVariants.{Less};
-ghost use Rattle.version_rules.specs.requirement.Ends.{end_bytes};
+ghost use Rattle.version_rules.specs.requirement.Range.{end_bytes, bytes_of, common, earlier_high, later, range_of, requirement_range, IsIn};
 ghost use Rattle.version_rules.specs.key.Key.{key_of};
 ghost use Rattle.version_order.specs.keys.Lists.{bytes_cmp};
-ghost use Rattle.version_rules.specs.requirement.Range.{bytes_of, common, earlier_high, later, range_of, requirement_range, IsIn};
 ghost use Rattle.version_rules.specs.requirement.Requirements.{comma, requirements_of};
 ghost use Rattle.version_texts.specs.requirement.Empty.{IsCrossed};
 ghost use Rattle.version_texts.specs.requirement.RangeRef.{bound_bytes, high_length, low_bytes, plain_range_ref, IsParsed};

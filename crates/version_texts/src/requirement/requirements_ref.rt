@@ -7,8 +7,7 @@ ghost use Rattle.version_texts.specs.requirement.RequirementRef.{plain_requireme
 ghost use Rattle.version_texts.specs.requirement.RequirementsRef.{from_second, others_of, wrong_member, IsFront};
 ghost use Rattle.version_texts.specs.versioning_ref.VersioningRef.{plain_versioning_ref};
 ghost use Rattle.version_rules.specs.requirement.Matching.{MatchesAll};
-ghost use Rattle.version_rules.specs.requirement.Requirements.{requirements_of};
-ghost use Rattle.version_rules.specs.requirement.RequirementsRef.{Keeps};
+ghost use Rattle.version_rules.specs.requirement.Requirements.{requirements_of, Keeps};
 ghost use Rattle.version_rules.specs.grammar.Versioning.{versioning_of};
 
 use crate::requirement::members::{Members, split_first};

@@ -2,7 +2,7 @@
 use Rattle.std.proofs.Common.{◌≡◌, Option, Some, None, List, refl}
 use Rattle.std.specs.Option.{option_map, option_map_or}
 use Rattle.version_rules.specs.grammar.Chunk.{PlainChunk}
-use Rattle.version_rules.specs.order.ReleaseOrder.{release_bytes}
+use Rattle.version_rules.specs.order.Parts.{release_bytes}
 use Rattle.version_rules.specs.key.Tail.{Bare, PreReleased, Released, tail_bytes}
 use Rattle.versions.specs.KeyStream.{release_tail}
 

@@ -6,9 +6,8 @@ use Rattle.version_rules.proofs.lemmas.Inexact.{inexact_decide, inexact_none, in
 use Rattle.version_rules.proofs.lemmas.Range.{list_in}
 use Rattle.version_rules.specs.grammar.Versioning.{PlainVersioning}
 use Rattle.version_rules.specs.laws.Matching.{matches_all_or_not}
-use Rattle.version_rules.specs.requirement.Inexact.{inexact_members, inexact_text}
+use Rattle.version_rules.specs.requirement.Range.{inexact_members, inexact_text, IsIn, PlainRange}
 use Rattle.version_rules.specs.requirement.Matching.{MatchesAll}
-use Rattle.version_rules.specs.requirement.Range.{IsIn, PlainRange}
 use Rattle.version_rules.specs.requirement.Requirement.{PlainRequirement}
 use Rattle.version_rules.specs.requirement.Requirements.{requirements_of}
 use Rattle.versions_c.proofs.lemmas.Matching.{bit_fails}

@@ -4,8 +4,7 @@ use Rattle.std.proofs.lemmas.Bool.Decides.{nat_tests}
 use Rattle.std.specs.Option.{is_none, is_some, option_map}
 use Rattle.version_rules.proofs.lemmas.Inexact.{inexact_decide, inexact_parse, inexact_within, nothing_parses}
 use Rattle.version_rules.proofs.lemmas.Range.{list_in}
-use Rattle.version_rules.specs.requirement.Inexact.{inexact_members, inexact_text}
-use Rattle.version_rules.specs.requirement.Range.{PlainRange, range_of}
+use Rattle.version_rules.specs.requirement.Range.{inexact_members, inexact_text, PlainRange, range_of}
 use Rattle.version_rules.specs.requirement.Requirement.{PlainRequirement}
 use Rattle.version_rules.specs.requirement.Requirements.{requirements_of}
 use Rattle.version_texts.proofs.lemmas.requirement.Inexact.{part_is}

@@ -10,12 +10,11 @@ use Rattle.version_order.specs.keys.Lists.{bytes_cmp}
 use Rattle.version_rules.specs.key.PartKey.{PartKey}
 use Rattle.version_texts.proofs.lemmas.requirement.RangeRef.{narrowed}
 use Rattle.version_texts.specs.requirement.RangeRef.{high_length}
-use Rattle.version_rules.proofs.lemmas.Requirements.{requirements_of-spells}
+use Rattle.version_rules.proofs.lemmas.Requirement.{requirements_of-spells}
 use Rattle.version_rules.specs.declared.op.Op.{Op}
 use Rattle.version_rules.specs.declared.op.Op.TheVariants.{Exact, Greater, GreaterEq, Less, LessEq, Tilde, Caret, Wildcard}
-use Rattle.version_rules.specs.requirement.Op.{op_text}
+use Rattle.version_rules.specs.requirement.Requirement.{op_text, PlainRequirement, SpellsOperand, SpellsRequirement}
 use Rattle.version_rules.specs.requirement.Range.{PlainRange, alike_from, but_last, bytes_of, common, earlier_high, everything, later, op_range, range_of, range_without_version, requirement_range, series_range, through_other}
-use Rattle.version_rules.specs.requirement.Requirement.{PlainRequirement, SpellsOperand, SpellsRequirement}
 use Rattle.version_rules.specs.requirement.Requirements.{comma, requirements_of}
 use Rattle.version_rules.specs.grammar.Versioning.{PlainVersioning, Ideal, General, Complex}
 use Rattle.version_texts.proofs.lemmas.key.KeyRoom.{spelled_length}

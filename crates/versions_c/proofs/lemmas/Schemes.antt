@@ -5,8 +5,7 @@ use Rattle.std.specs.Prelude.{option_and_then}
 use Rattle.std.specs.declared.cmp.Ordering.{Ordering}
 use Rattle.version_order.specs.declared.ends.End.TheVariants.{AfterKey}
 use Rattle.version_rules.specs.grammar.Versioning.{PlainVersioning, versioning_of}
-use Rattle.version_rules.specs.key.Key.{key_of}
-use Rattle.version_rules.specs.key.KeyBytes.{key_bytes}
+use Rattle.version_rules.specs.key.Key.{key_of, key_bytes}
 use Rattle.version_order.specs.keys.Lists.{bytes_cmp}
 use Rattle.version_schemes.proofs.lemmas.Table.{compare_by_keys}
 use Rattle.version_schemes.specs.Scheme.{rules}

@@ -23,14 +23,12 @@ use Rattle.std.specs.declared.cmp.Ordering.{Ordering}
 use Rattle.std.specs.declared.cmp.Ordering.TheVariants.{Less, Equal, Greater}
 use Rattle.version_order.proofs.lemmas.Orders.{then_assoc}
 use Rattle.version_order.specs.keys.Lists.{none_last_cmp}
-use Rattle.version_rules.proofs.lemmas.OrdersLaws.{key_bytes_alone}
-use Rattle.version_rules.specs.key.Key.{Key, key_of, precedence}
-use Rattle.version_rules.specs.key.KeyBytes.{key_bytes}
+use Rattle.version_rules.proofs.lemmas.Order.{key_bytes_alone}
+use Rattle.version_rules.specs.key.Key.{Key, key_of, precedence, key_bytes}
 use Rattle.version_rules.specs.order.Orders.{versioning_cmp}
-use Rattle.version_rules.specs.grammar.Versioning.{PlainVersioning, versioning_of}
+use Rattle.version_rules.specs.grammar.Versioning.{PlainVersioning, versioning_of, versioning_kind}
 use Rattle.versions_c.specs.Keys.{keys_before, saturated_signed}
 use Rattle.versions_c.specs.Offsets.{AreOffsets, text_at}
-use Rattle.version_rules.specs.grammar.Kind.{versioning_kind}
 use Rattle.version_rules.specs.declared.kind.Kind.{Kind}
 use Rattle.version_rules.specs.declared.kind.Kind.TheVariants.{Ideal}
 use Rattle.version_schemes.specs.declared.scheme.Scheme.TheVariants.{Mixed}

@@ -6,7 +6,7 @@ use Rattle.version_order.specs.texts.Bytes.{dot}
 use Rattle.version_order.specs.texts.Front.{Consumes, Front, after_mark, behind, dotted_front, elements_at, further}
 use Rattle.version_order.specs.keys.Lists.{split_last}
 use Rattle.version_order.proofs.lemmas.Front.Dotted.{elements_at-first, further-None, further-next, listed, unlisted}
-use Rattle.version_rules.proofs.lemmas.Lists.{split_last-append}
+use Rattle.version_rules.proofs.lemmas.Grammar.{split_last-append}
 
 -- if a rest is left, a value was read before it
 pub read_before : {X : Type 0} (o : Option (X × List ℕ)) (rest : List ℕ)

@@ -1,5 +1,5 @@
 use Rattle.std.proofs.lemmas.Str.Parse.{parse_digits}
-use Rattle.version_rules.proofs.lemmas.Numeral.Runs.{digits_model, some_if_ok}
+use Rattle.version_rules.proofs.lemmas.Numeral.{digits_model, some_if_ok}
 use Rattle.version_parts.proofs.scan.value_of.Goals as goal
 
 pub returns : goal.returns

@@ -1,5 +1,5 @@
 use Rattle.std.proofs.Common.{arith}
-use Rattle.version_rules.proofs.lemmas.Numeral.Digits.{next_fits, next_value}
+use Rattle.version_rules.proofs.lemmas.Numeral.{next_fits, next_value}
 use Rattle.version_parts.proofs.scan.value_of_numeral.Goals as goal
 
 pub overflow_mul-value : goal.overflow_mul-value

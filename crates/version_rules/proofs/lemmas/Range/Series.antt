@@ -6,17 +6,16 @@ use Rattle.std.specs.Cmp.{nat_cmp_total, ranks, tied_itself}
 use Rattle.std.specs.Ordering.{MatchOrdering, ordering_then}
 use Rattle.std.specs.declared.cmp.Ordering.{Ordering}
 use Rattle.std.specs.declared.cmp.Ordering.TheVariants.{Less, Equal, Greater}
-use Rattle.version_rules.proofs.lemmas.Lists.{split_last-append}
+use Rattle.version_rules.proofs.lemmas.Grammar.{split_last-append}
 use Rattle.version_order.proofs.lemmas.NumberBytes.{number_writes}
-use Rattle.version_rules.proofs.lemmas.PartKey.{part_writes}
+use Rattle.version_rules.proofs.lemmas.Key.{part_writes}
 use Rattle.version_order.specs.keys.Codes.{items_bytes}
 use Rattle.version_order.specs.keys.Lists.{bytes_cmp}
 use Rattle.version_order.specs.keys.NumberBytes.{number_bytes}
 use Rattle.version_order.specs.keys.OrderLaws.{then_equal}
 use Rattle.version_rules.specs.key.PartKey.{PartKey, Number, Word, part_bytes, part_cmp, parts_bytes}
 use Rattle.version_rules.specs.laws.Part.{part_total}
-use Rattle.version_rules.specs.key.Key.{Key, key_of_semver, key_of_version, plain, strict_body}
-use Rattle.version_rules.specs.key.KeyBytes.{key_bytes}
+use Rattle.version_rules.specs.key.Key.{Key, key_of_semver, key_of_version, plain, strict_body, key_bytes}
 use Rattle.version_rules.specs.requirement.Matching.{MatchesCaret, MatchesTilde}
 use Rattle.version_rules.specs.requirement.Range.{AreBetween, IsIn, above_begun, begun, but_last, series_range, through_other}
 use Rattle.version_rules.specs.grammar.SemVer.{PlainSemVer}

@@ -1,5 +1,5 @@
 use Rattle.std.proofs.Common.{◌∷◌, Decides, length}
-use Rattle.version_rules.proofs.lemmas.VersionMatch.{not_below_test}
+use Rattle.version_rules.proofs.lemmas.Matching.{not_below_test}
 use Rattle.version_rules.specs.requirement.VersionMatch.{PartsNotBelow}
 use Rattle.version_rules.proofs.parts.no_part_is_below.Given as goal
 

@@ -1,5 +1,5 @@
 use Rattle.std.proofs.Common.{◌∷◌, Decides, length}
-use Rattle.version_rules.proofs.lemmas.VersionMatch.{caret_test}
+use Rattle.version_rules.proofs.lemmas.Matching.{caret_test}
 use Rattle.version_rules.specs.requirement.VersionMatch.{PartsMatchCaret}
 use Rattle.version_rules.proofs.parts.parts_match_caret.Given as goal
 

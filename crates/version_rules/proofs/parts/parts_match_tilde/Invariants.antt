@@ -1,5 +1,5 @@
 use Rattle.std.proofs.Common.{◌∷◌, Decides, length}
-use Rattle.version_rules.proofs.lemmas.VersionMatch.{tilde_test}
+use Rattle.version_rules.proofs.lemmas.Matching.{tilde_test}
 use Rattle.version_rules.specs.requirement.VersionMatch.{PartsMatchTilde}
 use Rattle.version_rules.proofs.parts.parts_match_tilde.Given as goal
 

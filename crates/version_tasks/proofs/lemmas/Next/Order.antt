@@ -10,15 +10,14 @@ use Rattle.std.specs.declared.cmp.Ordering.{Ordering}
 use Rattle.std.specs.declared.cmp.Ordering.TheVariants.{Less, Equal, Greater}
 use Rattle.version_rules.specs.grammar.Chunk.{PlainChunk, number_of}
 use Rattle.version_rules.specs.key.Key.{key_of, plain, precedence, versioning_epoch}
-use Rattle.version_rules.specs.grammar.Kind.{versioning_kind}
+use Rattle.version_rules.specs.grammar.Versioning.{versioning_kind, PlainVersioning, Ideal, General, Complex, is_prerelease}
 use Rattle.version_rules.specs.grammar.Last.{PlainLast}
 use Rattle.version_rules.specs.key.PartKey.{PartKey, chunk_parts, list_cmp, part_key}
 use Rattle.version_rules.specs.key.Tail.{PreReleased, Bare, Released, tail_cmp}
 use Rattle.version_rules.specs.grammar.Version.{PlainVersion}
-use Rattle.version_rules.specs.grammar.Versioning.{PlainVersioning, Ideal, General, Complex, is_prerelease}
 use Rattle.version_order.specs.keys.OrderLaws.{then_equal}
 use Rattle.version_order.proofs.lemmas.NumberBytes.{above, below}
-use Rattle.version_rules.proofs.lemmas.PartKey.{plain_number}
+use Rattle.version_rules.proofs.lemmas.Key.{plain_number}
 use Rattle.version_tasks.specs.Next.{IsAfter, IsBare, IsNext, IsOfForm, MayFollow, NoNext, all_of, last_number, numbers_of}
 use Rattle.version_rules.specs.grammar.Chunk as chunk
 use Rattle.version_rules.specs.grammar.Last as last

@@ -19,12 +19,11 @@ use Rattle.version_rules.specs.grammar.Version.{PlainVersion, SpellsVersion}
 use Rattle.version_rules.specs.grammar.Versioning.{PlainVersioning, Ideal, General, Complex, SpellsVersioning, is_prerelease, versioning_of, versioning_text}
 use Rattle.version_rules.proofs.lemmas.Body.{body_printed}
 use Rattle.version_rules.proofs.lemmas.Chunk.{digit_alphanumeric}
-use Rattle.version_rules.proofs.lemmas.Conversions.{strict_is_general}
+use Rattle.version_rules.proofs.lemmas.Versioning.{strict_is_general}
 use Rattle.version_rules.proofs.lemmas.Numeral.{numeral_printed}
 use Rattle.version_texts.specs.versioning_ref.Field.{epoch_and_parts, numbers_alone}
 use Rattle.version_texts.specs.versioning_ref.Numbers.{numeral_value}
-use Rattle.version_order.specs.texts.Pieces.{behind_piece, first_piece, further_pieces, is_dot}
-use Rattle.version_order.specs.texts.Pieces.{pieces}
+use Rattle.version_order.specs.texts.Pieces.{behind_piece, first_piece, further_pieces, is_dot, pieces}
 use Rattle.version_texts.specs.scan.TextKind.{is_numeral}
 use Rattle.version_texts.specs.versioning_ref.VersioningRef.{version_in}
 use Rattle.version_texts.proofs.lemmas.order.Piece.{pieces_are}

@@ -18,11 +18,9 @@ use Rattle.version_rules.specs.grammar.Numeral.{HasNoLeadingZero, SpellsNumeral}
 use Rattle.version_rules.specs.grammar.SemVer.{PlainSemVer, SpellsSemVer}
 use Rattle.version_rules.specs.grammar.Version.{PlainVersion, SpellsEpoch, SpellsVersion, epoch_text}
 use Rattle.version_rules.specs.grammar.Versioning.{PlainVersioning, Ideal, General, Complex, SpellsVersioning, versioning_of, versioning_text}
-use Rattle.version_rules.proofs.lemmas.Conversions.{strict_is_general}
-use Rattle.version_rules.proofs.lemmas.DigitRun.{decimal-digits}
-use Rattle.version_rules.proofs.lemmas.Numeral.{numeral_printed}
+use Rattle.version_rules.proofs.lemmas.Versioning.{strict_is_general, versioning_ascii, versioning_of-Some, versioning_of-spells, versioning_printed}
+use Rattle.version_rules.proofs.lemmas.Numeral.{decimal-digits, numeral_printed}
 use Rattle.version_rules.proofs.lemmas.Version.{version_unique}
-use Rattle.version_rules.proofs.lemmas.Versioning.{versioning_ascii, versioning_of-Some, versioning_of-spells, versioning_printed}
 use Rattle.version_texts.specs.versioning_ref.Field.{epoch_and_parts}
 use Rattle.version_texts.proofs.lemmas.scan.Splits.{dotted_more, dotted_one}
 use Rattle.version_tasks.specs.Next.{IsOfForm, MayFollow, numbers_of}

@@ -13,7 +13,7 @@ use Rattle.version_order.specs.texts.Bytes.{dot, is_identifier_byte}
 use Rattle.version_rules.specs.grammar.Chunk.{PlainChunk, Numeric, Alphanum, chunk_text}
 use Rattle.version_order.specs.texts.Grammar.{SpellsDotted}
 use Rattle.version_rules.specs.grammar.Release.{SpellsRelease, release_text}
-use Rattle.version_rules.specs.order.ReleaseOrder.{chunk_cmp, release_cmp}
+use Rattle.version_rules.specs.order.Parts.{chunk_cmp, release_cmp}
 use Rattle.version_tasks.proofs.lemmas.Next.Order.{three_ways}
 use Rattle.version_tasks.proofs.lemmas.NextPre.Chunks.{before_same, begun, behind_word, not_below}
 use Rattle.version_tasks.proofs.lemmas.NextPre.Text.{chunks_joined, dotted, release_spelled}
@@ -22,8 +22,7 @@ use Rattle.version_texts.proofs.lemmas.order.Piece.{pieces_are}
 use Rattle.version_texts.proofs.lemmas.scan.Splits.{split-append, split_run}
 use Rattle.version_texts.proofs.lemmas.scan.TextKind.Chunks.{numeral_spells}
 use Rattle.version_texts.specs.key.TextKey.{chunk_of, chunks_of}
-use Rattle.version_order.specs.texts.Pieces.{pieces}
-use Rattle.version_order.specs.texts.Pieces.{behind_piece, first_piece, further_pieces, is_dot}
+use Rattle.version_order.specs.texts.Pieces.{pieces, behind_piece, first_piece, further_pieces, is_dot}
 use Rattle.version_texts.specs.scan.TextKind.{is_chunk, is_numeral}
 use Rattle.version_order.specs.texts.Front.{is_run}
 use Rattle.version_texts.specs.versioning_ref.Numbers.{numeral_value}

@@ -2,10 +2,9 @@
 use Rattle.std.proofs.Common.{◌≡◌, ◌∙◌, ◌<◌, ◌≤◌, ◌^◌, ℕ, suc, true, false, List, [], ◌∷◌, Option, Some, None, refl, sym, ap, subst, arith, inl, inr}
 use Rattle.std.specs.Option.{unwrap_or}
 use Rattle.version_rules.specs.grammar.Chunk.{PlainChunk}
-use Rattle.version_rules.specs.grammar.Kind.{versioning_kind}
+use Rattle.version_rules.specs.grammar.Versioning.{versioning_kind, PlainVersioning, Ideal, General, Complex, SpellsVersioning, is_prerelease, versioning_nth, versioning_of, versioning_text}
 use Rattle.version_rules.specs.grammar.Release.{SpellsRelease, release_text}
 use Rattle.version_rules.specs.grammar.SemVer.{PlainSemVer}
-use Rattle.version_rules.specs.grammar.Versioning.{PlainVersioning, Ideal, General, Complex, SpellsVersioning, is_prerelease, versioning_nth, versioning_of, versioning_text}
 use Rattle.version_tasks.proofs.lemmas.Next.Text.{printed}
 use Rattle.version_tasks.proofs.lemmas.NextPre.Order.{is_next, none_past, none_unnamed}
 use Rattle.version_tasks.proofs.lemmas.NextPre.Text.{own_read, release_passes, release_spelled}

@@ -5,7 +5,7 @@ use Rattle.version_texts.proofs.lemmas.key.TextKey.Runs.{number_and_suffix, plai
 use Rattle.version_order.proofs.lemmas.RunsWithin.{digit_alphanumeric, rest_within}
 use Rattle.version_order.proofs.lemmas.Taking.{next_fits, owes_all, owes_rest}
 use Rattle.version_texts.proofs.key.put_part.Goals.{then-begins_with+else-not-begins_with, else-begins_with}
-use Rattle.version_rules.specs.key.Split.{split_bytes, split_of}
+use Rattle.version_rules.specs.key.PartKey.{split_bytes, split_of}
 use Rattle.version_texts.proofs.key.put_part.Goals as goal
 
 abbrev after_run : List ℕ → List ℕ

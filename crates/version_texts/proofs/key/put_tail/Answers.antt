@@ -1,5 +1,5 @@
 use Rattle.std.proofs.Common.{◌≡◌, ◌⊎◌, ◌∙◌, ℕ, List, ◌∷◌, ap, inl, inr, refl, sym, []}
-use Rattle.version_rules.specs.order.ReleaseOrder.{release_bytes}
+use Rattle.version_rules.specs.order.Parts.{release_bytes}
 use Rattle.version_rules.specs.key.Tail.{held_bytes, tail_bytes, tail_rank}
 use Rattle.version_texts.specs.declared.scan.shape.TailKind.{TailKind}
 use Rattle.version_texts.specs.declared.scan.shape.TailKind.TheVariants.{PreRelease, Release, Sections}

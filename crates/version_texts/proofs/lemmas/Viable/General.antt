@@ -15,8 +15,7 @@ use Rattle.version_texts.specs.scan.TextKind.{body_of, epoch_is_numeral, has_thr
 use Rattle.version_texts.proofs.lemmas.scan.TextKind.{kind_law}
 use Rattle.version_rules.specs.declared.kind.Kind.{Kind}
 use Rattle.version_rules.specs.declared.kind.Kind.TheVariants as kind
-use Rattle.version_rules.specs.grammar.Kind.{versioning_kind}
-use Rattle.version_rules.specs.grammar.Versioning.{versioning_of}
+use Rattle.version_rules.specs.grammar.Versioning.{versioning_kind, versioning_of}
 use Rattle.std.specs.Option.{is_some, option_map}
 use Rattle.version_order.proofs.lemmas.Runs.{behind_mark, larger_run, run_in_section}
 use Rattle.version_order.proofs.lemmas.RunsWithin.{begins_inner, digit_alphanumeric}

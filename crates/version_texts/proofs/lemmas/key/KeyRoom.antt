@@ -25,10 +25,9 @@ use Rattle.version_order.specs.keys.NumberBytes.{number_bytes}
 use Rattle.version_rules.specs.grammar.Numeral.{SpellsNumeral}
 use Rattle.version_rules.specs.key.PartKey.{PartKey, chunk_parts, part_bytes, part_key, parts_bytes, section_parts}
 use Rattle.version_rules.specs.grammar.Release.{SpellsRelease}
-use Rattle.version_rules.specs.order.ReleaseOrder.{chunk_bytes, release_bytes}
+use Rattle.version_rules.specs.order.Parts.{chunk_bytes, release_bytes}
 use Rattle.version_order.specs.texts.Sep.{Colon, Hyphen, Plus, Underscore, Tilde}
-use Rattle.version_rules.specs.key.Key.{key_behind_epoch, key_of, key_of_mess, key_of_sections, key_of_semver, key_of_version, plain, section_epoch, sections_tail}
-use Rattle.version_rules.specs.key.KeyBytes.{key_bytes}
+use Rattle.version_rules.specs.key.Key.{key_behind_epoch, key_of, key_of_mess, key_of_sections, key_of_semver, key_of_version, plain, section_epoch, sections_tail, key_bytes}
 use Rattle.version_rules.specs.grammar.Mess.{Further, PlainMess, Section, SpellsFurther, SpellsMess, SpellsSection}
 use Rattle.version_rules.specs.grammar.SemVer.{PlainSemVer, SpellsSemVer}
 use Rattle.version_rules.specs.key.Tail.{Bare, Released, Tail, section_bytes, tail_bytes}

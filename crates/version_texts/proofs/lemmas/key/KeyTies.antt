@@ -7,15 +7,13 @@ use Rattle.std.specs.Option.{option_cmp}
 use Rattle.std.specs.Ordering.{nat_cmp, on, ordering_then, then_cmp}
 use Rattle.std.specs.declared.cmp.Ordering.{Ordering}
 use Rattle.std.specs.declared.cmp.Ordering.TheVariants.{Less, Equal, Greater}
-use Rattle.version_rules.specs.key.Key.{key_of, precedence}
-use Rattle.version_rules.specs.key.KeyTies.{key_tie_cmp}
-use Rattle.version_rules.specs.grammar.Kind.{versioning_kind}
+use Rattle.version_rules.specs.key.Key.{key_of, precedence, key_tie_cmp}
+use Rattle.version_rules.specs.grammar.Versioning.{versioning_kind, PlainVersioning, Ideal, General, Complex, versioning_of}
 use Rattle.version_rules.specs.order.Orders.{versioning_cmp}
-use Rattle.version_rules.specs.grammar.Versioning.{PlainVersioning, Ideal, General, Complex, versioning_of}
 use Rattle.version_rules.specs.declared.kind.Kind.{Kind}
 use Rattle.version_order.specs.keys.OrderLaws.{then_equal}
-use Rattle.version_rules.proofs.lemmas.KeyLaws.{keys_same}
-use Rattle.version_rules.proofs.lemmas.KeyTies.{ties_alike}
+use Rattle.version_rules.proofs.lemmas.Order.{keys_same}
+use Rattle.version_rules.proofs.lemmas.Key.{ties_alike}
 use Rattle.version_rules.proofs.lemmas.Versioning.{versioning_of-spells}
 use Rattle.version_texts.specs.key.KeyTies.{kind_place, texts_tie}
 use Rattle.version_texts.specs.order.Ties.{byte_place, general_tie, messy_tie}

@@ -2,23 +2,20 @@
 use Rattle.std.proofs.Common.{◌≡◌, ◌++◌, ℕ, List, append_assoc, sym, ◌∙◌, [], ◌∷◌, Option, Some, None, refl, ap, arith}
 use Rattle.version_order.specs.keys.NumberBytes.{number_bytes}
 use Rattle.version_rules.specs.key.PartKey.{parts_bytes, chunk_parts, part_key}
-use Rattle.version_rules.specs.key.Key.{Key, key_of, key_of_mess, key_of_semver, key_of_version, strict_body}
-use Rattle.version_rules.specs.key.KeyBytes.{key_bytes}
+use Rattle.version_rules.specs.key.Key.{Key, key_of, key_of_mess, key_of_semver, key_of_version, strict_body, key_bytes}
 use Rattle.version_rules.specs.key.Tail.{tail_bytes, Tail}
 use Rattle.version_texts.specs.key.TextKey.{front_bytes, chunks_of, parts_of, tail_of, text_key}
 use Rattle.std.specs.Option.{option_map_or}
 use Rattle.version_rules.specs.grammar.Chunk.{PlainChunk}
 use Rattle.version_rules.specs.grammar.Last.{last_text}
-use Rattle.version_rules.proofs.lemmas.PartKey.{plain_number}
+use Rattle.version_rules.proofs.lemmas.Key.{plain_number}
 use Rattle.version_rules.specs.declared.kind.Kind.{Kind}
 use Rattle.version_rules.specs.grammar.Conversions.{version_of_semver}
-use Rattle.version_rules.specs.grammar.Kind.{versioning_kind}
+use Rattle.version_rules.specs.grammar.Versioning.{versioning_kind, PlainVersioning, Ideal, General, Complex, SpellsVersioning, versioning_of}
 use Rattle.version_rules.specs.grammar.Mess.{PlainMess, SpellsMess}
 use Rattle.version_rules.specs.grammar.SemVer.{PlainSemVer, SpellsSemVer}
 use Rattle.version_rules.specs.grammar.Version.{PlainVersion, SpellsVersion}
-use Rattle.version_rules.specs.grammar.Versioning.{PlainVersioning, Ideal, General, Complex, SpellsVersioning, versioning_of}
-use Rattle.version_rules.proofs.lemmas.Versioning.{versioning_of-spells}
-use Rattle.version_rules.proofs.lemmas.Conversions.{strict_is_general}
+use Rattle.version_rules.proofs.lemmas.Versioning.{versioning_of-spells, strict_is_general}
 use Rattle.version_texts.specs.declared.scan.shape.TailKind.{TailKind}
 use Rattle.version_texts.specs.declared.scan.shape.TailKind.TheVariants.{PreRelease, Release}
 use Rattle.version_texts.specs.scan.Shape.{Fits, body_in, shape_at, tail_in}

@@ -8,8 +8,7 @@ use Rattle.std.specs.Str.Parse.{digits_value}
 use Rattle.version_order.proofs.lemmas.Front.Runs.{take_while-all}
 use Rattle.version_rules.specs.grammar.Chunk.{Alphanum, Numeric}
 use Rattle.version_order.specs.texts.DigitRun.{number_front, run_value, starts_with_digit, behind_digits}
-use Rattle.version_rules.specs.key.Split.{split_of}
-use Rattle.version_rules.specs.key.PartKey.{Word, Number, part_key, suffix_of}
+use Rattle.version_rules.specs.key.PartKey.{split_of, Word, Number, part_key, suffix_of}
 use Rattle.version_order.proofs.lemmas.Runs.{run_is, run_cons}
 use Rattle.version_order.proofs.lemmas.Bytes.{digit_no_dot}
 use Rattle.version_order.specs.texts.Pieces.{behind_piece, first_piece, from_first, further_pieces, is_dot}

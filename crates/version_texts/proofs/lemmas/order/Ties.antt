@@ -2,9 +2,8 @@
 use Rattle.std.proofs.Common.{◌≡◌, ◌∙◌, ℕ, List, Some, sym}
 use Rattle.std.specs.declared.cmp.Ordering.TheVariants.{Equal}
 use Rattle.version_rules.specs.key.Key.{key_of, precedence}
-use Rattle.version_rules.specs.grammar.Kind.{versioning_kind}
-use Rattle.version_rules.specs.grammar.Versioning.{PlainVersioning, Ideal, General, Complex, SpellsVersioning, versioning_plain_cmp}
-use Rattle.version_rules.proofs.lemmas.KeyLaws.{keys_same}
+use Rattle.version_rules.specs.grammar.Versioning.{versioning_kind, PlainVersioning, Ideal, General, Complex, SpellsVersioning, versioning_plain_cmp}
+use Rattle.version_rules.proofs.lemmas.Order.{keys_same}
 use Rattle.version_texts.specs.declared.scan.shape.Shape.{Shape}
 use Rattle.version_texts.specs.scan.Shape.{shape_of}
 use Rattle.version_texts.specs.order.Ties.{general_tie, messy_tie}

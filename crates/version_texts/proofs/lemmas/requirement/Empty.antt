@@ -10,13 +10,11 @@ use Rattle.std.specs.declared.cmp.Ordering.TheVariants.{Less, Equal, Greater}
 use Rattle.version_rules.proofs.lemmas.Range.{IsBelow, IsBelowHigh, below_earlier_high, from_empty, list_in, of_all_kinds, of_common_kinds, requirement_in, common_in, stays_from}
 use Rattle.version_rules.specs.declared.kind.Kind.{Kind}
 use Rattle.version_order.specs.keys.Lists.{bytes_cmp}
-use Rattle.version_rules.specs.grammar.Kind.{versioning_kind}
+use Rattle.version_rules.specs.grammar.Versioning.{versioning_kind, PlainVersioning}
 use Rattle.version_rules.specs.requirement.Matching.{Matches, MatchesAll}
 use Rattle.version_rules.specs.requirement.Range.{IsIn, PlainRange, bytes_of, common, earlier, earlier_high, everything, has_kind, later, no_kinds, range_of, requirement_range}
 use Rattle.version_rules.specs.requirement.Requirement.{PlainRequirement, requirement_of}
-use Rattle.version_rules.specs.requirement.Requirements.{requirements_of}
-use Rattle.version_rules.specs.requirement.RequirementsRef.{before_others}
-use Rattle.version_rules.specs.grammar.Versioning.{PlainVersioning}
+use Rattle.version_rules.specs.requirement.Requirements.{requirements_of, before_others}
 use Rattle.version_texts.proofs.lemmas.requirement.FirstFailing.{first_and_others, some_pieces}
 use Rattle.version_texts.proofs.lemmas.requirement.RangeRef.{narrowed}
 use Rattle.version_texts.specs.requirement.Conflict.{ExcludeEachOther, IsAt, IsByEnds}

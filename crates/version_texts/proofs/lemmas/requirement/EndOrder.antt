@@ -9,13 +9,12 @@ use Rattle.std.specs.Ordering.{MatchOrdering, ordering_index, ordering_then}
 use Rattle.std.specs.declared.cmp.Ordering.{Ordering}
 use Rattle.std.specs.declared.cmp.Ordering.TheVariants.{Less, Equal, Greater}
 use Rattle.version_order.proofs.lemmas.Codes.{ended}
-use Rattle.version_rules.proofs.lemmas.KeyLaws.{key_writes}
+use Rattle.version_rules.proofs.lemmas.Order.{key_writes}
 use Rattle.version_order.proofs.lemmas.NumberBytes.{above, below, number_writes}
-use Rattle.version_rules.proofs.lemmas.PartKey.{part_writes}
+use Rattle.version_rules.proofs.lemmas.Key.{part_writes}
 use Rattle.version_order.specs.keys.Codes.{items_bytes}
-use Rattle.version_rules.specs.requirement.Ends.{end_bytes, kept_parts}
-use Rattle.version_rules.specs.key.Key.{Key, precedence}
-use Rattle.version_rules.specs.key.KeyBytes.{key_bytes}
+use Rattle.version_rules.specs.requirement.Range.{end_bytes, kept_parts}
+use Rattle.version_rules.specs.key.Key.{Key, precedence, key_bytes}
 use Rattle.version_order.specs.keys.Lists.{bytes_cmp}
 use Rattle.version_order.specs.keys.NumberBytes.{number_bytes}
 use Rattle.version_rules.specs.key.PartKey.{PartKey, part_bytes, part_cmp, part_key, parts_bytes}

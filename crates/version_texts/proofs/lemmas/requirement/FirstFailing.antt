@@ -7,8 +7,7 @@ use Rattle.std.proofs.lemmas.List.Splits.{join_with_byte-slice_split, length-sli
 use Rattle.std.proofs.lemmas.List.Sums.{sum_by-append, sum_by-cons}
 use Rattle.std.specs.List.{All, join_with_byte}
 use Rattle.version_rules.specs.requirement.Requirement.{PlainRequirement, requirement_of}
-use Rattle.version_rules.specs.requirement.Requirements.{comma, requirements_of}
-use Rattle.version_rules.specs.requirement.RequirementsRef.{before_others}
+use Rattle.version_rules.specs.requirement.Requirements.{comma, requirements_of, before_others}
 use Rattle.version_texts.proofs.lemmas.scan.Splits.{split-append}
 use Rattle.version_texts.proofs.lemmas.requirement.RangeRef.{both, read_both}
 use Rattle.version_texts.specs.requirement.MemberPlace.{IsFirstFailing, NotEach, length_with_commas}

@@ -2,10 +2,8 @@
 use Rattle.std.proofs.Common.{◌≡◌, ℕ, List, [], ◌∷◌, ◌++◌, map, Some, refl, sym, ap, append-nil, inl, inr, arith}
 use Rattle.std.proofs.lemmas.Bool.{cases_Bool}
 use Rattle.std.specs.List.{AllZip, join_with_byte}
-use Rattle.version_rules.proofs.lemmas.Requirement.{requirement_of-Some, requirement_printed}
-use Rattle.version_rules.proofs.lemmas.Requirements.{every_spells}
-use Rattle.version_rules.specs.requirement.Inexact.{inexact_members, inexact_text}
-use Rattle.version_rules.specs.requirement.Range.{requirement_range}
+use Rattle.version_rules.proofs.lemmas.Requirement.{requirement_of-Some, requirement_printed, every_spells}
+use Rattle.version_rules.specs.requirement.Range.{inexact_members, inexact_text, requirement_range}
 use Rattle.version_rules.specs.requirement.Requirement.{PlainRequirement, SpellsRequirement, requirement_text}
 use Rattle.version_rules.specs.requirement.Requirements.{comma, requirements_of}
 use Rattle.version_texts.specs.requirement.Inexact.{inexact_part, inexact_pieces}

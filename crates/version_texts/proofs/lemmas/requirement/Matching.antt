@@ -3,11 +3,10 @@ use Rattle.std.proofs.Common.{◌≡◌, ◌↔◌, ◌∙◌, ℕ, Bool, List, 
 use Rattle.version_rules.specs.key.PartKey.{PartKey}
 use Rattle.version_rules.specs.declared.kind.Kind.{Kind}
 use Rattle.version_rules.specs.key.Key.{Key, key_of, strict_body}
-use Rattle.version_rules.specs.grammar.Kind.{versioning_kind}
+use Rattle.version_rules.specs.grammar.Versioning.{versioning_kind, PlainVersioning, Ideal, General, Complex, versioning_of}
 use Rattle.version_rules.specs.requirement.Matching.{MatchesCaret, MatchesTilde}
 use Rattle.version_rules.specs.requirement.SemVerMatch.{Numbers, numbers}
 use Rattle.version_rules.specs.requirement.VersionMatch.{PartsMatchTilde}
-use Rattle.version_rules.specs.grammar.Versioning.{PlainVersioning, Ideal, General, Complex, versioning_of}
 use Rattle.version_texts.proofs.lemmas.order.Parts.Strict.{tilde_of_numbers}
 use Rattle.version_texts.proofs.lemmas.key.TextKey.{versioning_key}
 use Rattle.version_texts.specs.declared.scan.shape.Shape.{Shape}

@@ -11,16 +11,15 @@ use Rattle.std.specs.declared.cmp.Ordering.{Ordering}
 use Rattle.std.specs.declared.cmp.Ordering.TheVariants.{Less, Equal, Greater}
 use Rattle.version_order.specs.keys.Lists.{bytes_cmp}
 use Rattle.version_rules.proofs.lemmas.Range.{common_in, list_exact, list_in}
-use Rattle.version_rules.proofs.lemmas.RequirementsRef.{Asked, others_decide}
+use Rattle.version_rules.proofs.lemmas.Requirement.{Asked, others_decide}
 use Rattle.version_rules.specs.requirement.Matching.{Matches, MatchesAll}
-use Rattle.version_rules.specs.requirement.RequirementsRef.{before_others}
+use Rattle.version_rules.specs.requirement.Requirements.{before_others, comma, requirements_of}
 use Rattle.version_rules.specs.requirement.Range.{IsIn, PlainRange, common, earlier_high, everything, later, range_of, requirement_range}
 use Rattle.version_rules.specs.requirement.Requirement.{PlainRequirement, requirement_of}
 use Rattle.version_rules.specs.grammar.Versioning.{PlainVersioning}
 use Rattle.version_order.proofs.lemmas.Sinks.{put_fits}
 use Rattle.version_texts.proofs.lemmas.scan.Splits.{split-append}
 use Rattle.version_texts.specs.requirement.Members.{list_of}
-use Rattle.version_rules.specs.requirement.Requirements.{comma, requirements_of}
 use Rattle.version_order.specs.keys.Sinks.{put_at}
 
 -- bytes that fit are the first bytes of the buffer that they are written into

@@ -13,16 +13,15 @@ use Rattle.version_rules.specs.grammar.Chunk.{PlainChunk}
 use Rattle.version_order.specs.texts.DigitRun.{is_digits}
 use Rattle.version_order.specs.texts.Front.{begins}
 use Rattle.version_order.specs.texts.Grammar.{SpellsOptional}
-use Rattle.version_rules.specs.grammar.Metadata.{SpellsMetadata}
+use Rattle.version_rules.specs.grammar.Release.{SpellsMetadata, SpellsRelease}
 use Rattle.version_order.specs.texts.Reading.{EndsRun}
-use Rattle.version_rules.specs.grammar.Release.{SpellsRelease}
 use Rattle.version_order.proofs.lemmas.Front.Runs.{prefix_len-append, all_weaker}
 use Rattle.version_rules.specs.declared.kind.Kind.{Kind}
 use Rattle.version_rules.specs.grammar.Conversions.{version_of_semver}
 use Rattle.version_rules.specs.grammar.SemVer.{PlainSemVer, SpellsSemVer}
 use Rattle.version_rules.specs.grammar.Version.{PlainVersion, SpellsEpoch, SpellsVersion}
 use Rattle.version_rules.proofs.lemmas.SemVer.{optional_begins}
-use Rattle.version_rules.proofs.lemmas.Conversions.{strict_is_general}
+use Rattle.version_rules.proofs.lemmas.Versioning.{strict_is_general}
 use Rattle.version_texts.specs.declared.scan.shape.Shape.{Shape}
 use Rattle.version_texts.specs.declared.scan.shape.TailKind.{TailKind}
 use Rattle.version_texts.specs.declared.scan.shape.TailKind.TheVariants.{Nothing, PreRelease, Release}

@@ -1,11 +1,10 @@
 -- The kind of a text by its pieces is the kind of the version that it parses as.
 use Rattle.std.proofs.Common.{if◌then◌else◌, ◌≡◌, ◌&&◌, ℕ, Bool, true, false, List, Option, Some, None, refl}
 use Rattle.std.specs.Option.{is_some, option_map, option_or}
-use Rattle.version_rules.specs.grammar.Kind.{versioning_kind}
+use Rattle.version_rules.specs.grammar.Versioning.{versioning_kind, PlainVersioning, Ideal, General, Complex, versioning_of}
 use Rattle.version_rules.specs.grammar.Mess.{PlainMess, mess_of}
 use Rattle.version_rules.specs.grammar.SemVer.{PlainSemVer, semver_of}
 use Rattle.version_rules.specs.grammar.Version.{PlainVersion, version_of}
-use Rattle.version_rules.specs.grammar.Versioning.{PlainVersioning, Ideal, General, Complex, versioning_of}
 use Rattle.version_texts.specs.scan.Shape.{shape_at, shape_of}
 use Rattle.version_texts.specs.scan.TextKind.{has_three_numbers, is_general, is_messy, kind_in}
 use Rattle.version_texts.proofs.lemmas.scan.TextKind.GeneralText.{general_kind}

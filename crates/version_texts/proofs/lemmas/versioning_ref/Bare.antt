@@ -2,9 +2,8 @@
 use Rattle.std.proofs.Common.{◌≡◌, ◌∙◌, ◌&&◌, ℕ, false, List, Option, Some, None, refl, ap}
 use Rattle.std.specs.Option.{is_none, option_map}
 use Rattle.version_rules.specs.declared.kind.Kind.TheVariants as kind
-use Rattle.version_rules.specs.grammar.Kind.{versioning_kind}
+use Rattle.version_rules.specs.grammar.Versioning.{versioning_kind, PlainVersioning, Ideal, General, Complex}
 use Rattle.version_rules.specs.grammar.Release.{release_text}
-use Rattle.version_rules.specs.grammar.Versioning.{PlainVersioning, Ideal, General, Complex}
 use Rattle.version_texts.specs.declared.versioning_ref.field.Field.TheVariants.{Metadata, PreRelease, Release}
 use Rattle.version_texts.specs.Mixed.{is_bare}
 use Rattle.version_texts.specs.versioning_ref.Field.{field_span, span_behind, text_before}

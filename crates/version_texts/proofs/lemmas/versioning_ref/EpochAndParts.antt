@@ -3,11 +3,10 @@ use Rattle.std.proofs.Common.{◌≡◌, ◌∙◌, ◌≤◌, ℕ, List, [], �
 use Rattle.std.proofs.lemmas.List.{drop_at, take_at}
 use Rattle.version_rules.specs.grammar.Body.{body_text}
 use Rattle.version_rules.specs.grammar.Conversions.{version_of_semver}
-use Rattle.version_rules.specs.grammar.Kind.{versioning_kind}
+use Rattle.version_rules.specs.grammar.Versioning.{versioning_kind, PlainVersioning, Ideal, General, Complex, SpellsVersioning}
 use Rattle.version_rules.specs.grammar.Version.{PlainVersion, SpellsEpoch, SpellsVersion, epoch_text}
-use Rattle.version_rules.specs.grammar.Versioning.{PlainVersioning, Ideal, General, Complex, SpellsVersioning}
 use Rattle.version_rules.proofs.lemmas.Body.{body_printed}
-use Rattle.version_rules.proofs.lemmas.Conversions.{strict_is_general}
+use Rattle.version_rules.proofs.lemmas.Versioning.{strict_is_general}
 use Rattle.version_rules.proofs.lemmas.Numeral.{numeral_printed}
 use Rattle.version_texts.specs.versioning_ref.Field.{epoch_and_parts}
 use Rattle.version_texts.specs.scan.Shape.{TailFits, body_end, body_start, shape_of}

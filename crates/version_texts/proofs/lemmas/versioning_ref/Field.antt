@@ -12,19 +12,17 @@ use Rattle.version_order.specs.texts.Bytes.{colon, hyphen, plus}
 use Rattle.version_rules.specs.grammar.Chunk.{PlainChunk}
 use Rattle.version_order.specs.texts.Front.{begins}
 use Rattle.version_order.specs.texts.Grammar.{SpellsOptional}
-use Rattle.version_rules.specs.grammar.Metadata.{SpellsMetadata}
-use Rattle.version_rules.specs.grammar.Release.{SpellsRelease, release_text}
+use Rattle.version_rules.specs.grammar.Release.{SpellsMetadata, SpellsRelease, release_text}
 use Rattle.version_rules.proofs.lemmas.Chunk.{release_printed}
 use Rattle.version_rules.proofs.lemmas.Numeral.{numeral_printed}
 use Rattle.version_order.proofs.lemmas.Front.Runs.{prefix_len-append}
 use Rattle.version_rules.specs.grammar.Conversions.{version_of_semver}
 use Rattle.version_rules.specs.key.Key.{versioning_epoch}
-use Rattle.version_rules.specs.grammar.Kind.{versioning_kind}
+use Rattle.version_rules.specs.grammar.Versioning.{versioning_kind, PlainVersioning, Ideal, General, Complex, SpellsVersioning}
 use Rattle.version_rules.specs.grammar.Mess.{PlainMess, SpellsMess}
 use Rattle.version_rules.specs.grammar.SemVer.{PlainSemVer, SpellsSemVer}
 use Rattle.version_rules.specs.grammar.Version.{PlainVersion, SpellsEpoch, SpellsVersion, version_text}
-use Rattle.version_rules.specs.grammar.Versioning.{PlainVersioning, Ideal, General, Complex, SpellsVersioning}
-use Rattle.version_rules.proofs.lemmas.Conversions.{version_of_semver_printed, strict_is_general}
+use Rattle.version_rules.proofs.lemmas.Versioning.{version_of_semver_printed, strict_is_general}
 use Rattle.version_rules.proofs.lemmas.Version.{version_printed}
 use Rattle.version_texts.specs.declared.scan.shape.Shape.{Shape}
 use Rattle.version_texts.specs.declared.scan.shape.TailKind.{TailKind}

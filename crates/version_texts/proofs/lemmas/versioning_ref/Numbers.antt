@@ -3,11 +3,10 @@ use Rattle.std.proofs.Common.{◌≡◌, ◌==◌, ◌∙◌, ℕ, zero, suc, fa
 use Rattle.std.proofs.lemmas.Bool.{ne_eqb}
 use Rattle.version_rules.specs.declared.kind.Kind.{Kind}
 use Rattle.version_rules.specs.grammar.Conversions.{version_of_semver}
-use Rattle.version_rules.specs.grammar.Kind.{versioning_kind}
+use Rattle.version_rules.specs.grammar.Versioning.{versioning_kind, PlainVersioning, Ideal, General, Complex, SpellsVersioning, semver_nth, versioning_nth}
 use Rattle.version_rules.specs.grammar.SemVer.{PlainSemVer, SpellsSemVer}
 use Rattle.version_rules.specs.grammar.Version.{PlainVersion, SpellsVersion, version_nth}
-use Rattle.version_rules.specs.grammar.Versioning.{PlainVersioning, Ideal, General, Complex, SpellsVersioning, semver_nth, versioning_nth}
-use Rattle.version_rules.proofs.lemmas.Conversions.{strict_is_general}
+use Rattle.version_rules.proofs.lemmas.Versioning.{strict_is_general}
 use Rattle.version_texts.specs.declared.scan.shape.Shape.{Shape}
 use Rattle.version_texts.specs.versioning_ref.Numbers.{body_number, chunk_number, section_in}
 use Rattle.version_texts.specs.scan.Shape.{body_in, shape_at, shape_of}

@@ -10,11 +10,9 @@ use Rattle.version_order.specs.texts.Front.{begins}
 use Rattle.version_order.proofs.lemmas.Front.Repeated.{cases_Option}
 use Rattle.version_rules.specs.grammar.Conversions.{version_of_semver}
 use Rattle.version_rules.specs.key.Key.{key_of}
-use Rattle.version_rules.specs.grammar.Kind.{versioning_kind}
-use Rattle.version_rules.specs.grammar.Versioning.{PlainVersioning, Ideal, General, Complex, SpellsVersioning, is_prerelease, versioning_of, versioning_plain_cmp, versioning_text}
+use Rattle.version_rules.specs.grammar.Versioning.{versioning_kind, PlainVersioning, Ideal, General, Complex, SpellsVersioning, is_prerelease, versioning_of, versioning_plain_cmp, versioning_text}
 use Rattle.version_rules.specs.laws.Versioning.{versioning_plain_total}
-use Rattle.version_rules.proofs.lemmas.Versioning.{versioning_ascii, versioning_of-spells, versioning_printed}
-use Rattle.version_rules.proofs.lemmas.Conversions.{strict_is_general}
+use Rattle.version_rules.proofs.lemmas.Versioning.{versioning_ascii, versioning_of-spells, versioning_printed, strict_is_general}
 use Rattle.version_texts.specs.declared.scan.shape.Shape.{Shape}
 use Rattle.version_texts.specs.declared.scan.shape.TailKind.{TailKind}
 use Rattle.version_texts.specs.declared.scan.shape.TailKind.TheVariants.{Nothing, PreRelease, Release, Sections}

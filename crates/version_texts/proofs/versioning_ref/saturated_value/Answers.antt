@@ -1,5 +1,5 @@
 use Rattle.std.proofs.Common.{arith, refl}
-use Rattle.version_rules.proofs.lemmas.Numeral.Digits.{next_value}
+use Rattle.version_rules.proofs.lemmas.Numeral.{next_value}
 use Rattle.version_texts.proofs.versioning_ref.saturated_value.Goals as goal
 
 pub loop-digit-preserved : goal.loop-digit-preserved

@@ -5,8 +5,8 @@ use Rattle.std.specs.Cmp.{nat_cmp_total, tied_itself}
 use Rattle.std.specs.Fmt.{decimal}
 use Rattle.std.specs.Option.{is_some, option_map_or, unwrap_or}
 use Rattle.std.specs.declared.cmp.Ordering.TheVariants.{Less, Equal}
-use Rattle.version_rules.proofs.lemmas.DigitRun.{decimal-digits}
-use Rattle.version_rules.proofs.lemmas.PartKey.{plain_number}
+use Rattle.version_rules.proofs.lemmas.Numeral.{decimal-digits}
+use Rattle.version_rules.proofs.lemmas.Key.{plain_number}
 use Rattle.version_rules.specs.grammar.Chunk.{PlainChunk, chunk_text}
 use Rattle.version_rules.specs.grammar.Last.{PlainLast, last_text}
 use Rattle.version_rules.specs.grammar.MChunk.{mchunk_text}

@@ -12,7 +12,7 @@ use Rattle.version_rules.specs.grammar.Conversions.{behind_epoch, body_section, 
 use Rattle.version_rules.specs.grammar.Mess.{further_text, joined_section, mess_text}
 use Rattle.version_rules.specs.grammar.SemVer.{PlainSemVer, optional_text, semver_text}
 use Rattle.version_rules.specs.grammar.Version.{PlainVersion, epoch_text, version_text}
-use Rattle.version_rules.proofs.lemmas.Conversions.{version_of_semver_printed}
+use Rattle.version_rules.proofs.lemmas.Versioning.{version_of_semver_printed}
 use Rattle.version_rules.specs.grammar.Chunk as chunk
 use Rattle.version_rules.specs.grammar.Last as last
 

@@ -5,7 +5,7 @@ use Rattle.std.proofs.lemmas.List.{map-append}
 use Rattle.versions.specs.Requirement.{plain_requirement}
 use Rattle.version_rules.specs.requirement.Requirement.{requirement_of}
 use Rattle.version_rules.specs.requirement.Requirements.{every}
-use Rattle.version_rules.proofs.lemmas.Requirements.{every_push, requirements_of-stops}
+use Rattle.version_rules.proofs.lemmas.Requirement.{every_push, requirements_of-stops}
 use Rattle.versions.proofs.requirements.read_members.Goals as goal
 
 pub returns-in_default : goal.returns-in_default

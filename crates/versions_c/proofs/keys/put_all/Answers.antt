@@ -6,8 +6,7 @@ use Rattle.version_texts.specs.versioning_ref.VersioningRef.{plain_versioning_re
 use Rattle.version_order.specs.keys.Sinks.{put_nothing}
 use Rattle.versions_c.specs.Keys.{keys_before, spelled_key}
 use Rattle.versions_c.specs.Offsets.{text_at}
-use Rattle.version_rules.specs.grammar.Kind.{versioning_kind}
-use Rattle.version_rules.specs.grammar.Versioning.{versioning_of}
+use Rattle.version_rules.specs.grammar.Versioning.{versioning_kind, versioning_of}
 use Rattle.version_rules.specs.declared.kind.Kind.TheVariants.{Ideal}
 use Rattle.versions_c.proofs.lemmas.Keys.{key_of_read}
 use Rattle.versions_c.proofs.lemmas.Keys.Putting.{ArePut, first_told, next_marked, next_told, no_more_key, one_more_key}

@@ -1,5 +1,5 @@
 use Rattle.version_parts.proofs.lemmas.Compare.{values_compared}
-use Rattle.version_rules.proofs.lemmas.PartKey.{list_writes}
+use Rattle.version_rules.proofs.lemmas.Key.{list_writes}
 use Rattle.version_parts.proofs.key.compare.compare_part_lists.Goals as goal
 
 pub returns : goal.returns

@@ -1,7 +1,7 @@
 use Rattle.std.proofs.Common.{Some}
 use Rattle.version_rules.specs.key.PartKey.{part_key}
 use Rattle.version_parts.proofs.lemmas.Compare.{values_compared}
-use Rattle.version_rules.proofs.lemmas.PartKey.{part_writes}
+use Rattle.version_rules.proofs.lemmas.Key.{part_writes}
 use Rattle.version_parts.proofs.key.compare.compare_parts.Goals as goal
 
 pub returns : goal.returns

@@ -1,4 +1,4 @@
-use Rattle.version_rules.proofs.lemmas.Requirements.{requirements_of-Some, requirements_of-spells, requirements_printed, requirements_unique}
+use Rattle.version_rules.proofs.lemmas.Requirement.{requirements_of-Some, requirements_of-spells, requirements_printed, requirements_unique}
 use Rattle.version_rules.proofs.laws.grammar.requirement_lists.Goals as goal
 
 pub returns : goal.returns

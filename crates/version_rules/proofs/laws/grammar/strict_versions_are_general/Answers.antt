@@ -1,4 +1,4 @@
-use Rattle.version_rules.proofs.lemmas.Conversions.{strict_is_general}
+use Rattle.version_rules.proofs.lemmas.Versioning.{strict_is_general}
 use Rattle.version_rules.proofs.laws.grammar.strict_versions_are_general.Goals as goal
 
 pub returns : goal.returns

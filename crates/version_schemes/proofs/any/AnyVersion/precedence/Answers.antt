@@ -1,6 +1,6 @@
 use Rattle.std.proofs.Common.{◌∙◌, refl}
 use Rattle.version_order.proofs.lemmas.Codes.{writes_on}
-use Rattle.version_rules.proofs.lemmas.KeyLaws.{key_writes}
+use Rattle.version_rules.proofs.lemmas.Order.{key_writes}
 use Rattle.version_rules.specs.key.Key.{key_of}
 use Rattle.version_schemes.proofs.lemmas.Any.{by_code}
 use Rattle.version_schemes.specs.any.AnyVersion.{plain_any}

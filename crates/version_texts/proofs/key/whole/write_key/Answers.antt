@@ -1,6 +1,6 @@
 use Rattle.std.proofs.Common.{◌≡◌, ◌∙◌, ap, arith, length, rules, sym}
 use Rattle.std.proofs.lemmas.List.{length-append}
-use Rattle.version_rules.specs.key.KeyBytes.{key_bytes}
+use Rattle.version_rules.specs.key.Key.{key_bytes}
 use Rattle.version_rules.specs.key.Tail.{tail_bytes}
 use Rattle.version_order.specs.keys.Sinks.{length-put, put_at, put_both}
 use Rattle.version_texts.specs.key.TextKey.{front_bytes, text_key}

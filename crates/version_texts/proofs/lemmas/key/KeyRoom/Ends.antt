@@ -3,13 +3,11 @@ use Rattle.std.proofs.Common.{◌≡◌, ◌+◌, ◌<◌, ◌≤◌, ℕ, Bool,
 use Rattle.std.proofs.lemmas.List.{length-append}
 use Rattle.std.specs.Option.{option_map_or}
 use Rattle.version_order.specs.keys.Codes.{items_bytes}
-use Rattle.version_rules.specs.requirement.Ends.{end_bytes, kept_parts}
-use Rattle.version_rules.specs.key.Key.{Key}
-use Rattle.version_rules.specs.key.KeyBytes.{key_bytes}
+use Rattle.version_rules.specs.requirement.Range.{end_bytes, kept_parts, begun, but_last, or_others, through_other}
+use Rattle.version_rules.specs.key.Key.{Key, key_bytes}
 use Rattle.version_order.specs.keys.Lists.{split_last}
 use Rattle.version_order.specs.keys.NumberBytes.{number_bytes}
 use Rattle.version_rules.specs.key.PartKey.{PartKey, part_bytes}
-use Rattle.version_rules.specs.requirement.Range.{begun, but_last, or_others, through_other}
 use Rattle.version_rules.specs.requirement.VersionMatch.{is_plain_zero}
 use Rattle.version_order.specs.declared.ends.End.{End}
 use Rattle.version_order.specs.declared.ends.End.TheVariants.{AboveBegun, AfterKey, Begun, Lowest, Zero}

@@ -8,8 +8,7 @@ use Rattle.std.specs.Str.Parse.{digits_value}
 use Rattle.version_order.proofs.lemmas.Front.Runs.{list_all-take_while}
 use Rattle.version_order.specs.texts.DigitRun.{number_front, starts_with_digit}
 use Rattle.version_order.specs.keys.NumberBytes.{number_bytes}
-use Rattle.version_rules.specs.key.PartKey.{part_bytes, part_key, suffix_bytes, suffix_of}
-use Rattle.version_rules.specs.key.Split.{numbered_bytes, split_bytes, split_of}
+use Rattle.version_rules.specs.key.PartKey.{part_bytes, part_key, suffix_bytes, suffix_of, numbered_bytes, split_bytes, split_of}
 use Rattle.version_order.specs.keys.TextBytes.{text_bytes}
 use Rattle.version_order.proofs.lemmas.Lengths.{IsHigh, text_length, number_length}
 

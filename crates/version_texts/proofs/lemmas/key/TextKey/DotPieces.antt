@@ -13,7 +13,7 @@ use Rattle.version_order.specs.texts.Front.{begins}
 use Rattle.version_order.specs.keys.Lists.{with_end}
 use Rattle.version_order.specs.keys.NumberBytes.{number_bytes}
 use Rattle.version_rules.specs.key.PartKey.{part_bytes, part_key}
-use Rattle.version_rules.specs.order.ReleaseOrder.{chunk_bytes, release_bytes}
+use Rattle.version_rules.specs.order.Parts.{chunk_bytes, release_bytes}
 use Rattle.version_order.proofs.lemmas.Front.Runs.{take_while-all, begins-drop}
 use Rattle.version_texts.specs.key.TextKey.{chunk_of, chunks_of, parts_of}
 use Rattle.version_order.specs.texts.Pieces.{pieces}

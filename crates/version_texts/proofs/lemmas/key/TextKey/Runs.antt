@@ -8,12 +8,11 @@ use Rattle.std.specs.List.{list_all, list_any, prefix_len, take_while}
 use Rattle.version_order.specs.texts.DigitRun.{is_digits, run_value}
 use Rattle.version_order.specs.texts.Front.{begins}
 use Rattle.version_order.specs.keys.NumberBytes.{number_bytes}
-use Rattle.version_rules.specs.key.PartKey.{PartKey, part_bytes, part_key, suffix_bytes, suffix_of}
-use Rattle.version_rules.specs.key.Split.{split_bytes, split_of}
+use Rattle.version_rules.specs.key.PartKey.{PartKey, part_bytes, part_key, suffix_bytes, suffix_of, split_bytes, split_of}
 use Rattle.version_order.specs.keys.TextBytes.{text_bytes}
-use Rattle.version_rules.proofs.lemmas.DigitRun.{split_of-digits, split_of-no_digit}
+use Rattle.version_rules.proofs.lemmas.Numeral.{split_of-digits, split_of-no_digit}
 use Rattle.version_order.proofs.lemmas.Front.Runs.{begins-drop, list_all-take_while, all_weaker}
-use Rattle.version_rules.proofs.lemmas.PartKey.{part_key-digits, part_key-word}
+use Rattle.version_rules.proofs.lemmas.Key.{part_key-digits, part_key-word}
 use Rattle.version_order.proofs.lemmas.Bytes.{alphanumeric_identifier}
 use Rattle.version_order.proofs.lemmas.RunsWithin.{begins_inner, begins_neither, digit_alphanumeric, letter_alphanumeric, no_run, run_and_more}
 use Rattle.version_order.proofs.lemmas.RunBytes.{text_of_run}

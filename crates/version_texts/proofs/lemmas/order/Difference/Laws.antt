@@ -6,13 +6,12 @@ use Rattle.std.specs.Option.{option_map, option_or, unwrap_or}
 use Rattle.std.specs.Ordering.{is_eq, ordering_reverse}
 use Rattle.std.specs.declared.cmp.Ordering.{Ordering}
 use Rattle.std.specs.declared.cmp.Ordering.TheVariants.{Less, Equal, Greater}
-use Rattle.version_rules.proofs.lemmas.OrdersLaws.{precedence_equal, tail_equal, versioning_equal}
+use Rattle.version_rules.proofs.lemmas.Order.{precedence_equal, tail_equal, versioning_equal}
 use Rattle.version_rules.specs.key.Key.{Key, key_of, precedence}
 use Rattle.version_rules.specs.key.PartKey.{PartKey, part_cmp}
 use Rattle.version_rules.specs.key.Tail.{tail_cmp}
 use Rattle.version_rules.specs.grammar.Versioning.{PlainVersioning, SameVersioning, versioning_plain_cmp}
-use Rattle.version_rules.specs.laws.Key.{tail_total}
-use Rattle.version_rules.specs.laws.Orders.{keys_tied}
+use Rattle.version_rules.specs.laws.Key.{tail_total, keys_tied}
 use Rattle.version_rules.specs.laws.Part.{part_total, parts_same}
 use Rattle.version_rules.specs.laws.Versioning.{versioning_plain_total}
 use Rattle.version_texts.proofs.lemmas.order.Parts.{chain}

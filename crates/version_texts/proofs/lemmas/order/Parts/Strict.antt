@@ -9,7 +9,7 @@ use Rattle.std.specs.declared.cmp.Ordering.TheVariants.{Equal}
 use Rattle.version_order.proofs.lemmas.NumberBytes.{above, below}
 use Rattle.version_order.specs.keys.OrderLaws.{then_equal}
 use Rattle.version_rules.specs.key.PartKey.{PartKey, list_cmp, part_cmp}
-use Rattle.version_rules.proofs.lemmas.VersionMatch.{not_less, same_decides, tilde_decides}
+use Rattle.version_rules.proofs.lemmas.Matching.{not_less, same_decides, tilde_decides}
 use Rattle.version_rules.specs.key.Key.{plain, strict_body}
 use Rattle.version_rules.specs.requirement.SemVerMatch.{MatchesCaret, MatchesMinor, MatchesTilde, Numbers}
 use Rattle.version_rules.specs.requirement.VersionMatch.{IsNotBelow, PartsMatchCaret, PartsMatchTilde, is_plain_zero}

@@ -10,7 +10,7 @@ use Rattle.std.specs.Str.Parse.{digits_value}
 use Rattle.std.specs.declared.cmp.Ordering.TheVariants.{Less, Equal, Greater}
 use Rattle.version_order.specs.texts.DigitRun.{run_value}
 use Rattle.version_order.specs.keys.Lists.{bytes_cmp}
-use Rattle.version_rules.specs.order.ReleaseOrder.{chunk_cmp}
+use Rattle.version_rules.specs.order.Parts.{chunk_cmp}
 use Rattle.version_texts.proofs.lemmas.order.Piece.{chunk_of_number, chunk_of_text, digits_same}
 use Rattle.version_order.proofs.lemmas.Bytes.{digit_no_dot}
 use Rattle.version_order.specs.texts.Pieces.{first_piece, is_dot}

@@ -9,7 +9,7 @@ use Rattle.std.proofs.lemmas.List.Folds.{list_all-append}
 use Rattle.std.specs.Cmp.{first_so}
 use Rattle.std.specs.List.{list_all}
 use Rattle.version_rules.specs.key.PartKey.{PartKey, part_key}
-use Rattle.version_rules.proofs.lemmas.Lists.{split_last-append}
+use Rattle.version_rules.proofs.lemmas.Grammar.{split_last-append}
 use Rattle.version_rules.specs.requirement.Range.{but_last, but_last_or_only, or_others, through_other}
 use Rattle.version_rules.specs.requirement.VersionMatch.{is_plain_zero}
 use Rattle.version_order.specs.texts.Pieces.{behind_piece, first_piece, is_dot, pieces}

@@ -8,8 +8,7 @@ use Rattle.std.specs.declared.cmp.Ordering.{Ordering}
 use Rattle.std.specs.declared.cmp.Ordering.TheVariants.{Less, Equal, Greater}
 use Rattle.version_order.specs.texts.DigitRun.{number_front, run_value, starts_with_digit, behind_digits}
 use Rattle.version_order.specs.keys.Lists.{bytes_cmp, none_last_cmp}
-use Rattle.version_rules.specs.key.PartKey.{part_cmp, part_key, suffix_of}
-use Rattle.version_rules.specs.key.Split.{numbered_cmp, split_cmp, split_of}
+use Rattle.version_rules.specs.key.PartKey.{part_cmp, part_key, suffix_of, numbered_cmp, split_cmp, split_of}
 use Rattle.version_texts.proofs.lemmas.order.Piece.{front_of_number, part_of_number, part_of_word}
 
 -- the code's test for Equal; what is not Equal decides

@@ -4,8 +4,7 @@ use Rattle.std.proofs.lemmas.Bool.{cases_Bool}
 use Rattle.std.specs.Char.{is_ascii_digit}
 use Rattle.std.specs.List.{before_first, prefix_len, take_while}
 use Rattle.version_order.specs.texts.Front.{begins}
-use Rattle.version_rules.specs.key.PartKey.{suffix_of}
-use Rattle.version_rules.specs.key.Split.{split_of}
+use Rattle.version_rules.specs.key.PartKey.{suffix_of, split_of}
 use Rattle.version_order.proofs.lemmas.Runs.{not_false, not_true, run_cons, run_none}
 use Rattle.version_texts.proofs.lemmas.order.Piece.{piece_ends, piece_grows}
 use Rattle.version_order.specs.texts.Pieces.{from_first}

@@ -16,19 +16,18 @@ use Rattle.version_order.specs.texts.Grammar.{SpellsDotted, SpellsOptional}
 use Rattle.version_rules.specs.grammar.Last.{IsLastOf, PlainLast}
 use Rattle.version_rules.specs.order.LastOrder.{last_plain_cmp}
 use Rattle.version_order.specs.keys.Lists.{bytes_cmp}
-use Rattle.version_rules.specs.grammar.Metadata.{SpellsMetadata}
+use Rattle.version_rules.specs.grammar.Release.{SpellsMetadata, SpellsRelease, release_text}
 use Rattle.version_rules.specs.key.PartKey.{PartKey, part_key}
-use Rattle.version_rules.specs.grammar.Release.{SpellsRelease, release_text}
 use Rattle.version_rules.specs.grammar.SemVer.{optional_text}
 use Rattle.version_rules.specs.laws.Release.{release_total}
-use Rattle.version_rules.specs.order.ReleaseOrder.{chunk_cmp, release_cmp}
+use Rattle.version_rules.specs.order.Parts.{chunk_cmp, release_cmp}
 use Rattle.version_rules.proofs.lemmas.Chunk.{part_printed, release_printed}
 use Rattle.version_rules.proofs.lemmas.SemVer.{optional_printed}
 use Rattle.version_order.proofs.lemmas.Orders.{then_assoc}
 use Rattle.version_rules.proofs.lemmas.Numeral.{numeral_printed}
 use Rattle.version_rules.specs.key.Key.{Key, key_of_version}
 use Rattle.version_rules.specs.grammar.Version.{PlainVersion, SpellsEpoch, SpellsVersion, epoch_text}
-use Rattle.version_rules.specs.order.VersionOrder.{version_plain_cmp}
+use Rattle.version_rules.specs.order.Kinds.{version_plain_cmp}
 use Rattle.version_texts.specs.scan.Shape.{body_start, from_body}
 use Rattle.version_texts.specs.key.TextKey.{parts_of}
 use Rattle.version_order.specs.texts.Pieces.{pieces}

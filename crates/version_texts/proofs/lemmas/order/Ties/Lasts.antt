@@ -17,13 +17,12 @@ use Rattle.version_rules.specs.grammar.Last.{Alphanum, IsLastOf, IsLetters, IsOt
 use Rattle.version_rules.specs.order.LastOrder.{last_plain_cmp}
 use Rattle.version_order.specs.keys.Lists.{bytes_cmp}
 use Rattle.version_rules.specs.grammar.Numeral.{SpellsNumeral}
-use Rattle.version_rules.specs.key.PartKey.{Number, PartKey, Word, part_key, suffix_of}
-use Rattle.version_rules.specs.key.Split.{Split, split_of}
-use Rattle.version_rules.proofs.lemmas.DigitRun.{split_of-digits, split_of-no_digit}
+use Rattle.version_rules.specs.key.PartKey.{Number, PartKey, Word, part_key, suffix_of, Split, split_of}
+use Rattle.version_rules.proofs.lemmas.Numeral.{split_of-digits, split_of-no_digit}
 use Rattle.version_order.proofs.lemmas.Front.Runs.{list_all-take_while, prefix_len-append}
 use Rattle.version_rules.proofs.lemmas.Last.{last_of-only}
-use Rattle.version_rules.proofs.lemmas.OrderLaws.{last_plain_equal}
-use Rattle.version_rules.proofs.lemmas.PartKey.{part_key-digits, plain_number}
+use Rattle.version_rules.proofs.lemmas.Order.{last_plain_equal}
+use Rattle.version_rules.proofs.lemmas.Key.{part_key-digits, plain_number}
 use Rattle.version_order.proofs.lemmas.Bytes.{letter_other}
 use Rattle.version_texts.specs.scan.TextKind.{is_numeral}
 use Rattle.version_texts.specs.versioning_ref.Numbers.{after_letters}

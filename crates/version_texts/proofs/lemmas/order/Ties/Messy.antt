@@ -10,15 +10,15 @@ use Rattle.std.specs.declared.cmp.Ordering.TheVariants.{Less, Equal, Greater}
 use Rattle.version_order.specs.texts.DigitRun.{is_digits}
 use Rattle.version_order.specs.keys.Lists.{bytes_cmp}
 use Rattle.version_rules.specs.grammar.MChunk.{Digits, Plain, PlainMChunk, Rev, SpellsDigits, SpellsMChunk, mchunk_plain_cmp, mchunk_text}
-use Rattle.version_rules.specs.laws.MChunk.{sep_total}
+use Rattle.version_rules.specs.laws.Last.{sep_total}
 use Rattle.version_order.specs.keys.OrderLaws.{bytes_same, then_first}
 use Rattle.version_rules.specs.key.PartKey.{PartKey, part_key, section_parts}
 use Rattle.version_order.specs.texts.Sep.{Colon, sep_plain_cmp}
 use Rattle.version_order.proofs.lemmas.Orders.{then_decided}
 use Rattle.version_rules.specs.key.Key.{Key, key_of_mess, key_of_sections, mess_epoch, precedence, section_epoch, sections_tail}
 use Rattle.version_rules.specs.grammar.Mess.{Further, PlainMess, Section, SpellsMess, further_plain_cmp, mess_plain_cmp, section_plain_cmp}
-use Rattle.version_rules.specs.laws.Mess.{mess_total}
-use Rattle.version_rules.proofs.lemmas.KeyLaws.{keys_same}
+use Rattle.version_rules.specs.laws.Versioning.{mess_total}
+use Rattle.version_rules.proofs.lemmas.Order.{keys_same}
 use Rattle.version_rules.proofs.lemmas.Mess.{mess_printed}
 use Rattle.version_texts.specs.order.Ties.{messy_tie}
 use Rattle.version_texts.proofs.lemmas.scan.Shape.Complex.{alone, apart, uncounted}

@@ -15,12 +15,11 @@ use Rattle.version_order.specs.texts.DigitRun.{is_digits, number_front, run_valu
 use Rattle.version_order.specs.keys.Lists.{bytes_cmp}
 use Rattle.version_rules.specs.grammar.MChunk.{Digits, Plain, PlainMChunk, Rev, SpellsDigits, SpellsMChunk, SpellsRevision, mchunk_plain_cmp, mchunk_text}
 use Rattle.version_order.specs.keys.OrderLaws.{then_first}
-use Rattle.version_rules.specs.key.PartKey.{Number, Word, part_key, suffix_of}
-use Rattle.version_rules.specs.key.Split.{Split, split_of}
-use Rattle.version_rules.proofs.lemmas.DigitRun.{split_of-digits}
+use Rattle.version_rules.specs.key.PartKey.{Number, Word, part_key, suffix_of, Split, split_of}
+use Rattle.version_rules.proofs.lemmas.Numeral.{split_of-digits}
 use Rattle.version_order.proofs.lemmas.Front.Runs.{all_weaker, take_while-all}
 use Rattle.version_rules.proofs.lemmas.MChunk.{spelled_run}
-use Rattle.version_rules.proofs.lemmas.PartKey.{part_key-digits, part_key-word}
+use Rattle.version_rules.proofs.lemmas.Key.{part_key-digits, part_key-word}
 use Rattle.version_order.proofs.lemmas.NumberOrder.{numbers_compared}
 use Rattle.version_order.proofs.lemmas.NumberBytes.{is_zero}
 use Rattle.version_order.specs.texts.Pieces.{from_first}

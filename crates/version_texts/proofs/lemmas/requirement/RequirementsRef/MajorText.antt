@@ -11,13 +11,12 @@ use Rattle.std.specs.List.{list_all, position_or_len, starts_with}
 use Rattle.version_order.specs.texts.Bytes.{dot}
 use Rattle.version_order.proofs.lemmas.Front.Repeated.{cases_Option}
 use Rattle.version_rules.proofs.lemmas.Numeral.{numeral_printed}
-use Rattle.version_rules.specs.grammar.Kind.{versioning_kind}
+use Rattle.version_rules.specs.grammar.Versioning.{versioning_kind, PlainVersioning, Ideal, General, Complex, SpellsVersioning, versioning_of}
 use Rattle.version_rules.specs.requirement.Matching.{Matches, MatchesCaret, MatchesTilde}
 use Rattle.version_rules.specs.requirement.Requirement.{PlainRequirement}
-use Rattle.version_rules.specs.requirement.RequirementsRef.{Keeps}
+use Rattle.version_rules.specs.requirement.Requirements.{Keeps}
 use Rattle.version_rules.specs.grammar.SemVer.{PlainSemVer, SpellsSemVer}
 use Rattle.version_rules.specs.requirement.SemVerMatch.{Numbers, numbers}
-use Rattle.version_rules.specs.grammar.Versioning.{PlainVersioning, Ideal, General, Complex, SpellsVersioning, versioning_of}
 use Rattle.version_rules.proofs.lemmas.Versioning.{versioning_of-spells}
 use Rattle.version_texts.proofs.lemmas.versioning_ref.VersioningRef.{kind-is, spells-is}
 use Rattle.version_order.proofs.lemmas.Bytes.{digit_no_dot}

@@ -9,8 +9,7 @@ use Rattle.std.specs.Option.{is_none, is_some}
 use Rattle.version_texts.specs.requirement.Members.{cut_at_commas, list_of}
 use Rattle.version_texts.specs.requirement.RequirementsRef.{first_wrong}
 use Rattle.version_rules.specs.requirement.Requirement.{PlainRequirement, requirement_of}
-use Rattle.version_rules.specs.requirement.Requirements.{comma, every}
-use Rattle.version_rules.specs.requirement.RequirementsRef.{before_others}
+use Rattle.version_rules.specs.requirement.Requirements.{comma, every, before_others}
 
 -- a text without a comma is one piece
 pub one_piece : (text : List ℕ) → position_or_len (λ b. b == comma) text ≡ length text

@@ -17,7 +17,7 @@ use Rattle.version_rules.specs.grammar.Conversions.{version_of_semver}
 use Rattle.version_rules.specs.grammar.SemVer.{PlainSemVer, SpellsSemVer, semver_of}
 use Rattle.version_rules.specs.grammar.Version.{SpellsEpoch}
 use Rattle.version_rules.proofs.lemmas.SemVer.{semver_of-Some, semver_of-spells}
-use Rattle.version_rules.proofs.lemmas.Conversions.{strict_is_general}
+use Rattle.version_rules.proofs.lemmas.Versioning.{strict_is_general}
 use Rattle.version_texts.specs.scan.Shape.{behind_body, body_start}
 use Rattle.version_order.specs.texts.Pieces.{pieces, is_dot}
 use Rattle.version_texts.specs.scan.TextKind.{body_of, has_three_numbers, is_chunk, is_general, is_numeral}

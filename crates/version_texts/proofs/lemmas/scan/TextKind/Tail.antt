@@ -10,8 +10,7 @@ use Rattle.version_order.specs.texts.Bytes.{hyphen, is_identifier_byte, is_metad
 use Rattle.version_rules.specs.grammar.Chunk.{PlainChunk}
 use Rattle.version_order.specs.texts.Front.{begins, is_run}
 use Rattle.version_order.specs.texts.Grammar.{SpellsOptional}
-use Rattle.version_rules.specs.grammar.Metadata.{SpellsMetadata}
-use Rattle.version_rules.specs.grammar.Release.{SpellsRelease}
+use Rattle.version_rules.specs.grammar.Release.{SpellsMetadata, SpellsRelease}
 use Rattle.version_order.proofs.lemmas.Front.Runs.{prefix_len-append, all_weaker}
 use Rattle.version_order.specs.texts.Pieces.{pieces}
 use Rattle.version_texts.specs.scan.TextKind.{is_chunk, is_metadata_tail, is_not_plus, is_tail}

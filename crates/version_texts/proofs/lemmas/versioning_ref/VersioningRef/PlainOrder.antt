@@ -1,10 +1,9 @@
 -- The plain order of two versions, by their kinds and their keys.
 use Rattle.std.proofs.Common.{◌≡◌, List, ℕ, Some, refl, arith}
 use Rattle.std.specs.Ordering.{nat_cmp}
-use Rattle.version_rules.proofs.lemmas.SemVerOrder.{precedence_of_semvers}
+use Rattle.version_rules.proofs.lemmas.Key.{precedence_of_semvers}
 use Rattle.version_rules.specs.key.Key.{key_of, precedence}
-use Rattle.version_rules.specs.grammar.Kind.{versioning_kind}
-use Rattle.version_rules.specs.grammar.Versioning.{PlainVersioning, Ideal, General, Complex, kind_rank, versioning_plain_cmp}
+use Rattle.version_rules.specs.grammar.Versioning.{versioning_kind, PlainVersioning, Ideal, General, Complex, kind_rank, versioning_plain_cmp}
 use Rattle.version_texts.proofs.lemmas.versioning_ref.VersioningRef.{kind-is}
 use Rattle.version_texts.specs.declared.scan.shape.Shape.{Shape}
 use Rattle.version_texts.specs.scan.Shape.{shape_of}

@@ -14,18 +14,14 @@ use Rattle.version_order.specs.texts.Grammar.{SpellsOptional}
 use Rattle.version_rules.specs.grammar.Release.{SpellsRelease}
 use Rattle.version_order.proofs.lemmas.Front.Runs.{prefix_len-append}
 use Rattle.version_rules.specs.grammar.Conversions.{version_of_semver}
-use Rattle.version_rules.specs.grammar.Kind.{versioning_kind}
-use Rattle.version_rules.specs.laws.Mess.{messes_same}
+use Rattle.version_rules.specs.grammar.Versioning.{versioning_kind, PlainVersioning, Ideal, General, Complex, SpellsVersioning, versioning_plain_cmp, versioning_text}
+use Rattle.version_rules.specs.laws.Versioning.{messes_same, tied_same, versions_same}
 use Rattle.version_rules.specs.grammar.SemVer.{PlainSemVer, SpellsSemVer}
-use Rattle.version_rules.specs.laws.SemVer.{tied_same}
-use Rattle.version_rules.proofs.lemmas.OrdersLaws.{semver_equal}
-use Rattle.version_rules.specs.order.SemVerOrder.{SameButMetadata, semver_cmp}
+use Rattle.version_rules.proofs.lemmas.Order.{semver_equal}
+use Rattle.version_rules.specs.order.Kinds.{SameButMetadata, semver_cmp}
 use Rattle.version_rules.specs.grammar.Version.{PlainVersion, SpellsVersion, version_text}
-use Rattle.version_rules.specs.laws.Version.{versions_same}
-use Rattle.version_rules.specs.grammar.Versioning.{PlainVersioning, Ideal, General, Complex, SpellsVersioning, versioning_plain_cmp, versioning_text}
 use Rattle.version_rules.proofs.lemmas.Version.{version_printed, version_unique}
-use Rattle.version_rules.proofs.lemmas.Versioning.{versioning_printed}
-use Rattle.version_rules.proofs.lemmas.Conversions.{strict_is_general}
+use Rattle.version_rules.proofs.lemmas.Versioning.{versioning_printed, strict_is_general}
 use Rattle.version_texts.specs.declared.scan.shape.Shape.{Shape}
 use Rattle.version_texts.specs.scan.Shape.{behind_body, shape_of}
 use Rattle.version_texts.specs.scan.TextKind.{is_not_plus}

@@ -1,8 +1,7 @@
 use Rattle.std.proofs.Common.{◌∙◌, ap, sym}
 use Rattle.std.specs.List.{before_first}
 use Rattle.version_order.specs.keys.Lists.{none_last_cmp}
-use Rattle.version_rules.specs.key.PartKey.{suffix_of}
-use Rattle.version_rules.specs.key.Split.{split_cmp}
+use Rattle.version_rules.specs.key.PartKey.{suffix_of, split_cmp}
 use Rattle.version_texts.proofs.lemmas.order.Piece.{digits_same}
 use Rattle.version_texts.proofs.lemmas.order.Piece.Delimiters.{digit_no_end}
 use Rattle.version_texts.proofs.lemmas.order.Piece.Order.{decides, leaves, number_above_word, numbers_compared, tied, word_below_number, words_compared}

@@ -1,6 +1,6 @@
 use Rattle.std.proofs.Common.{◌∙◌, sym}
 use Rattle.version_order.specs.keys.Lists.{none_last_cmp}
-use Rattle.version_rules.specs.key.Split.{split_cmp}
+use Rattle.version_rules.specs.key.PartKey.{split_cmp}
 use Rattle.version_texts.proofs.lemmas.order.Piece.Words.{no_bytes, no_suffix, some_suffix}
 use Rattle.version_texts.specs.order.Piece.{delimits}
 use Rattle.version_texts.proofs.order.part.compare_suffixes.Goals as goal

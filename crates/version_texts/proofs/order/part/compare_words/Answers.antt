@@ -6,7 +6,7 @@ use Rattle.version_order.proofs.lemmas.Front.Runs.{begins-drop}
 use Rattle.version_order.specs.texts.DigitRun.{number_front}
 use Rattle.version_order.specs.texts.Front.{begins}
 use Rattle.version_order.specs.keys.Lists.{bytes_cmp}
-use Rattle.version_rules.specs.key.Split.{numbered_cmp, split_cmp, split_of}
+use Rattle.version_rules.specs.key.PartKey.{numbered_cmp, split_cmp, split_of}
 use Rattle.version_texts.specs.declared.order.delimiters.Delimiters.{Delimiters}
 use Rattle.version_texts.specs.declared.order.delimiters.Run.TheVariants.{Word}
 use Rattle.version_texts.proofs.lemmas.order.Piece.Order.{decides, leaves, tied}

@@ -1,7 +1,7 @@
 use Rattle.std.proofs.Common.{◌≡◌, ◌∙◌, ◌==◌, ℕ, false, List, Ordering, map, not, refl, sym}
 use Rattle.std.specs.Ordering.{ordering_index}
 use Rattle.std.specs.declared.cmp.Ordering.TheVariants.{Equal}
-use Rattle.version_rules.specs.order.ReleaseOrder.{chunk_cmp, release_cmp}
+use Rattle.version_rules.specs.order.Parts.{chunk_cmp, release_cmp}
 use Rattle.version_texts.proofs.lemmas.key.TextKey.Lists.{further_of_more, further_of_none, above, below, compared, left}
 use Rattle.version_texts.proofs.lemmas.order.Piece.Order.{decided, tied}
 use Rattle.version_order.specs.texts.Pieces.{behind_piece, first_piece, further_pieces, is_dot}

@@ -1,5 +1,5 @@
 use Rattle.std.proofs.Common.{◌≡◌, length}
-use Rattle.version_rules.specs.order.ReleaseOrder.{release_cmp}
+use Rattle.version_rules.specs.order.Parts.{release_cmp}
 use Rattle.version_texts.specs.key.TextKey.{chunks_of}
 use Rattle.version_texts.proofs.order.release.compare_releases.Given as goal
 

@@ -1,6 +1,6 @@
 use Rattle.std.proofs.Common.{◌∙◌, IsTrue, ap, rules, sym}
 use Rattle.std.specs.Option.{option_map}
-use Rattle.version_rules.specs.requirement.Ends.{kept_parts}
+use Rattle.version_rules.specs.requirement.Range.{kept_parts}
 use Rattle.version_texts.proofs.lemmas.requirement.EndOrder.{begins_with_mark, by_keys, epochs_decide, fronts_decide, same_marks}
 use Rattle.version_texts.proofs.lemmas.order.Piece.Order.{tied}
 use Rattle.version_texts.specs.requirement.EndOrder.{behind_parts, is_key}

@@ -1,6 +1,6 @@
 use Rattle.std.proofs.Common.{◌∙◌, refl, sym}
 use Rattle.version_rules.proofs.lemmas.Range.{requirement_exact}
-use Rattle.version_rules.proofs.lemmas.RequirementsRef.{first_decides}
+use Rattle.version_rules.proofs.lemmas.Requirement.{first_decides}
 use Rattle.version_texts.proofs.lemmas.requirement.RangeRef.{next_decides}
 use Rattle.version_texts.proofs.lemmas.requirement.RequirementsRef.Members.{list_split}
 use Rattle.version_texts.specs.requirement.Members.{list_of, pieces_of}

@@ -1,6 +1,6 @@
 use Rattle.std.proofs.Common.{◌↔◌, IfSome, length}
 use Rattle.std.specs.List.{All}
-use Rattle.version_rules.proofs.lemmas.RequirementsRef.{Asked}
+use Rattle.version_rules.proofs.lemmas.Requirement.{Asked}
 use Rattle.version_rules.specs.requirement.Range.{IsIn, requirement_range}
 use Rattle.version_rules.specs.requirement.Requirements.{requirements_of}
 use Rattle.version_texts.specs.requirement.Members.{list_of, pieces_of}

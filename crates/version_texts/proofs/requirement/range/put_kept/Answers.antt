@@ -2,8 +2,7 @@ use Rattle.std.proofs.Common.{◌≡◌, ◌∙◌, ℕ, List, ap, sym}
 use Rattle.std.specs.Char.{is_ascii_digit}
 use Rattle.std.specs.List.{list_all}
 use Rattle.std.specs.Str.Parse.{digits_value}
-use Rattle.version_rules.specs.requirement.Ends.{kept_parts}
-use Rattle.version_rules.specs.requirement.Range.{begun}
+use Rattle.version_rules.specs.requirement.Range.{kept_parts, begun}
 use Rattle.version_texts.specs.order.Parts.{parts_behind}
 use Rattle.version_texts.specs.scan.Shape.{body_in, epoch_in}
 use Rattle.version_order.specs.texts.Bytes.{is_section_byte}

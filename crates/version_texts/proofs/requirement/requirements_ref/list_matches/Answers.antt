@@ -1,5 +1,5 @@
 use Rattle.std.proofs.Common.{◌∙◌, refl}
-use Rattle.version_rules.proofs.lemmas.RequirementsRef.{first_decides, others_decide}
+use Rattle.version_rules.proofs.lemmas.Requirement.{first_decides, others_decide}
 use Rattle.version_texts.proofs.lemmas.requirement.RequirementsRef.Members.{list_split, more_parse}
 use Rattle.version_texts.specs.requirement.Members.{list_of, pieces_of}
 use Rattle.version_texts.specs.requirement.RequirementRef.{plain_requirement_ref}

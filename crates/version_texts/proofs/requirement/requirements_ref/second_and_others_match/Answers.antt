@@ -1,7 +1,7 @@
 use Rattle.version_texts.specs.requirement.RequirementRef.{plain_requirement_ref}
 use Rattle.version_texts.specs.requirement.RequirementsRef.{others_of}
 use Rattle.version_texts.specs.versioning_ref.VersioningRef.{plain_versioning_ref}
-use Rattle.version_rules.proofs.lemmas.RequirementsRef.{first_asks, first_asks_not}
+use Rattle.version_rules.proofs.lemmas.Requirement.{first_asks, first_asks_not}
 use Rattle.version_texts.proofs.requirement.requirements_ref.second_and_others_match.Goals as goal
 
 pub returns-then-matches : goal.returns-then-matches

@@ -1,5 +1,5 @@
 use Rattle.std.proofs.Common.{refl}
-use Rattle.version_rules.proofs.lemmas.Numeral.Digits.{next_value}
+use Rattle.version_rules.proofs.lemmas.Numeral.{next_value}
 use Rattle.version_texts.proofs.lemmas.scan.TextKind.Numeral.{all_digits, too_large}
 use Rattle.version_texts.proofs.scan.numeral.value_below_limit.Goals as goal
 

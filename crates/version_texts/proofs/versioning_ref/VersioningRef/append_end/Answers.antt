@@ -1,5 +1,5 @@
 use Rattle.std.proofs.Common.{◌≡◌, ◌∙◌, ◌+◌, ◌-◌, ◌<◌, ◌≤◌, ◌^◌, ◌++◌, ap, arith, length, replicate, rules, take}
-use Rattle.version_rules.specs.requirement.Ends.{end_bytes}
+use Rattle.version_rules.specs.requirement.Range.{end_bytes}
 use Rattle.version_rules.specs.key.Key.{key_of}
 use Rattle.version_order.proofs.lemmas.Sinks.{appended}
 use Rattle.version_order.specs.keys.Sinks.{put_at}

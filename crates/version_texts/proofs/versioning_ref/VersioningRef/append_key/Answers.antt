@@ -1,6 +1,5 @@
 use Rattle.std.proofs.Common.{◌≡◌, ◌∙◌, ◌+◌, ◌-◌, ◌<◌, ◌≤◌, ◌^◌, ◌++◌, ap, arith, length, replicate, rules, take}
-use Rattle.version_rules.specs.key.KeyBytes.{key_bytes}
-use Rattle.version_rules.specs.key.Key.{key_of}
+use Rattle.version_rules.specs.key.Key.{key_bytes, key_of}
 use Rattle.version_order.proofs.lemmas.Sinks.{appended}
 use Rattle.version_order.specs.keys.Sinks.{put_at}
 use Rattle.version_texts.specs.versioning_ref.VersioningRef.{plain_versioning_ref}

@@ -1,5 +1,5 @@
 use Rattle.std.proofs.Common.{◌∙◌, ◌+◌, [], ℕ, List, ap, append-nil, length, zero-add}
-use Rattle.version_rules.specs.requirement.Ends.{end_bytes}
+use Rattle.version_rules.specs.requirement.Range.{end_bytes}
 use Rattle.version_rules.specs.key.Key.{key_of}
 use Rattle.version_order.specs.keys.Sinks.{saturated}
 use Rattle.version_texts.specs.versioning_ref.VersioningRef.{plain_versioning_ref}

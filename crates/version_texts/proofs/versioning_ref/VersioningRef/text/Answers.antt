@@ -1,5 +1,5 @@
 use Rattle.std.proofs.Common.{◌∙◌, sym, ap}
-use Rattle.version_rules.proofs.lemmas.Utf8.{is_read, same_bytes}
+use Rattle.version_rules.proofs.lemmas.Grammar.{is_read, same_bytes}
 use Rattle.version_rules.specs.grammar.Versioning.{versioning_of}
 use Rattle.version_texts.proofs.lemmas.versioning_ref.VersioningRef.{printed-is, utf8-is, spelled}
 use Rattle.version_texts.proofs.versioning_ref.VersioningRef.text.Goals as goal

@@ -1,6 +1,6 @@
 use Rattle.std.proofs.Common.{◌≡◌, ◌∙◌, ◌++◌, ◌∷◌, List, ℕ, Some, ap, append_assoc, refl, sym, true}
 use Rattle.version_order.specs.keys.Codes.{items_bytes}
-use Rattle.version_rules.specs.requirement.Ends.{kept_parts}
+use Rattle.version_rules.specs.requirement.Range.{kept_parts}
 use Rattle.version_rules.specs.key.PartKey.{PartKey, part_bytes}
 use Rattle.version_rules.specs.requirement.VersionMatch.{is_plain_zero}
 use Rattle.version_order.specs.declared.ends.Kept.{Kept}

@@ -4,7 +4,7 @@ use Rattle.versions.specs.Errors.{IllegalOp}
 use Rattle.version_rules.specs.requirement.Requirements.{SpellsRequirements, requirements_of, requirements_text}
 use Rattle.versions.specs.Requirements.{plain_requirements}
 use Rattle.versions.proofs.lemmas.Json.{reads_json, written_again}
-use Rattle.version_rules.proofs.lemmas.Requirements.{requirements_of-spells, requirements_printed}
+use Rattle.version_rules.proofs.lemmas.Requirement.{requirements_of-spells, requirements_printed}
 use Rattle.versions.proofs.requirements.Requirements.deserialize.Goals as goal
 
 pub returns-in_err-from_str-clause-read : goal.returns-in_err-from_str-clause-read

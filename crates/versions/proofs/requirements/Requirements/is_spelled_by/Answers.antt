@@ -3,7 +3,7 @@ use Rattle.std.proofs.lemmas.Iterator.Search.{all_from_yields_List}
 use Rattle.std.proofs.lemmas.Iterator.Splits.{YieldsList-from_str_split}
 use Rattle.std.specs.Option.{is_some}
 use Rattle.version_rules.specs.requirement.Requirement.{requirement_of}
-use Rattle.version_rules.proofs.lemmas.Requirements.{requirements_of-is_some}
+use Rattle.version_rules.proofs.lemmas.Requirement.{requirements_of-is_some}
 use Rattle.versions.proofs.requirements.Requirements.is_spelled_by.Goals as goal
 
 pub returns : goal.returns

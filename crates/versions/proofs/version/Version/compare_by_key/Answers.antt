@@ -1,6 +1,6 @@
 use Rattle.std.proofs.Common.{◌∙◌}
 use Rattle.version_order.specs.keys.Lists.{bytes_cmp}
-use Rattle.version_rules.proofs.lemmas.OrdersLaws.{key_bytes_alone}
+use Rattle.version_rules.proofs.lemmas.Order.{key_bytes_alone}
 use Rattle.version_rules.specs.key.Key.{key_of_version}
 use Rattle.versions.specs.Version.{plain_version}
 use Rattle.versions.proofs.version.Version.compare_by_key.Goals as goal

@@ -2,7 +2,7 @@ use Rattle.std.proofs.Common.{◌≡◌, ◌∙◌, ap, arith, refl, sym}
 use Rattle.std.specs.Fmt.{decimal}
 use Rattle.version_tasks.specs.NextText.{zeros_text}
 use Rattle.std.proofs.lemmas.Grind.{put_two}
-use Rattle.version_rules.proofs.lemmas.Utf8.{is_read, same_bytes}
+use Rattle.version_rules.proofs.lemmas.Grammar.{is_read, same_bytes}
 use Rattle.version_tasks.proofs.lemmas.Next.Text.{epoch_utf8, front_utf8, in_pieces, one_more_zero, printed}
 use Rattle.version_tasks.proofs.next.text.NextDisplay.fmt.Goals as goal
 

@@ -3,9 +3,8 @@ use Rattle.std.proofs.Common.{◌≡◌, ℕ, List, ◌++◌, Vec, Result, Ok, E
 use Rattle.std.specs.declared.alloc.Global.{Global}
 use Rattle.std.specs.declared.cmp.Ordering.TheVariants.{Equal}
 use Rattle.version_order.specs.keys.Lists.{bytes_cmp}
-use Rattle.version_rules.proofs.lemmas.OrdersLaws.{key_bytes_apart}
-use Rattle.version_rules.specs.key.Key.{Key, precedence}
-use Rattle.version_rules.specs.key.KeyBytes.{key_bytes}
+use Rattle.version_rules.proofs.lemmas.Order.{key_bytes_apart}
+use Rattle.version_rules.specs.key.Key.{Key, precedence, key_bytes}
 
 -- whatever bytes follow, they compare as the keys do, if the keys differ
 pub stays_apart : {E : Type 0} (r : Result (Vec ℕ Global) E) (k : Key)

@@ -1,36 +1,125 @@
--- The laws that the contracts of `src/laws/order.rt` state, from the laws of the codes.
-use Rattle.std.proofs.Common.{◌≡◌, ◌↔◌, ℕ, List, ◌∷◌, ◌++◌, Option, refl, ◌∙◌, arith}
+-- The laws of orders that contracts of src/laws state: of parts, of releases and of each kind.
+use Rattle.std.specs.FinMap.{IsAntisymmetric, nat_cmp-IsAntisymmetric}
+use Rattle.version_order.proofs.lemmas.Codes.{writes_on, writes_then, writes_alone, writes_canonical, writes_no_prefix}
+use Rattle.version_order.proofs.lemmas.NumberBytes.{number_writes, length_bytes-long, length_bytes-short, number_bytes-decimal, number_bytes-zero}
+use Rattle.version_rules.proofs.lemmas.Key.{list_writes, lists_same, tail_writes, tails_same, part_key-decimal, part_key-digits, part_key-word, part_writes, release_writes, split_writes, precedence_of_semvers, sections_same, sections_writes}
+use Rattle.version_order.specs.keys.OrderLaws.{then_first, then_second, then_equal}
+use Rattle.version_order.specs.keys.Codes.{Writes}
+use Rattle.version_rules.specs.key.Key.{Key, precedence, key_of, key_of_mess, key_of_semver, key_of_version, sections_tail, key_bytes}
+use Rattle.std.proofs.Common.{◌≡◌, ◌↔◌, List, Option, ℕ, ◌∷◌, ◌++◌, refl, ◌∙◌, arith}
+use Rattle.std.specs.declared.cmp.Ordering.TheVariants.{Equal}
+use Rattle.version_rules.proofs.lemmas.Numeral.{split_of-digits, split_of-no_digit}
+use Rattle.version_order.proofs.lemmas.TextBytes.{text_writes}
+use Rattle.version_rules.proofs.lemmas.Worked.{worked_bytes, worked_order, worked_keys}
+use Rattle.version_order.proofs.lemmas.Orders.{equal_where_same, then_same, then_decided}
+use Rattle.version_rules.specs.grammar.Chunk.{PlainChunk}
+use Rattle.version_rules.specs.key.PartKey.{PartKey, list_cmp, part_cmp, Split, split_cmp}
+use Rattle.version_rules.specs.laws.Part.{list_total, part_total, parts_same, split_total, splits_same, chunks_cmp_total, last_cmp_total, mchunk_cmp_total}
+use Rattle.version_rules.specs.grammar.Last.{PlainLast}
+use Rattle.version_rules.specs.laws.Last.{last_total, lasts_same, mchunks_same}
+use Rattle.version_rules.specs.order.LastOrder.{last_plain_cmp}
+use Rattle.version_rules.specs.grammar.MChunk.{PlainMChunk}
+use Rattle.version_rules.specs.order.Parts.{chunks_cmp, last_cmp, mchunk_cmp, chunk_cmp, release_cmp}
+use Rattle.version_rules.specs.laws.Release.{chunk_total, chunks_same, release_total, releases_same}
 use Rattle.std.specs.Cmp.{tied_itself}
 use Rattle.std.specs.Ordering.{on, ordering_then}
-use Rattle.std.specs.declared.cmp.Ordering.TheVariants.{Equal}
-use Rattle.version_order.proofs.lemmas.Codes.{writes_alone, writes_canonical, writes_no_prefix}
-use Rattle.version_order.specs.keys.OrderLaws.{then_equal, then_second}
-use Rattle.version_order.proofs.lemmas.Orders.{equal_where_same, then_decided, then_same}
 use Rattle.version_order.specs.keys.Lists.{bytes_cmp}
-use Rattle.version_rules.specs.grammar.MChunk.{PlainMChunk}
-use Rattle.version_rules.specs.key.PartKey.{PartKey}
-use Rattle.version_rules.proofs.lemmas.KeyLaws.{key_writes, keys_same}
-use Rattle.version_rules.proofs.lemmas.SemVerOrder.{precedence_of_semvers}
-use Rattle.version_rules.proofs.lemmas.Tail.{sections_same, sections_writes, tail_writes, tails_same}
 use Rattle.version_rules.proofs.lemmas.Texts.{keys_are_bytes, versions_are_bytes}
-use Rattle.version_rules.proofs.lemmas.Worked.{worked_keys}
-use Rattle.version_rules.specs.key.Key.{Key, key_of, key_of_mess, key_of_semver, key_of_version, precedence, sections_tail}
-use Rattle.version_rules.specs.key.KeyBytes.{key_bytes}
-use Rattle.version_rules.specs.laws.Key.{precedence_total, sections_total, tail_total}
+use Rattle.version_rules.specs.laws.Key.{precedence_total, sections_total, tail_total, keys_tied, mess_cmp_total, version_cmp_total, versioning_cmp_total}
 use Rattle.version_rules.specs.grammar.Mess.{PlainMess, mess_plain_cmp}
 use Rattle.version_order.specs.texts.Sep.{PlainSep}
-use Rattle.version_rules.specs.laws.Mess.{mess_total, messes_same}
+use Rattle.version_rules.specs.laws.Versioning.{mess_total, messes_same, versioning_plain_total, semver_total, tied_same, version_plain_total, versions_same}
 use Rattle.version_rules.specs.order.Orders.{mess_cmp, version_cmp, versioning_cmp}
-use Rattle.version_rules.specs.laws.Orders.{keys_tied, mess_cmp_total, version_cmp_total, versioning_cmp_total}
 use Rattle.version_rules.specs.grammar.Versioning.{PlainVersioning, Ideal, General, Complex, SameVersioning, versioning_plain_cmp}
-use Rattle.version_rules.specs.laws.Versioning.{versioning_plain_total}
 use Rattle.version_rules.specs.grammar.SemVer.{PlainSemVer}
-use Rattle.version_rules.specs.order.SemVerOrder.{SameButMetadata, semver_cmp}
-use Rattle.version_rules.specs.laws.SemVer.{semver_total, tied_same}
+use Rattle.version_rules.specs.order.Kinds.{SameButMetadata, semver_cmp, version_plain_cmp}
 use Rattle.version_rules.specs.key.Tail.{Tail, sections_cmp, tail_cmp}
 use Rattle.version_rules.specs.grammar.Version.{PlainVersion}
-use Rattle.version_rules.specs.laws.Version.{version_plain_total, versions_same}
-use Rattle.version_rules.specs.order.VersionOrder.{version_plain_cmp}
+
+-- ---- precedence distinguishes all keys, and the bytes of keys compare as the keys do
+
+pub keys_same : IsAntisymmetric precedence
+keys_same k l e =
+    let behind = then_second _ _ e in
+    let epochs = nat_cmp-IsAntisymmetric k.epoch l.epoch (then_first _ _ e) in
+    let bodies = lists_same k.body l.body (then_first _ _ behind) in
+    let tails = tails_same k.tail l.tail (then_second _ _ behind) in
+    λ i. record { epoch = epochs i; body = bodies i; tail = tails i }
+
+pub key_writes : Writes precedence key_bytes
+key_writes =
+    writes_then (writes_on (λ (k : Key). k.epoch) number_writes)
+    (writes_then (writes_on (λ (k : Key). k.body) list_writes)
+    (writes_on (λ (k : Key). k.tail) tail_writes))
+
+-- ---- the laws that the contracts of `src/laws/order.rt` state
+
+pub split_equal : (v w : Split) → (split_cmp v w ≡ Equal) ↔ (v ≡ w)
+split_equal = equal_where_same split_total splits_same
+
+pub part_equal : (a b : Option PartKey) → (part_cmp a b ≡ Equal) ↔ (a ≡ b)
+part_equal = equal_where_same part_total parts_same
+
+pub list_equal : (xs ys : List PartKey) → (list_cmp xs ys ≡ Equal) ↔ (xs ≡ ys)
+list_equal = equal_where_same list_total lists_same
+
+pub chunks_equal : (a b : List PlainChunk) → (chunks_cmp a b ≡ Equal) ↔ (a ≡ b)
+chunks_equal = equal_where_same chunks_cmp_total (then_same _ releases_same)
+
+pub last_equal : (a b : PlainLast) → (last_cmp a b ≡ Equal) ↔ (a ≡ b)
+last_equal = equal_where_same last_cmp_total (then_same _ lasts_same)
+
+pub mchunk_equal : (a b : PlainMChunk) → (mchunk_cmp a b ≡ Equal) ↔ (a ≡ b)
+mchunk_equal = equal_where_same mchunk_cmp_total (then_same _ mchunks_same)
+
+pub last_plain_equal : (a b : PlainLast) → (last_plain_cmp a b ≡ Equal) ↔ (a ≡ b)
+last_plain_equal = equal_where_same last_total lasts_same
+
+pub chunk_equal : (a b : PlainChunk) → (chunk_cmp a b ≡ Equal) ↔ (a ≡ b)
+chunk_equal = equal_where_same chunk_total chunks_same
+
+pub release_equal : (a b : List PlainChunk) → (release_cmp a b ≡ Equal) ↔ (a ≡ b)
+release_equal = equal_where_same release_total releases_same
+
+pub ruleset part_laws = (
+  length_bytes-short,
+  length_bytes-long,
+  number_bytes-zero,
+  number_bytes-decimal,
+  number_writes,
+  text_writes,
+  split_total,
+  split_equal,
+  split_writes,
+  split_of-no_digit,
+  split_of-digits,
+  part_total,
+  part_equal,
+  part_writes,
+  part_key-digits,
+  part_key-word,
+  part_key-decimal,
+  list_total,
+  list_equal,
+  list_writes,
+  chunks_cmp_total,
+  chunks_equal,
+  last_cmp_total,
+  last_equal,
+  mchunk_cmp_total,
+  mchunk_equal,
+  last_total,
+  last_plain_equal,
+  chunk_total,
+  chunk_equal,
+  release_total,
+  release_equal,
+  release_writes,
+  worked_bytes,
+  worked_order,
+)
+
+-- ---- the laws that the contracts of `src/laws/order.rt` state, from the laws of the codes
 
 pub sections_equal : (a b : List (List PartKey)) → (sections_cmp a b ≡ Equal) ↔ (a ≡ b)
 sections_equal = equal_where_same sections_total sections_same

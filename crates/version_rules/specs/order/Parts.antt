@@ -1,7 +1,7 @@
--- The order of releases (SemVer 2.0, section 11), and their bytes.
+-- How parts and releases compare.
 use Rattle.std.specs.Prelude.{ℕ, List, [], ◌∷◌, Option, Some, None}
 use Rattle.std.specs.Cmp.Lexicographic.{slice_cmp}
-use Rattle.std.specs.Ordering.{nat_cmp}
+use Rattle.std.specs.Ordering.{nat_cmp, on, then_cmp}
 use Rattle.std.specs.declared.cmp.Ordering.{Ordering}
 use Rattle.std.specs.declared.cmp.Ordering.TheVariants.{Less, Greater}
 use Rattle.version_rules.specs.grammar.Chunk.{PlainChunk, Numeric, Alphanum}
@@ -9,6 +9,12 @@ use Rattle.version_order.specs.keys.Codes.{list_bytes}
 use Rattle.version_order.specs.keys.Lists.{bytes_cmp}
 use Rattle.version_order.specs.keys.NumberBytes.{number_bytes}
 use Rattle.version_order.specs.keys.TextBytes.{text_bytes}
+use Rattle.version_rules.specs.grammar.Last.{PlainLast, last_text}
+use Rattle.version_rules.specs.order.LastOrder.{last_plain_cmp}
+use Rattle.version_rules.specs.grammar.MChunk.{PlainMChunk, mchunk_plain_cmp, mchunk_text}
+use Rattle.version_rules.specs.key.PartKey.{chunk_parts, list_cmp, part_cmp, part_key}
+
+-- ---- the order of releases (SemVer 2.0, section 11), and their bytes
 
 -- two chunks: numbers by value, numbers before texts, texts by bytes
 abbrev pub chunk_cmp : PlainChunk → PlainChunk → Ordering
@@ -30,3 +36,22 @@ chunk_bytes (Some (Alphanum t)) = 3 ∷ text_bytes t
 -- the bytes of a release, and of its end
 abbrev pub release_bytes : List PlainChunk → List ℕ
 release_bytes = list_bytes chunk_bytes
+
+-- ---- the orders of chunks, last parts and messy chunks: as the parts that they print, and ties field
+-- by field.
+
+-- the chunks of two general versions: as lists of parts, then chunk by chunk
+abbrev pub chunks_cmp : List PlainChunk → List PlainChunk → Ordering
+chunks_cmp = then_cmp (on chunk_parts list_cmp) release_cmp
+
+-- two texts, as parts
+abbrev pub as_part_cmp : List ℕ → List ℕ → Ordering
+as_part_cmp = on (λ text. Some (part_key text)) part_cmp
+
+-- two last parts: by their texts as parts, then field by field
+abbrev pub last_cmp : PlainLast → PlainLast → Ordering
+last_cmp = then_cmp (on last_text as_part_cmp) last_plain_cmp
+
+-- two messy chunks: by their texts as parts, then field by field
+abbrev pub mchunk_cmp : PlainMChunk → PlainMChunk → Ordering
+mchunk_cmp = then_cmp (on mchunk_text as_part_cmp) mchunk_plain_cmp
