@@ -40,6 +40,7 @@ fn general_versions()
 {}
 
 // Each text that spells a strict version spells a general one too, with the fields of `to_version`.
+#[tactic(auto, using(crate::proofs::lemmas::Versioning::strict_is_general))]
 fn strict_versions_are_general()
     ensures { (text : List ℕ) (v : PlainSemVer) → SpellsSemVer text v
         → SpellsVersion text (version_of_semver v) }

@@ -21,6 +21,7 @@ fn numerals()
 {}
 
 // A chunk parses as chunks are spelled, and prints as its text.
+#[tactic(auto, using(crate::proofs::lemmas::Chunk::chunk_complete, crate::proofs::lemmas::Chunk::chunk_printed, crate::proofs::lemmas::Chunk::chunk_sound))]
 fn chunks()
     ensures sound { IsSound SpellsChunk chunk_front }
     ensures complete { IsComplete SpellsChunk (EndsRun is_identifier_byte) chunk_front }
@@ -28,6 +29,7 @@ fn chunks()
 {}
 
 // A part of a general version parses as parts are spelled, and prints as its text.
+#[tactic(auto, using(crate::proofs::lemmas::Chunk::part_complete, crate::proofs::lemmas::Chunk::part_printed, crate::proofs::lemmas::Chunk::part_sound))]
 fn parts()
     ensures sound { IsSound SpellsPart part_front }
     ensures complete { IsComplete SpellsPart (EndsRun is_ascii_alphanumeric) part_front }
@@ -49,6 +51,7 @@ fn bodies()
 {}
 
 // A release parses after its hyphen as releases are spelled, and prints as its text.
+#[tactic(auto, using(crate::proofs::lemmas::Chunk::release_complete, crate::proofs::lemmas::Chunk::release_printed, crate::proofs::lemmas::Chunk::release_sound))]
 fn releases()
     ensures sound { IsSound SpellsRelease (dotted_front chunk_front) }
     ensures complete { IsComplete SpellsRelease (EndsList (EndsRun is_identifier_byte))
@@ -58,6 +61,7 @@ fn releases()
 
 // A messy chunk parses as messy chunks are spelled if a dot, a sign or the end follows it, and prints as its text.
 // Whatever follows, it prints the text that it was parsed from.
+#[tactic(auto, using(crate::proofs::lemmas::MChunk::mchunk_complete, crate::proofs::lemmas::MChunk::mchunk_kept, crate::proofs::lemmas::MChunk::mchunk_printed, crate::proofs::lemmas::MChunk::mchunk_sound))]
 fn messy_chunks()
     ensures sound { IsSoundBefore EndsChunk SpellsMChunk mchunk_front }
     ensures complete { IsComplete SpellsMChunk EndsChunk mchunk_front }
@@ -66,6 +70,7 @@ fn messy_chunks()
 {}
 
 // Build metadata parses after its plus as it is spelled.
+#[tactic(auto, using(crate::proofs::lemmas::Chunk::metadata_complete, crate::proofs::lemmas::Chunk::metadata_sound))]
 fn metadata()
     ensures sound { IsSound SpellsMetadata (run_front is_metadata_byte) }
     ensures complete { IsComplete SpellsMetadata (EndsRun is_metadata_byte)
