@@ -25,7 +25,7 @@ use std::cmp::Ordering;
 
 impl Versioning {
     /// Compares two versions of any kind by their keys: the order of all versions (docs/ORDER.md). `Ord` breaks its
-    /// ties. Does not allocate.
+    /// ties.
     #[tactic(auto, using(version_rules::proofs::lemmas::OrdersLaws::laws))]
     pub fn precedence(&self, other: &Versioning) -> Ordering
         ensures keys { result ≡ precedence (key_of (plain_versioning self.now))
@@ -40,7 +40,7 @@ impl Versioning {
         compare_keys(self.key_bytes(), other.key_bytes())
     }
 
-    /// Returns the bytes of its key, one after another. They compare as precedence does. Does not allocate.
+    /// Returns the bytes of its key, one after another. They compare as precedence does.
     #[inline(always)]
     pub fn key_bytes(&self) -> KeyBytes<'_>
         ensures { result ≡ key_bytes (key_of (plain_versioning self.now)) }
@@ -70,7 +70,7 @@ impl Versioning {
 }
 
 /// Compares by precedence. Breaks a tie by kind, strict before general before messy, then field by field, except
-/// metadata of strict versions. Does not allocate.
+/// metadata of strict versions.
 impl Ord for Versioning {
     ghost cmp = { on plain_versioning versioning_cmp };
 
@@ -108,7 +108,7 @@ impl Version {
     }
 }
 
-/// Compares the keys; breaks a tie field by field, None before Some. Does not allocate.
+/// Compares the keys; breaks a tie field by field, None before Some.
 impl Ord for Version {
     ghost cmp = { on plain_version version_cmp };
 
@@ -135,7 +135,7 @@ impl PartialOrd for Version {
     }
 }
 
-/// Compares the keys; breaks a tie field by field, section by section. Does not allocate.
+/// Compares the keys; breaks a tie field by field, section by section.
 impl Ord for Mess {
     ghost cmp = { on plain_mess mess_cmp };
 

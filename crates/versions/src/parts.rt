@@ -2,7 +2,7 @@
 
 ghost use Rattle.std.specs.Prelude.{◌≡◌};
 ghost use Rattle.version_rules.specs.key.PartKey.{part_key};
-ghost use Rattle.versions.specs.BodyParts.{first_part, more_parts};
+ghost use Rattle.versions.specs.Version.{first_part, more_parts};
 
 use std::cmp::Ordering;
 use version_parts::key::{PartText, compare_parts};

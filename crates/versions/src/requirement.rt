@@ -2,12 +2,11 @@
 
 ghost use Rattle.std.specs.Prelude.{◌≡◌, ◌↔◌, IfOk, IsSomeAnd, IsTrue, None, OnErr, Some};
 ghost use Rattle.std.specs.Option.{is_some, option_map};
-ghost use Rattle.version_parts.specs.Front.{Reads};
+ghost use Rattle.version_parts.specs.Body.{Reads};
 ghost use Rattle.versions.specs.Errors.{IllegalOp, ReadsOr};
 ghost use Rattle.version_rules.specs.requirement.Matching.{IsConvex, Matches};
-ghost use Rattle.versions.specs.Range.{plain_range};
+ghost use Rattle.versions.specs.Requirements.{plain_range, plain_requirement};
 ghost use Rattle.version_rules.specs.requirement.Range.{requirement_range, IsIn};
-ghost use Rattle.versions.specs.Requirement.{plain_requirement};
 ghost use Rattle.version_rules.specs.requirement.Requirement.{requirement_front, requirement_of, requirement_text, RequirementOwns};
 ghost use Rattle.versions.specs.Versioning.{plain_versioning};
 ghost use Rattle.version_rules.specs.grammar.Versioning.{PlainVersioning};
@@ -55,7 +54,7 @@ impl Requirement {
         }
     }
 
-    /// Returns whether the whole text parses as a requirement, so that `new` returns one. Does not allocate.
+    /// Returns whether the whole text parses as a requirement, so that `new` returns one.
     pub fn is_spelled_by(s: &str) -> bool
         ensures { result ≡ is_some (requirement_of s.now) }
     {
@@ -110,7 +109,7 @@ impl Requirement {
     /// Returns whether the version matches. `=` compares by `==`, and `>`, `>=`, `<` and `<=` by precedence. `~` and
     /// `^` match by the rule of strict versions if both are strict, by that of general ones if both are general, else
     /// never. `*` matches every version, with or without a version of its own. Any other operator without a version
-    /// matches nothing. Does not allocate.
+    /// matches nothing.
     #[tactic(auto, using(version_rules::proofs::lemmas::Matching::Convex::requirement_convex))]
     pub fn matches(&self, version: &Versioning) -> bool
         ensures set { IsTrue result

@@ -3,12 +3,12 @@
 ghost use Rattle.std.specs.Prelude.{◌≡◌, ◌∷◌, ◌++◌, IfOk, IsTrue, OnOk, Some};
 ghost use Rattle.version_order.specs.keys.Codes.{items_bytes};
 ghost use Rattle.version_rules.specs.key.PartKey.{part_bytes};
-ghost use Rattle.versions.specs.BodyParts.{first_part, more_parts};
+ghost use Rattle.versions.specs.Version.{first_part, more_parts};
 ghost use Rattle.version_rules.specs.requirement.Ends.{end_bytes, is_whole, kept_parts, range_from, AreWhole};
 ghost use Rattle.version_rules.specs.key.Key.{key_of, strict_body};
 ghost use Rattle.version_rules.specs.grammar.Kind.{versioning_kind};
 ghost use Rattle.version_rules.specs.requirement.Range.{begun};
-ghost use Rattle.versions.specs.Range.{plain_range};
+ghost use Rattle.versions.specs.Requirements.{plain_range};
 ghost use Rattle.versions.specs.Versioning.{plain_versioning};
 ghost use Rattle.version_order.specs.declared.ends.Kept.TheVariants.{ButLastOrOnly};
 ghost use Rattle.version_rules.specs.declared.kind.Kind.TheVariants.{Complex};
