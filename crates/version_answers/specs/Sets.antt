@@ -7,7 +7,7 @@ use Rattle.version_schemes.specs.declared.scheme.Scheme.{Scheme}
 use Rattle.version_sets.specs.Reading.{Member, Reading, Right, Wrong, fault_of, read_set, set_has}
 use Rattle.std.specs.Fmt.{decimal}
 use Rattle.version_answers.specs.message.Quote.{quoted}
-use Rattle.version_sets.specs.Reason.{reason_text}
+use Rattle.version_sets.specs.Set.{reason_text}
 
 -- what a word is read as, by a scheme
 abbrev pub reading_of : Scheme → List ℕ → Reading

@@ -4,9 +4,8 @@ ghost use Rattle.std.specs.Prelude.{◌≡◌, ◌<◌, ◌∷◌, [], get_or, l
 ghost use Rattle.version_answers.specs.Sets.{keys_of, reading_of, HasAny, IsWrongSet};
 ghost use Rattle.version_schemes.specs.Scheme.{rules, scheme_number};
 ghost use Rattle.version_schemes.specs.any.AnyVersion.{plain_any};
-ghost use Rattle.version_sets.specs.Ends.{has, IsPart, Meet, Rise};
+ghost use Rattle.version_sets.specs.Form.{has, IsPart, Meet, Rise, form_bytes, form_ends};
 ghost use Rattle.version_sets.specs.Excluding.{leave_out, steps_left, AreLeft};
-ghost use Rattle.version_sets.specs.Form.{form_bytes, form_ends};
 ghost use Rattle.version_sets.specs.Reader.{IsUnread, IsWrittenSet};
 ghost use Rattle.version_sets.specs.Reading.{read_set, set_has, set_room, Member, Right};
 ghost use Rattle.version_sets.specs.Set.{ends_of};

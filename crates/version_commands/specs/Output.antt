@@ -19,7 +19,7 @@ use Rattle.version_commands.specs.declared.options.Task.{Task}
 use Rattle.version_commands.specs.declared.options.Task.TheVariants as task
 use Rattle.version_lines.specs.Lines.{line_feed}
 use Rattle.version_schemes.specs.declared.scheme.Scheme.{Scheme}
-use Rattle.version_sets.specs.Ends.{IsPart, Meet}
+use Rattle.version_sets.specs.Form.{IsPart, Meet}
 
 -- the words are versions, and this is the line for the two
 pub record IsLineOfTwo {V : Type 0} (read : List ℕ → Option V) (line : V → V → List ℕ) (a b : List ℕ)

@@ -1,8 +1,5 @@
-pub mod Chunk
 pub mod Compare
-pub mod Front
-pub mod General
+pub mod Keys
 pub mod Lists
-pub mod NumberBytes
-pub mod PartKey
 pub mod Pieces
+pub mod Scans

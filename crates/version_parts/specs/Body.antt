@@ -1,11 +1,17 @@
 -- The body that owned chunks hold, and the body that a scanned list holds.
-use Rattle.std.specs.Prelude.{◌≡◌, ◌<◌, ◌-◌, List, length, map, take, Some}
+use Rattle.std.specs.Prelude.{◌≡◌, ◌<◌, ◌-◌, List, length, map, take, Some, ℕ, Option, Result, Ok, Err, IsSomeAnd}
 use Rattle.version_parts.specs.declared.chunks.Chunks.{Chunks}
 use Rattle.version_parts.specs.declared.scan.Dotted.{Dotted}
 use Rattle.version_rules.specs.grammar.Chunk.{PlainChunk, part_front}
-use Rattle.version_parts.specs.Chunk.{plain_chunk}
+use Rattle.version_parts.specs.Chunk.{plain_chunk, chunk_fed}
 use Rattle.version_order.specs.texts.Front.{elements_at}
 use Rattle.version_rules.specs.grammar.Body.{PlainBody, body_of, last_at}
+use Rattle.std.specs.Option.{option_map}
+use Rattle.std.specs.declared.alloc.AllocError.{AllocError}
+use Rattle.std.specs.Borrow.{Bor}
+use Rattle.std.specs.Hash.{HashWrites}
+use Rattle.version_parts.specs.declared.release.Release.{Release}
+use Rattle.std.specs.Hash as fed
 
 -- the chunks of a list
 abbrev pub plain_chunks : Chunks → List PlainChunk
@@ -20,3 +26,22 @@ scanned_body list =
 abbrev pub IsScannedBody : Dotted → Type 0
 IsScannedBody list = (0 < list.count) × (list.count ≡ length (elements_at part_front list.text.now))
     × (body_of (elements_at part_front list.text.now) ≡ Some (scanned_body list))
+
+-- ---- what a reader answers, by the front that it follows
+
+-- The answer of a reader, seen by view, is what the front gives. The reader fails only if the front
+-- gives a value that owns memory.
+abbrev pub Reads : {V X : Type 0} → (V → X) → (X → Type 0)
+    → Result (Option (V × Bor (List ℕ))) AllocError → Option (X × List ℕ) → Type 0
+Reads view Owns (Ok answer) front = option_map (λ r. (view r.0, r.1.now)) answer ≡ front
+Reads view Owns (Err e) front = IsSomeAnd front (λ r. Owns r.0)
+
+-- ---- the chunks that an owned release holds, and what a hash is fed of them
+
+-- the chunks of a release
+abbrev pub plain_release : Release → List PlainChunk
+plain_release release = map plain_chunk release.0.items
+
+-- what a hash is fed: the count of chunks, and each of them
+abbrev pub release_fed : List PlainChunk → HashWrites
+release_fed = fed.slice chunk_fed

@@ -1,9 +1,7 @@
 pub mod Body
 pub mod Chunk
 pub mod Compare
-pub mod Front
 pub mod Last
 pub mod MChunk
 pub mod Pieces
-pub mod Release
 pub mod Sep

@@ -10,7 +10,7 @@ ghost use Rattle.version_order.specs.texts.Bytes.{is_identifier_byte, HasDigits}
 ghost use Rattle.version_rules.specs.grammar.Chunk.{after_letter, chunk_front, chunk_front_of, chunk_text, digits_behind_letter, lenient_digits, number_of, part_front, ChunkOwns, PlainChunk};
 ghost use Rattle.version_parts.specs.Chunk.{chunk_fed, chunk_of_text, plain_chunk, plain_chunk_ref, IsChunkText};
 ghost use Rattle.version_order.specs.texts.Class.{contains, IsAsciiClass};
-ghost use Rattle.version_parts.specs.Front.{Reads};
+ghost use Rattle.version_parts.specs.Body.{Reads};
 ghost use Rattle.version_rules.specs.laws.Front.{chunk_consumes};
 ghost use Rattle.version_rules.specs.grammar.Numeral.{unsigned_front};
 ghost use Rattle.version_order.specs.keys.OrderLaws.{same_where_tied};
@@ -42,7 +42,7 @@ impl Chunk {
     /// digits and hyphens is an `Alphanum`. If it is all digits, the chunk is a `Numeric` of the number that
     /// [`unsigned`](crate::parsers::unsigned) parses there. Returns None if the run is empty or `unsigned` returns
     /// None. Only the text of an `Alphanum` is allocated. Fails on allocation failure.
-    #[tactic(auto, using(crate::proofs::lemmas::Chunk::ShortRuns::classes_with_digits))]
+    #[tactic(auto, using(crate::proofs::lemmas::Scans::classes_with_digits))]
     pub fn parse(alloc: Global, i: &str) -> Result<Option<(Chunk, &str)>, AllocError>
         ensures { Reads plain_chunk ChunkOwns result (chunk_front i.now) }
     {
@@ -51,7 +51,7 @@ impl Chunk {
 
     /// Parses the part of a general version at the start of a text, and returns it with the rest. It parses as
     /// [`Chunk::parse`] does, but the run has no hyphens.
-    #[tactic(auto, using(crate::proofs::lemmas::Chunk::ShortRuns::classes_with_digits))]
+    #[tactic(auto, using(crate::proofs::lemmas::Scans::classes_with_digits))]
     pub fn parse_without_hyphens(
         alloc: Global,
         i: &str,
@@ -61,7 +61,7 @@ impl Chunk {
         read_chunk(alloc, i, Class::Alphanumeric)
     }
 
-    /// Returns the number of a `Numeric`, or None. Does not allocate.
+    /// Returns the number of a `Numeric`, or None.
     pub fn single_digit(&self) -> Option<u32>
         ensures { result ≡ number_of (plain_chunk self.now) }
     {
@@ -72,7 +72,7 @@ impl Chunk {
     }
 
     /// Returns the number of a `Numeric`, or the number that [`unsigned`](crate::parsers::unsigned) parses at the start
-    /// of an `Alphanum`, or None. Does not allocate.
+    /// of an `Alphanum`, or None.
     pub fn single_digit_lenient(&self) -> Option<u32>
         ensures { result ≡ lenient_digits (plain_chunk self.now) }
     {
@@ -83,7 +83,7 @@ impl Chunk {
     }
 
     /// Returns the number of a `Numeric`, or the number that `unsigned` parses after the first byte of an `Alphanum` if
-    /// that byte is a letter, as 23 of `r23`, or None. Does not allocate.
+    /// that byte is a letter, as 23 of `r23`, or None.
     pub fn single_digit_lenient_post(&self) -> Option<u32>
         ensures { result ≡ digits_behind_letter (plain_chunk self.now) }
     {
@@ -103,7 +103,7 @@ impl Chunk {
 }
 
 impl Chunk {
-    /// Returns the same chunk with its text borrowed. Does not allocate.
+    /// Returns the same chunk with its text borrowed.
     pub fn lent(&self) -> ChunkRef<'_>
         ensures { plain_chunk_ref result ≡ plain_chunk self.now }
     {
@@ -205,8 +205,7 @@ pub enum ChunkRef<'a> {
 }
 
 impl<'a> ChunkRef<'a> {
-    // Scans the chunk at the start of a text, and returns it with the rest. A run has bytes of the class. Does not
-    // allocate.
+    // Scans the chunk at the start of a text, and returns it with the rest. A run has bytes of the class.
     pub(crate) fn scan(i: &'a str, class: Class) -> Option<(ChunkRef<'a>, &'a str)>
         requires digits { HasDigits (contains class) }
         requires ascii { IsAsciiClass class }
@@ -221,7 +220,7 @@ impl<'a> ChunkRef<'a> {
         }
     }
 
-    /// Returns the bytes of the printed text. Does not allocate.
+    /// Returns the bytes of the printed text.
     pub fn part_text(self) -> PartText<'a>
         ensures { result ≡ chunk_text (plain_chunk_ref self.entry) }
     {
@@ -242,7 +241,7 @@ impl<'a> ChunkRef<'a> {
         }
     }
 
-    /// Returns the number of a `Numeric`, or None. Does not allocate.
+    /// Returns the number of a `Numeric`, or None.
     pub fn number(self) -> Option<u32>
         ensures { result ≡ number_of (plain_chunk_ref self.entry) }
     {
@@ -343,7 +342,7 @@ impl Element for ReleaseChunk {
 
     ghost consumes = { chunk_consumes is_identifier_byte };
 
-    #[tactic(auto, using(crate::proofs::lemmas::Chunk::ShortRuns::classes_with_digits))]
+    #[tactic(auto, using(crate::proofs::lemmas::Scans::classes_with_digits))]
     fn skip(i: &str) -> Option<&str> {
         skip_chunk(i, Class::Identifier)
     }
@@ -369,7 +368,7 @@ impl Element for Part {
 
     ghost consumes = { chunk_consumes is_ascii_alphanumeric };
 
-    #[tactic(auto, using(crate::proofs::lemmas::Chunk::ShortRuns::classes_with_digits))]
+    #[tactic(auto, using(crate::proofs::lemmas::Scans::classes_with_digits))]
     fn skip(i: &str) -> Option<&str> {
         skip_chunk(i, Class::Alphanumeric)
     }

@@ -6,13 +6,11 @@ ghost use Rattle.std.specs.Cmp.{eq_by_cmp_equiv, on_equiv, on_per, on_total, par
 ghost use Rattle.std.specs.Option.{option_map};
 ghost use Rattle.std.specs.Ordering.{as_partial_cmp, eq_by_cmp, on};
 ghost use Rattle.version_rules.specs.grammar.Body.{body_front, chunks_front, BodyOwns};
-ghost use Rattle.version_parts.specs.Body.{plain_chunks};
-ghost use Rattle.version_parts.specs.Front.{Reads};
+ghost use Rattle.version_parts.specs.Body.{plain_chunks, Reads, release_fed};
 ghost use Rattle.version_parts.specs.Last.{plain_last, plain_last_ref};
 ghost use Rattle.version_order.specs.keys.OrderLaws.{same_where_tied};
-ghost use Rattle.version_rules.specs.order.Parts.{chunks_cmp, release_cmp};
+ghost use Rattle.version_rules.specs.order.Parts.{chunks_cmp};
 ghost use Rattle.version_rules.specs.laws.Part.{chunks_cmp_ties, chunks_cmp_total};
-ghost use Rattle.version_parts.specs.Release.{release_fed};
 ghost use Rattle.version_rules.specs.grammar.Release.{release_text};
 ghost use Rattle.version_rules.specs.laws.Release.{release_total, releases_same};
 
@@ -45,7 +43,7 @@ impl Chunks {
         Ok(Some((Chunks(list.build::<Part>(alloc, list.count)?), rest)))
     }
 
-    /// Returns an empty list. Does not allocate.
+    /// Returns an empty list.
     pub fn default_in(alloc: Global) -> Chunks
         ensures { plain_chunks result ≡ [] }
     {
@@ -93,7 +91,7 @@ impl Hash for Chunks {
     }
 }
 
-/// Compares as lists of parts: word < end of the list < number. Breaks ties chunk by chunk. Does not allocate.
+/// Compares as lists of parts: word < end of the list < number. Breaks ties chunk by chunk.
 impl Ord for Chunks {
     ghost cmp = { on plain_chunks chunks_cmp };
 
@@ -139,7 +137,7 @@ impl<'a> Model for BodyRef<'a> {
 }
 
 impl<'a> BodyRef<'a> {
-    /// Scans the body at the start of a text, and returns it with the rest. Does not allocate.
+    /// Scans the body at the start of a text, and returns it with the rest.
     #[inline(always)]
     pub fn scan(i: &'a str) -> Option<(BodyRef<'a>, &'a str)>
         ensures { option_map (λ r. (r.0, r.1.now)) result ≡ body_front i.now }
@@ -148,7 +146,7 @@ impl<'a> BodyRef<'a> {
         Some((BodyRef { list }, rest))
     }
 
-    /// Returns the last part. Does not allocate.
+    /// Returns the last part.
     pub fn last(&self) -> LastRef<'a>
         ensures { plain_last_ref result ≡ self.now.1 }
     {

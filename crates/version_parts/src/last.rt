@@ -73,15 +73,15 @@ impl Last {
         self.lent().build(alloc)
     }
 
-    /// Returns the first number of a `Numeric`, `Rc` or `Post`, or None. Does not allocate.
+    /// Returns the first number of a `Numeric`, `Rc` or `Post`, or None.
     pub fn first_number(&self) -> Option<u32>
         ensures { result ≡ first_number (plain_last self.now) }
     {
         self.lent().first_number()
     }
 
-    /// Sets a piece to the bytes of the last part, as a part. Does not allocate.
-    #[tactic(auto, using(version_rules::proofs::lemmas::PartKey::plain_number))]
+    /// Sets a piece to the bytes of the last part, as a part.
+    #[tactic(auto, using(version_rules::proofs::lemmas::Key::plain_number))]
     pub fn set_piece<'a>(&'a self, piece: &mut PieceBytes<'a>)
         ensures { piece.new ≡ part_bytes (Some (part_key (last_text (plain_last self.now)))) }
     {
@@ -91,7 +91,7 @@ impl Last {
         }
     }
 
-    /// Returns the bytes of the printed text. Does not allocate.
+    /// Returns the bytes of the printed text.
     pub fn part_text(&self) -> PartText<'_>
         ensures { result ≡ last_text (plain_last self.now) }
     {
@@ -176,7 +176,7 @@ impl Hash for Last {
     }
 }
 
-/// Compares by the printed texts as parts, then field by field. Does not allocate.
+/// Compares by the printed texts as parts, then field by field.
 impl Ord for Last {
     ghost cmp = { on plain_last last_cmp };
 
@@ -233,8 +233,8 @@ pub enum LastRef<'a> {
 }
 
 impl<'a> LastRef<'a> {
-    /// Scans the part at the start of a text, and returns it as a last part with the rest. Does not allocate.
-    #[tactic(auto, using(crate::proofs::lemmas::Chunk::ShortRuns::classes_with_digits))]
+    /// Scans the part at the start of a text, and returns it as a last part with the rest.
+    #[tactic(auto, using(crate::proofs::lemmas::Scans::classes_with_digits))]
     pub fn scan(i: &'a str) -> Option<(LastRef<'a>, &'a str)>
         ensures { option_map (λ r. (plain_last_ref r.0, r.1.now)) result
             ≡ map_value last_of (part_front i.now) }
@@ -283,7 +283,7 @@ impl<'a> LastRef<'a> {
         }
     }
 
-    /// Returns the first number of a `Numeric`, `Rc` or `Post`, or None. Does not allocate.
+    /// Returns the first number of a `Numeric`, `Rc` or `Post`, or None.
     pub fn first_number(self) -> Option<u32>
         ensures { result ≡ first_number (plain_last_ref self.entry) }
     {
@@ -295,7 +295,7 @@ impl<'a> LastRef<'a> {
         }
     }
 
-    /// Compares variants, then fields, in the order of their declaration. Does not allocate.
+    /// Compares variants, then fields, in the order of their declaration.
     pub fn compare(self, other: LastRef<'_>) -> Ordering
         ensures { result ≡ last_plain_cmp (plain_last_ref self.entry) (plain_last_ref other.entry) }
     {

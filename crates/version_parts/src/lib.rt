@@ -1,5 +1,5 @@
 //! The parts of version numbers: chunks, releases and build metadata. Says how they parse, print and compare, and by
-//! which bytes they compare in keys.
+//! which bytes they compare in keys. A call whose comment doesn't speak of allocation allocates nothing.
 #![tactic(auto)]
 
 mod chunk;

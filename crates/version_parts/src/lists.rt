@@ -29,7 +29,7 @@ pub trait ListItem: Display + Drop {
         Self: Sized,
         ensures { IfOk result (λ copy. plain copy ≡ plain self.now) };
 
-    /// Compares two items field by field. Does not allocate.
+    /// Compares two items field by field.
     fn compare(&self, other: &Self) -> Ordering
         ensures { result ≡ plain_cmp (plain self.now) (plain other.now) };
 
@@ -66,7 +66,7 @@ pub fn copy_list<T: ListItem>(alloc: Global, items: &[T]) -> Result<Vec<T>, Allo
     Ok(copy)
 }
 
-/// Compares two lists item by item. A prefix comes before the longer list. Does not allocate.
+/// Compares two lists item by item. A prefix comes before the longer list.
 pub fn compare_lists<T: ListItem>(a: &[T], b: &[T]) -> Ordering
     ensures { result ≡ slice_cmp T.plain_cmp (map T.plain a.now) (map T.plain b.now) }
 {

@@ -7,7 +7,7 @@ ghost use Rattle.std.specs.Cmp.{eq_by_cmp_equiv, on_equiv, on_per, on_total, par
 ghost use Rattle.std.specs.Ordering.{as_partial_cmp, eq_by_cmp, on};
 ghost use Rattle.version_order.specs.texts.DigitRun.{is_digits};
 ghost use Rattle.version_order.specs.texts.Front.{dotted_front};
-ghost use Rattle.version_parts.specs.Front.{Reads};
+ghost use Rattle.version_parts.specs.Body.{Reads};
 ghost use Rattle.version_rules.specs.laws.Front.{mchunk_consumes};
 ghost use Rattle.version_rules.specs.grammar.MChunk.{chunk_before, digits_number, ends_chunk, mchunk_front, mchunk_plain_cmp, mchunk_rank, mchunk_text, mchunk_value, value_of_digits, value_of_revision, variant_of, PlainMChunk};
 ghost use Rattle.version_parts.specs.MChunk.{mchunk_fed, plain_mchunk, plain_mchunk_ref};
@@ -63,7 +63,7 @@ impl MChunk {
         }
     }
 
-    /// Returns the number of a `Digits`, or None. Does not allocate.
+    /// Returns the number of a `Digits`, or None.
     pub fn number(&self) -> Option<u32>
         ensures { result ≡ digits_number (plain_mchunk self.now) }
     {
@@ -73,8 +73,7 @@ impl MChunk {
         }
     }
 
-    /// Returns whether the text is one digit or more, and nothing else. The number may be of any size. Does not
-    /// allocate.
+    /// Returns whether the text is one digit or more, and nothing else. The number may be of any size.
     pub fn is_digits(&self) -> bool
         ensures { result ≡ is_digits (mchunk_text (plain_mchunk self.now)) }
     {
@@ -170,7 +169,7 @@ impl Hash for MChunk {
     }
 }
 
-/// Compares by the texts as parts, then field by field. Does not allocate.
+/// Compares by the texts as parts, then field by field.
 impl Ord for MChunk {
     ghost cmp = { on plain_mchunk mchunk_cmp };
 
@@ -263,7 +262,7 @@ impl<'a> Model for SectionRef<'a> {
 }
 
 impl<'a> SectionRef<'a> {
-    /// Scans the section at the start of a text, and returns it with the rest. Does not allocate.
+    /// Scans the section at the start of a text, and returns it with the rest.
     pub fn scan(i: &'a str) -> Option<(SectionRef<'a>, &'a str)>
         ensures { option_map (λ r. (r.0, r.1.now)) result ≡ dotted_front mchunk_front i.now }
     {

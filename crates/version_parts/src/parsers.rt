@@ -1,7 +1,7 @@
 //! Parsers of numbers, runs and metadata. Each returns the value at the start of a text and the unread rest.
 
 ghost use Rattle.std.specs.Prelude.{string_bytes};
-ghost use Rattle.version_parts.specs.Front.{Reads};
+ghost use Rattle.version_parts.specs.Body.{Reads};
 ghost use Rattle.version_rules.specs.grammar.Release.{meta_front};
 
 use crate::scan;

@@ -7,9 +7,8 @@ ghost use Rattle.std.specs.Option.{option_map};
 ghost use Rattle.std.specs.Ordering.{as_partial_cmp, eq_by_cmp, on};
 ghost use Rattle.version_rules.specs.grammar.Chunk.{chunk_front, PlainChunk};
 ghost use Rattle.version_order.specs.texts.Front.{elements_at};
-ghost use Rattle.version_parts.specs.Front.{Reads};
+ghost use Rattle.version_parts.specs.Body.{Reads, plain_release, release_fed};
 ghost use Rattle.version_order.specs.keys.OrderLaws.{same_where_tied};
-ghost use Rattle.version_parts.specs.Release.{plain_release, release_fed};
 ghost use Rattle.version_rules.specs.grammar.Release.{release_front, release_text};
 ghost use Rattle.version_rules.specs.laws.Release.{release_total, releases_same};
 ghost use Rattle.version_rules.specs.order.Parts.{release_bytes, release_cmp};
@@ -42,7 +41,7 @@ impl Release {
         Ok(Some((piece.build(alloc)?, rest)))
     }
 
-    /// Returns the chunks as items of a key, and the end of their list. Does not allocate.
+    /// Returns the chunks as items of a key, and the end of their list.
     #[tactic(auto, using(version_order::proofs::lemmas::Codes::ended))]
     pub fn left(&self) -> ListLeft<'_, ReleaseChunk>
         ensures { result ≡ release_bytes (plain_release self.now) }
@@ -92,7 +91,7 @@ impl Hash for Release {
 }
 
 /// Compares chunk by chunk: numbers by value, numbers before texts, texts by bytes. A prefix comes before the longer
-/// release (SemVer 2.0, section 11). Does not allocate.
+/// release (SemVer 2.0, section 11).
 impl Ord for Release {
     ghost cmp = { on plain_release release_cmp };
 
@@ -132,7 +131,7 @@ impl<'a> Model for ReleaseRef<'a> {
 }
 
 impl<'a> ReleaseRef<'a> {
-    /// Scans the release at the start of a text, and returns it with the rest. Does not allocate.
+    /// Scans the release at the start of a text, and returns it with the rest.
     #[inline(always)]
     pub fn scan(i: &'a str) -> Option<(ReleaseRef<'a>, &'a str)>
         ensures { option_map (λ r. (r.0, r.1.now)) result ≡ release_front i.now }

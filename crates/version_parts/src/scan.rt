@@ -8,7 +8,7 @@ ghost use Rattle.std.specs.Str.Parse.{digits_value};
 ghost use Rattle.version_order.specs.texts.Bytes.{dot, is_identifier_byte};
 ghost use Rattle.version_order.specs.texts.Class.{contains, IsAsciiClass};
 ghost use Rattle.version_order.specs.texts.Front.{after_mark, behind, dotted_front, elements_at, run_front, Consumes, Front};
-ghost use Rattle.version_parts.specs.Front.{Reads};
+ghost use Rattle.version_parts.specs.Body.{Reads};
 ghost use Rattle.version_order.specs.keys.Lists.{split_last};
 ghost use Rattle.version_rules.specs.grammar.Release.{meta_front};
 ghost use Rattle.version_rules.specs.grammar.Numeral.{unsigned_front, SpellsNumeral};
@@ -65,7 +65,7 @@ pub fn after_mark(i: &str, mark: u8) -> Option<&str>
 
 /// Parses the number at the start of a text, and returns it with the rest. If the text begins with `0`, the number is
 /// 0, and the rest is all after that digit. Otherwise it is the longest run of digits. Returns None if there is no
-/// digit, or the value is above 4294967295. Does not allocate.
+/// digit, or the value is above 4294967295.
 #[inline(always)]
 pub fn unsigned(i: &str) -> Option<(u32, &str)>
     ensures { option_map (λ r. (r.0, r.1.now)) result ≡ unsigned_front i.now }
@@ -74,8 +74,7 @@ pub fn unsigned(i: &str) -> Option<(u32, &str)>
     Some((value_of_numeral(digits), rest))
 }
 
-/// Parses the number at the start of a text as [`unsigned`] does, and returns its digits with the rest. Does not
-/// allocate.
+/// Parses the number at the start of a text as [`unsigned`] does, and returns its digits with the rest.
 #[inline(always)]
 pub fn numeral(i: &str) -> Option<(&str, &str)>
     ensures read { option_map (λ r. (digits_value 10 r.0.now, r.1.now)) result
@@ -128,7 +127,7 @@ fn is_below_limit(digits: &str) -> bool
     value_of(digits).is_some()
 }
 
-/// Returns the value of a numeral. Does not allocate.
+/// Returns the value of a numeral.
 #[inline(always)]
 pub fn value_of_numeral(digits: &str) -> u32
     requires { SpellsNumeral digits.now (digits_value 10 digits.now) }
@@ -142,7 +141,6 @@ pub fn value_of_numeral(digits: &str) -> u32
 }
 
 /// Returns the longest run of letters and digits at the start of a text, and the rest, or None if the run is empty.
-/// Does not allocate.
 pub fn alphanums(i: &str) -> Option<(&str, &str)>
     ensures { option_map (λ r. (r.0.now, r.1.now)) result ≡ run_front is_ascii_alphanumeric i.now }
 {
@@ -150,7 +148,7 @@ pub fn alphanums(i: &str) -> Option<(&str, &str)>
 }
 
 /// Returns the longest run of letters, digits and hyphens at the start of a text, and the rest, or None if the run is
-/// empty. Does not allocate.
+/// empty.
 pub fn hyphenated_alphanums(i: &str) -> Option<(&str, &str)>
     ensures { option_map (λ r. (r.0.now, r.1.now)) result ≡ run_front is_identifier_byte i.now }
 {
@@ -177,7 +175,7 @@ pub fn metadata(i: &str) -> Option<(&str, &str)>
     nonempty_run(after_mark(i, b'+')?, Class::Metadata)
 }
 
-/// Scans the sign at the start of a text, and returns it with the rest, or None. Does not allocate.
+/// Scans the sign at the start of a text, and returns it with the rest, or None.
 pub fn sign(i: &str) -> Option<(Sep, &str)>
     ensures { option_map (λ r. (plain_sep r.0, r.1.now)) result ≡ sep_front i.now }
 {
@@ -201,7 +199,7 @@ pub trait Element {
 
     ghost owns: { Plain → Type 0 };
 
-    /// Returns the rest after the element at the start of a text, or None if no element parses. Does not allocate.
+    /// Returns the rest after the element at the start of a text, or None if no element parses.
     fn skip(i: &str) -> Option<&str>
         ensures { option_map (λ r. r.now) result ≡ option_map (λ p. p.1) (front i.now) };
 
@@ -227,7 +225,7 @@ pub struct Dotted<'a> {
 
 impl<'a> Dotted<'a> {
     /// Scans one element or more at the start of a text, with dots between, and returns the list with the rest. The
-    /// list ends before a dot that no element follows. Does not allocate.
+    /// list ends before a dot that no element follows.
     #[inline(always)]
     pub fn scan<E: Element>(i: &'a str) -> Option<(Dotted<'a>, &'a str)>
         ensures elements { option_map (λ r. (elements_at E.front r.0.text.now, r.1.now)) result

@@ -54,7 +54,7 @@ impl Sep {
         }
     }
 
-    /// Compares two signs in the order of their declaration. Does not allocate.
+    /// Compares two signs in the order of their declaration.
     pub fn compare_plain(self, other: Sep) -> Ordering
         ensures { result ≡ sep_plain_cmp (plain_sep self) (plain_sep other) }
     {

@@ -3,11 +3,8 @@ pub mod Ends
 pub mod Excluding
 pub mod Form
 pub mod Members
-pub mod Merge
 pub mod Pieces
 pub mod Pile
 pub mod Reader
-pub mod Start
 pub mod Steps
 pub mod Whole
-pub mod Written

@@ -2,7 +2,7 @@
 use Rattle.std.specs.Prelude.{◌≡◌, ◌+◌, ◌≤◌, ⊤, ℕ, suc, List, [], ◌∷◌, if◌then◌else◌, length, Option, Some, None}
 use Rattle.version_order.specs.declared.facts.Operators.{Operators}
 use Rattle.version_order.specs.Keyed.{PlainKeyed}
-use Rattle.version_sets.specs.Ends.{has}
+use Rattle.version_sets.specs.Form.{has}
 use Rattle.version_sets.specs.Pieces.{pieces}
 use Rattle.version_sets.specs.Reading.{Member, Reading, Right, pieces_room, read_pieces}
 use Rattle.version_sets.specs.declared.read.excluding.Span.{Span}

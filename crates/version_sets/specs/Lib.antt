@@ -1,17 +1,10 @@
 pub mod Comparison
-pub mod Ends
 pub mod Excluding
 pub mod Form
-pub mod Intervals
-pub mod Members
-pub mod Merge
 pub mod Pieces
 pub mod Pile
 pub mod Reader
 pub mod Reading
-pub mod Reason
 pub mod Set
 pub mod Slips
-pub mod Start
 pub mod Steps
-pub mod Whole

@@ -1,7 +1,15 @@
 -- The pieces of a text: commas, bars, and the words between these and blanks.
-use Rattle.std.specs.Prelude.{◌==◌, ◌&&◌, ◌||◌, ℕ, suc, Bool, true, false, not, List, [], ◌∷◌, if◌then◌else◌, length}
+use Rattle.std.specs.Prelude.{◌+◌, ℕ, List, length, ◌==◌, ◌&&◌, ◌||◌, suc, Bool, true, false, not, [], ◌∷◌, if◌then◌else◌}
+use Rattle.version_order.specs.keys.Sinks.{put_at, saturated}
+use Rattle.version_sets.specs.declared.start.Start.{Start}
 use Rattle.version_sets.specs.declared.read.pieces.Piece.{Piece as Borrowed}
 use Rattle.version_sets.specs.declared.read.pieces.Piece.TheVariants as borrowed
+
+-- ---- the first bytes of what is written
+
+-- what bytes there are after more, and how many were written
+abbrev pub start_with : Start → List ℕ → List ℕ × ℕ
+start_with start more = (put_at start.bytes start.end more, saturated (start.end + length more))
 
 -- a comma, two bars, one bar, or a word
 pub data PlainPiece : Type 0 where

@@ -1,8 +1,7 @@
 -- A set while it is read: what has come of it, and what is to come.
 use Rattle.std.specs.Prelude.{◌≡◌, ◌<◌, ◌&&◌, ◌||◌, ℕ, Bool, List, [], ◌∷◌, length, take}
 use Rattle.std.specs.List.{list_all}
-use Rattle.version_sets.specs.Ends.{Rise, has}
-use Rattle.version_sets.specs.Form.{form_bytes}
+use Rattle.version_sets.specs.Form.{Rise, has, form_bytes}
 use Rattle.version_sets.specs.Pile.{IsPile, all_have, through}
 use Rattle.version_sets.specs.Reading.{Member, Reading, Right, Wrong, set_has}
 use Rattle.version_sets.specs.declared.merge.Rule.TheVariants.{Both, Either}

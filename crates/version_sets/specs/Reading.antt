@@ -7,7 +7,7 @@ use Rattle.version_sets.specs.declared.read.slip.Slip.{Slip as Slips}
 use Rattle.version_order.specs.declared.facts.Operators.{Operators}
 use Rattle.version_order.specs.Keyed.{PlainKeyed}
 use Rattle.version_sets.specs.Comparison.{asks_bare, asks_doubled, asks_parts, before_star, ends_with, has_doubled, has_parts, starred}
-use Rattle.version_sets.specs.Ends.{has}
+use Rattle.version_sets.specs.Form.{has}
 use Rattle.version_sets.specs.Pieces.{PlainPiece, Word, pieces}
 use Rattle.version_sets.specs.Slips.{slip_of}
 use Rattle.version_sets.specs.Steps.{PlainStep, All, Asks, Closes, Fault, Goes, step, unfinished}

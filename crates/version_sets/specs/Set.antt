@@ -1,12 +1,34 @@
 -- The ends that the bytes of a set hold, and those of what a rule makes of two sets.
-use Rattle.std.specs.Prelude.{◌+◌, ◌-◌, ◌&&◌, ◌||◌, ℕ, Bool, List, drop, length, not}
-use Rattle.version_sets.specs.Form.{ends_in}
-use Rattle.version_sets.specs.Merge.{merged}
+use Rattle.std.specs.Prelude.{ℕ, List, codes, ◌+◌, ◌-◌, ◌&&◌, ◌||◌, Bool, drop, length, not, ◌≡◌, true, ◌∷◌, Option, Some, None}
+use Rattle.version_sets.specs.declared.read.slip.Slip.TheVariants.{LetterV, NoDigit, PartX}
+use Rattle.version_sets.specs.declared.read.fault.Reason.{Reason}
+use Rattle.version_sets.specs.declared.read.fault.Reason.TheVariants.{NoMember, NoOperator, NoParts, NoVersion, NotBare, NotDoubled, NotVersion, OneBar, Slip, StarBehind}
+use Rattle.version_sets.specs.Form.{ends_in, number, places, Rise}
+use Rattle.version_sets.specs.Pile.{merged}
 use Rattle.version_sets.specs.declared.form.Form.{Form}
 use Rattle.version_sets.specs.declared.merge.Merge.{Merge}
 use Rattle.version_sets.specs.declared.merge.Rule.{Rule}
 use Rattle.version_sets.specs.declared.merge.Rule.TheVariants.{Both, Either, FirstAlone}
 use Rattle.version_sets.specs.declared.merge.Side.{Side}
+use Rattle.std.specs.List.{concat, flat_map}
+use Rattle.std.specs.Ordering.{is_lt}
+use Rattle.version_order.specs.keys.Lists.{bytes_cmp}
+
+-- ---- what is said of a text that is no set
+
+abbrev pub reason_text : Reason → List ℕ
+reason_text NoMember = codes "a member is missing: * has all versions"
+reason_text NoVersion = codes "a version is missing behind the operator"
+reason_text NoOperator = codes "an operator is missing before the version: = for it alone, >= for it and all later"
+reason_text OneBar = codes "one bar stands alone: write || between alternatives"
+reason_text NotVersion = codes "what follows the operator is not a version"
+reason_text StarBehind = codes ".* stands after =, == and != alone: cut it off"
+reason_text NotBare = codes ".* stands behind an epoch and parts alone: cut off what follows these"
+reason_text NoParts = codes "versions of this scheme have no parts, which ~, ^ and .* ask for"
+reason_text NotDoubled = codes "<< and >> are for Debian's versions alone: write < or >"
+reason_text (Slip LetterV) = codes "the version begins with v: cut it off"
+reason_text (Slip PartX) = codes "the version has a part x: write >=1 <2, or =1.* where versions have parts"
+reason_text (Slip NoDigit) = codes "the version has no digit"
 
 -- the ends of a set, as its bytes are read
 abbrev pub ends_of : Form → List (List ℕ)
@@ -45,3 +67,22 @@ both_ends merge = length (ends_of merge.one.set) + length (ends_of merge.other.s
 -- how many ends of both are left
 abbrev pub merge_left : Merge → ℕ
 merge_left merge = ends_left merge.one + ends_left merge.other
+
+-- ---- the bytes of a set, read one end after another
+
+-- whether an end is above the last one, if there is one
+abbrev pub is_above : Option (List ℕ) → List ℕ → Bool
+is_above None end = true
+is_above (Some last) end = is_lt (bytes_cmp last end)
+
+-- ends rise, and above the last one
+abbrev pub RiseAbove : Option (List ℕ) → List (List ℕ) → Type 0
+RiseAbove None ends = Rise ends
+RiseAbove (Some last) ends = Rise (last ∷ ends)
+
+-- What is left of the bytes of a set, behind so many bytes of ends, the last of which is told: where each
+-- further end is over, and these.
+pub record AreLeft (from : ℕ) (last : Option (List ℕ)) (row bytes : List ℕ) (ends : List (List ℕ)) : Type 0 where
+  pub row_is : row ≡ flat_map number (places from ends)
+  pub bytes_are : bytes ≡ concat ends
+  pub rise : RiseAbove last ends

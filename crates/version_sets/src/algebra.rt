@@ -1,7 +1,7 @@
 //! Whether two sets have anything in common, and whether one has all that the other has.
 
 ghost use Rattle.std.specs.Prelude.{◌≡◌, List, false, true, ℕ};
-ghost use Rattle.version_sets.specs.Ends.{has, Rise};
+ghost use Rattle.version_sets.specs.Form.{has, Rise};
 
 use crate::form::Form;
 use crate::merge::{Merge, Rule};
@@ -9,7 +9,7 @@ use crate::merge::{Merge, Rule};
 impl<'a> Form<'a> {
     ghost use Rattle.version_sets.specs.Set.{ends_of};
 
-    /// Returns whether another set has all keys that it has. Does not allocate.
+    /// Returns whether another set has all keys that it has.
     pub fn is_part_of(&self, other: &Form<'_>) -> bool
         ensures yes { result ≡ true → Rise (ends_of self.now) → Rise (ends_of other.now) → (key : List ℕ)
             → has (ends_of self.now) key ≡ true → has (ends_of other.now) key ≡ true }
@@ -19,7 +19,7 @@ impl<'a> Form<'a> {
         Merge::of(Rule::FirstAlone, *self, *other).is_empty()
     }
 
-    /// Returns whether a key is in both. Does not allocate.
+    /// Returns whether a key is in both.
     pub fn meets(&self, other: &Form<'_>) -> bool
         ensures yes { result ≡ true → Rise (ends_of self.now) → Rise (ends_of other.now) → (key : List ℕ)
             × (has (ends_of self.now) key ≡ true) × (has (ends_of other.now) key ≡ true) }

@@ -22,7 +22,7 @@ pub struct Form<'a> {
 impl<'a> Form<'a> {
     ghost use Rattle.version_sets.specs.Set.{ends_of};
 
-    /// Reads a set, with the number of its order. None where the bytes end too early. Does not allocate.
+    /// Reads a set, with the number of its order. None where the bytes end too early.
     pub fn of(bytes: &'a [u8]) -> Option<(u8, Form<'a>)>
         ensures form { (order : ℕ) (ends : List (List ℕ)) → bytes.now ≡ form_bytes order ends
             → IsSomeAnd result (λ set. (set.0 ≡ order) × (ends_of set.1 ≡ ends)) }
@@ -48,7 +48,7 @@ impl<'a> Form<'a> {
         ))
     }
 
-    /// Returns how many ends it has. Does not allocate.
+    /// Returns how many ends it has.
     pub fn count(&self) -> usize
         ensures { result ≡ length (ends_of self.now) }
     {
@@ -62,7 +62,7 @@ impl<'a> Form<'a> {
         self.numbers.len()
     }
 
-    /// Returns the set that has all keys. Does not allocate.
+    /// Returns the set that has all keys.
     pub fn all() -> Form<'static>
         ensures { ends_of result ≡ [] ∷ [] }
     {
@@ -73,14 +73,14 @@ impl<'a> Form<'a> {
         }
     }
 
-    /// Returns where the bytes of its ends begin among those of the set. Does not allocate.
+    /// Returns where the bytes of its ends begin among those of the set.
     pub fn start(&self) -> usize
         ensures { result ≡ 9 + 8 * self.now.count }
     {
         9 + self.numbers.len()
     }
 
-    /// Returns the end at a place, or None where it has fewer. Does not allocate.
+    /// Returns the end at a place, or None where it has fewer.
     pub fn end(&self, place: usize) -> Option<&'a [u8]>
         ensures some { IfSome result
             (λ end. drop place (ends_of self.now) ≡ end.now ∷ drop (place + 1) (ends_of self.now)) }

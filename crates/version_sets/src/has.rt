@@ -2,7 +2,7 @@
 
 ghost use Rattle.std.specs.Prelude.{◌≡◌, List, ℕ};
 ghost use Rattle.version_order.specs.keys.Lists.{bytes_cmp};
-ghost use Rattle.version_sets.specs.Ends.{has, Rise};
+ghost use Rattle.version_sets.specs.Form.{has, Rise};
 
 use crate::form::Form;
 use crate::start::Start;
@@ -50,7 +50,7 @@ impl<'a> Form<'a> {
     ghost use Rattle.version_sets.specs.Set.{ends_of};
 
     /// Returns whether the set has the key of a version: whether an odd number of its ends is not above the key. Reads as
-    /// many ends as the logarithm of their number. Does not allocate.
+    /// many ends as the logarithm of their number.
     pub fn has<'t, V: SchemeVersion<'t>>(&self, version: &V) -> bool
         ensures { Rise (ends_of self.now) → result ≡ has (ends_of self.now) (V.plain version.now).key }
     {

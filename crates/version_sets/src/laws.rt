@@ -6,11 +6,10 @@ ghost use Rattle.version_rules.specs.grammar.Versioning.{PlainVersioning};
 ghost use Rattle.version_rules.specs.key.Key.{key_of, precedence};
 ghost use Rattle.version_rules.specs.requirement.Range.{but_last_or_only, through_other};
 ghost use Rattle.version_sets.specs.Comparison.{ends_with};
-ghost use Rattle.version_sets.specs.Ends.{has, AreMerged, Rise};
+ghost use Rattle.version_sets.specs.Form.{has, AreMerged, Rise};
 ghost use Rattle.version_sets.specs.Excluding.{leave_out};
 ghost use Rattle.version_sets.specs.Reading.{set_has, Member};
-ghost use Rattle.version_sets.specs.Members.{AreByOrder, BeginsWith};
-ghost use Rattle.version_sets.specs.Merge.{merged};
+ghost use Rattle.version_sets.specs.Pile.{AreByOrder, BeginsWith, merged};
 ghost use Rattle.version_sets.specs.declared.read.comparison.Comparison.TheVariants.{Caret, NotPrefix, Prefix, Tilde};
 ghost use Rattle.version_texts.specs.Mixed.{mixed};
 

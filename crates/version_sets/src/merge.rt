@@ -109,9 +109,9 @@ pub struct Merge<'a> {
 
 impl<'a> Merge<'a> {
     ghost use Rattle.version_sets.specs.Set.{both_ends, by_rule, ends_of, has_here, left, merge_left};
-    ghost use Rattle.version_sets.specs.Merge.{kept, merged};
+    ghost use Rattle.version_sets.specs.Pile.{kept, merged};
 
-    /// Begins what a rule makes of two sets. Does not allocate.
+    /// Begins what a rule makes of two sets.
     pub fn of(rule: Rule, one: Form<'a>, other: Form<'a>) -> Merge<'a>
         ensures left { left result
             ≡ merged (by_rule rule) false false (ends_of one.entry) (ends_of other.entry) }
@@ -124,7 +124,7 @@ impl<'a> Merge<'a> {
         }
     }
 
-    /// Returns the next end, or None if none is left. Does not allocate.
+    /// Returns the next end, or None if none is left.
     pub fn next(&mut self) -> Option<&'a [u8]>
         ensures some { IfSome result (λ end. left self.old ≡ end.now ∷ left self.new) }
         ensures none { IfNone result (left self.old ≡ []) }
@@ -140,7 +140,7 @@ impl<'a> Merge<'a> {
         }
     }
 
-    /// Returns whether no end is left. Does not allocate.
+    /// Returns whether no end is left.
     pub fn is_empty(mut self) -> bool
         ensures { result ≡ (length (left self.entry) == 0) }
     {

@@ -34,7 +34,6 @@ pub enum Unread {
 }
 
 /// Returns a size of room in which a set of an order is read from a text, whatever it is. It is linear in the text.
-/// Does not allocate.
 pub fn set_room<'t, V: SchemeVersion<'t>>(text: &[u8]) -> usize
     ensures { result ≡ saturated (set_room (key_room V.rules.facts) text.now) }
 {
@@ -68,7 +67,7 @@ pub(crate) fn piece_room<'t, V: SchemeVersion<'t>>(piece: Piece<'_>) -> usize
 /// A set is alternatives with `||` between them, and has what one of them has. An alternative is members with a comma,
 /// spaces or tabs between them, and has what all of them have. A member is `*`, which has all, or an operator and a
 /// version, or `=`, `==` or `!=` and a version with `.*` behind it (`Comparison`). Spaces and tabs may stand around
-/// each. Takes time linear in the text times the logarithm of the number of its members. Does not allocate.
+/// each. Takes time linear in the text times the logarithm of the number of its members.
 pub fn read_set<'t, V: SchemeVersion<'t>>(
     order: u8,
     text: &'t [u8],

@@ -17,7 +17,7 @@ pub(crate) struct Start {
 }
 
 impl Start {
-    ghost use Rattle.version_sets.specs.Start.{start_with};
+    ghost use Rattle.version_sets.specs.Pieces.{start_with};
 
     // Returns a sink that nothing is written to.
     #[inline(always)]
@@ -45,7 +45,7 @@ impl Start {
 }
 
 impl Sink for Start {
-    ghost use Rattle.version_sets.specs.Start.{start_with};
+    ghost use Rattle.version_sets.specs.Pieces.{start_with};
 
     ghost takes = { Leads start_with };
 

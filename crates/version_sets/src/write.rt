@@ -8,8 +8,7 @@ ghost use Rattle.version_order.specs.keys.Sinks.{put_at, saturated, IsWritten};
 
 use crate::merge::Merge;
 
-/// Writes what a rule makes of two sets into a buffer, if it fits there. Returns how many bytes it has. Does not
-/// allocate.
+/// Writes what a rule makes of two sets into a buffer, if it fits there. Returns how many bytes it has.
 pub fn write_merge(order: u8, merge: Merge<'_>, room: &mut [u8]) -> usize
     ensures bytes { IsWritten room.old 0 (form_bytes order (left merge.entry)) room.new }
     ensures length { result ≡ saturated (length (form_bytes order (left merge.entry))) }

@@ -1,10 +1,7 @@
-pub mod AfterSeparator
 pub mod Newest
 pub mod Next
 pub mod NextPre
-pub mod NextPreRef
 pub mod NextPreText
-pub mod NextRef
 pub mod NextText
 pub mod Stability
 pub mod Tag

@@ -1,5 +1,5 @@
 -- What comes next after a version at a place.
-use Rattle.std.specs.Prelude.{◌≡◌, ◌==◌, ◌^◌, ◌<◌, ℕ, suc, List, [], ◌∷◌, ◌++◌, drop, length, map, nat_lt, take, true, Option, Some, None}
+use Rattle.std.specs.Prelude.{◌≡◌, ◌==◌, ◌^◌, ◌<◌, ℕ, suc, List, [], ◌∷◌, ◌++◌, drop, length, map, nat_lt, take, true, Option, Some, None, if◌then◌else◌}
 use Rattle.std.specs.List.{list_all}
 use Rattle.std.specs.Option.{option_map}
 use Rattle.std.specs.declared.cmp.Ordering.TheVariants.{Less, Greater}
@@ -7,6 +7,11 @@ use Rattle.version_rules.specs.grammar.Chunk.{number_of}
 use Rattle.version_rules.specs.key.Key.{key_of, precedence, versioning_epoch}
 use Rattle.version_rules.specs.grammar.Versioning.{versioning_kind, PlainVersioning, Ideal, General, Complex}
 use Rattle.version_rules.specs.grammar.Last.{PlainLast, Numeric, Rc, Post, Alphanum}
+use Rattle.version_rules.specs.grammar.Versioning.{PlainVersioning, Ideal, General, Complex}
+use Rattle.version_tasks.specs.NextText.{next_text}
+use Rattle.version_tasks.specs.declared.next.text.Next.{Next}
+use Rattle.version_texts.specs.versioning_ref.VersioningRef.{version_in}
+use Rattle.version_tasks.specs.Tag.{is_point, is_separator}
 
 -- all of these numbers, if none is missing
 abbrev pub all_of : List (Option ℕ) → Option (List ℕ)
@@ -83,3 +88,17 @@ abbrev pub last_place : PlainVersioning → ℕ
 last_place (Ideal v) = 2
 last_place (General v) = length v.chunks
 last_place (Complex m) = 0
+
+-- ---- the version that a next one is
+
+-- the version that it is
+abbrev pub plain_next : Next → PlainVersioning
+plain_next next = version_in (next_text next.epoch.now next.front.now next.number next.zeros)
+
+-- ---- how a tag is read: from each separator to the next
+
+-- what follows the first separator of a text, unless a dot between two digits stands before it
+abbrev pub after_separator : List ℕ → Option (List ℕ)
+after_separator [] = None
+after_separator (b ∷ text) =
+    if is_separator b then Some text else (if is_point (b ∷ text) 0 then None else after_separator text)

@@ -5,6 +5,8 @@ use Rattle.version_rules.specs.grammar.Release.{SpellsRelease}
 use Rattle.version_rules.specs.grammar.SemVer.{PlainSemVer}
 use Rattle.version_rules.specs.grammar.Versioning.{PlainVersioning, Ideal}
 use Rattle.version_tasks.specs.Next.{IsLeastAfter, NoneAfter}
+use Rattle.version_tasks.specs.NextPreText.{pre_version}
+use Rattle.version_tasks.specs.declared.pre.text.NextPre.{NextPre}
 
 -- the chunks of a word; without a word, those of a pre-release before its last one, a number
 abbrev pub AreNamed : Option (List ℕ) → Option (List PlainChunk) → List PlainChunk → Type 0
@@ -37,3 +39,10 @@ IsNextPre v word = IsLeastAfter v (IsOfPreForm v word)
 
 abbrev pub NoNextPre : PlainVersioning → Option (List ℕ) → Type 0
 NoNextPre v word = NoneAfter v (IsOfPreForm v word)
+
+-- ---- the version that comes next among pre-releases
+
+-- the version that it is
+abbrev pub plain_next_pre : NextPre → PlainVersioning
+plain_next_pre next =
+    Ideal (pre_version next.major next.minor next.patch next.word.now next.number)

@@ -48,7 +48,7 @@ pub struct Wanted<'a> {
 }
 
 impl<'a> Wanted<'a> {
-    /// Returns the version of a text, or None if it has none that is wanted. Does not allocate.
+    /// Returns the version of a text, or None if it has none that is wanted.
     pub fn version<'t>(&self, text: &'t [u8]) -> Option<VersioningRef<'t>>
         ensures some { IfSome result
             (λ version. IsWanted self.now text.now (plain_versioning_ref version)) }
@@ -123,7 +123,7 @@ impl<'a> Candidates for Texts<'a> {
 }
 
 /// Returns the newest of several versions and its place: the first that no other comes after in the order. None if all
-/// are passed over. Each is read once. Does not allocate.
+/// are passed over. Each is read once.
 pub fn newest_of<C: Candidates>(candidates: &C) -> Option<(usize, VersioningRef<'_>)>
     ensures some { IfSome result
         (λ newest. IsNewest (C.has candidates.now) (C.length candidates.now) newest.0

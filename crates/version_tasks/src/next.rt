@@ -3,11 +3,9 @@
 ghost use Rattle.std.specs.Prelude.{◌≡◌, ◌≤◌, ◌&&◌, ◌^◌, if◌then◌else◌, length, suc, IfNone, IfSome, Some};
 ghost use Rattle.std.specs.List.{list_all};
 ghost use Rattle.version_rules.specs.grammar.Versioning.{is_prerelease, versioning_of, versioning_text};
-ghost use Rattle.version_tasks.specs.Next.{IsNext, NoNext, last_place};
-ghost use Rattle.version_tasks.specs.NextRef.{plain_next};
+ghost use Rattle.version_tasks.specs.Next.{IsNext, NoNext, last_place, plain_next};
 ghost use Rattle.version_tasks.specs.NextText.{is_zero};
-ghost use Rattle.version_order.specs.texts.Pieces.{further_pieces, is_dot};
-ghost use Rattle.version_order.specs.texts.Pieces.{pieces};
+ghost use Rattle.version_order.specs.texts.Pieces.{further_pieces, is_dot, pieces};
 ghost use Rattle.version_texts.specs.scan.TextKind.{is_numeral};
 ghost use Rattle.version_texts.specs.versioning_ref.VersioningRef.{plain_versioning_ref};
 
@@ -20,7 +18,7 @@ use version_texts::{VersioningRef, from_piece, numeral_value, spells_numeral};
 /// Returns the version that comes next after another at a place, counted from 0: the least one after it of the same kind
 /// and epoch, with as many numbers, the same ones before the place and zeros after it, and without pre-release, release
 /// and metadata. Returns None if that would take a number past 4294967295, if the version does not have so many parts,
-/// if one of its parts is not a number, or if it is messy. Does not allocate.
+/// if one of its parts is not a number, or if it is messy.
 ///
 /// | version | 0 | 1 | 2 |
 /// |---|---|---|---|
@@ -52,7 +50,7 @@ pub fn next_of<'a>(version: &VersioningRef<'a>, place: usize) -> Option<Next<'a>
 }
 
 /// Returns the version that comes next after another at the last place of its numbers, as `next_of` has it: the release
-/// that a pre-release precedes, or the one after a release. Returns None where `next_of` does. Does not allocate.
+/// that a pre-release precedes, or the one after a release. Returns None where `next_of` does.
 ///
 /// | version | next release |
 /// |---|---|

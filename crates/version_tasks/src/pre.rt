@@ -9,8 +9,7 @@ ghost use Rattle.version_rules.specs.grammar.Chunk.{Numeric, PlainChunk};
 ghost use Rattle.version_order.specs.texts.Front.{begins, is_run};
 ghost use Rattle.version_rules.specs.grammar.Versioning.{is_prerelease, versioning_of, versioning_text};
 ghost use Rattle.version_rules.specs.order.Parts.{release_cmp};
-ghost use Rattle.version_tasks.specs.NextPre.{AreNamed, IsNextPre, NoNextPre};
-ghost use Rattle.version_tasks.specs.NextPreRef.{plain_next_pre};
+ghost use Rattle.version_tasks.specs.NextPre.{AreNamed, IsNextPre, NoNextPre, plain_next_pre};
 ghost use Rattle.version_tasks.specs.NextPreText.{is_own, is_release, is_word, own_chunks, word_chunks, word_text, IsLeastNumber, IsPlace, NonePass};
 ghost use Rattle.version_texts.specs.key.TextKey.{chunks_of};
 ghost use Rattle.version_order.specs.texts.Pieces.{is_dot};
@@ -33,7 +32,7 @@ use version_texts::{VersioningRef, compare_releases, numeral_value, spells_numer
 /// minor numbers, a word and then one number from 1 on as pre-release, and without metadata. A word is one chunk or
 /// more, joined by dots. Without a word it is what stands before the last chunk of the version's own pre-release, if
 /// that chunk is a number. Returns None if the version isn't strict, if it has no such word, if the given word isn't
-/// such chunks, or if that would take a patch past 4294967295. Does not allocate.
+/// such chunks, or if that would take a patch past 4294967295.
 ///
 /// | version | word | next |
 /// |---|---|---|
@@ -82,6 +81,7 @@ fn pre_release<'a>(version: &VersioningRef<'a>) -> Option<&'a [u8]>
 }
 
 // The word that is given, if it is one, or without one what stands before the number of a pre-release.
+#[tactic(auto, using(crate::proofs::lemmas::NextPre::Read::chosen_spelled, crate::proofs::lemmas::NextPre::Read::not_chosen))]
 fn chosen_word<'a>(word: Option<&'a [u8]>, own: Option<&'a [u8]>) -> Option<&'a [u8]>
     requires { is_own (option_map (λ text. text.now) own) ≡ true }
     ensures word { IfSome result (λ chosen. is_word chosen.now ≡ true) }
@@ -211,6 +211,7 @@ fn is_chunk(text: &[u8]) -> bool
 }
 
 // Whether a text is letters, digits and hyphens, one or more.
+#[tactic(auto, using(version_order::proofs::lemmas::Runs::run_is))]
 fn is_identifier(text: &[u8]) -> bool
     ensures { result ≡ is_run is_identifier_byte text.now }
 {

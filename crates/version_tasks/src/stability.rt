@@ -41,7 +41,7 @@ pub enum Stability {
 /// Before `a`, `b` and `c` stand one to three digits, and after them one or two; after `m` one or more.
 /// Metadata of strict and general versions does not count. A strict version with a pre-release and none of these is
 /// alpha if the first chunk of the pre-release begins with a letter or a hyphen and isn't `r` and digits. Each other
-/// version is stable. Does not allocate.
+/// version is stable.
 pub fn stability_of(version: &VersioningRef<'_>) -> Stability
     ensures { result ≡ stability_of (plain_versioning_ref version.now) }
 {
@@ -53,6 +53,7 @@ pub fn stability_of(version: &VersioningRef<'_>) -> Stability
 }
 
 // The text of a version without metadata, which a messy version does not have.
+#[tactic(auto, using(crate::proofs::lemmas::Stability::before_metadata))]
 fn counted_text<'a>(version: &VersioningRef<'a>) -> &'a [u8]
     ensures { result.now ≡ counted_text (plain_versioning_ref version.now) }
 {
@@ -84,7 +85,7 @@ fn is_early(text: &[u8]) -> bool
 }
 
 /// Returns the lowest stability of the words of a text, and of its runs of letters and digits, as `stability_of` has
-/// them. Does not allocate.
+/// them.
 pub fn stability_of_text(text: &[u8]) -> Stability
     ensures { result ≡ of_text text.now }
 {

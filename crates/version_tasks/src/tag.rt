@@ -4,7 +4,7 @@ ghost use Rattle.std.specs.Prelude.{◌≡◌, ◌<◌, drop, length, Some, IfSo
 ghost use Rattle.std.specs.Option.{option_map};
 ghost use Rattle.version_rules.specs.grammar.Versioning.{versioning_text};
 ghost use Rattle.version_tasks.specs.Tag.{is_separator, text_after_prefix, text_at_beginning, text_in_tag, version_after_prefix, version_in_tag, without_v};
-ghost use Rattle.version_tasks.specs.AfterSeparator.{after_separator};
+ghost use Rattle.version_tasks.specs.Next.{after_separator};
 ghost use Rattle.version_texts.specs.versioning_ref.VersioningRef.{plain_versioning_ref};
 
 use version_order::{Class, begins_with};
@@ -13,8 +13,7 @@ use version_texts::VersioningRef;
 /// Returns the version in a tag, or in another name of a release. It begins at the first digit that stands at the
 /// beginning of the tag, or after a separator, or after one `v` or `V` that stands so; it is the rest of the tag from that
 /// digit on. A separator is any byte that is neither a letter, a digit nor a dot; each byte past ASCII is one. Returns None
-/// if there is no such digit, if a dot between two digits stands before it, or if the rest is no version. Does not
-/// allocate.
+/// if there is no such digit, if a dot between two digits stands before it, or if the rest is no version.
 ///
 /// | tag | version |
 /// |---|---|
@@ -32,7 +31,7 @@ pub fn version_in_tag(tag: &[u8]) -> Option<VersioningRef<'_>>
 
 /// Returns the version that follows a prefix in a tag: of `go1.20.3` with the prefix `go` it is `1.20.3`. It is the
 /// whole rest of the tag, without the one `v` or `V` that may stand before it. Returns None if the tag does not begin
-/// with the prefix, byte by byte, or if the rest is no version. Does not allocate.
+/// with the prefix, byte by byte, or if the rest is no version.
 pub fn version_after_prefix<'a>(prefix: &[u8], tag: &'a [u8]) -> Option<VersioningRef<'a>>
     ensures version { option_map plain_versioning_ref result
         ≡ version_after_prefix prefix.now tag.now }
@@ -43,7 +42,7 @@ pub fn version_after_prefix<'a>(prefix: &[u8], tag: &'a [u8]) -> Option<Versioni
 }
 
 /// Returns the text of the version after a prefix of a tag, as `version_after_prefix` finds it, whether it is a version
-/// or not. None if the tag does not begin with the prefix, or no digit follows. Does not allocate.
+/// or not. None if the tag does not begin with the prefix, or no digit follows.
 pub fn text_after_prefix<'a>(prefix: &[u8], tag: &'a [u8]) -> Option<&'a [u8]>
     ensures { option_map (λ text. text.now) result ≡ text_after_prefix prefix.now tag.now }
 {
@@ -51,7 +50,7 @@ pub fn text_after_prefix<'a>(prefix: &[u8], tag: &'a [u8]) -> Option<&'a [u8]>
 }
 
 /// Returns where the version in a tag begins, as `version_in_tag` finds it: at a place from which on the rest of the tag
-/// is the version. None if there is none. Does not allocate.
+/// is the version. None if there is none.
 pub fn start_in_tag(tag: &[u8]) -> Option<usize>
     ensures version { option_map (λ start. drop start tag.now) result
         ≡ option_map versioning_text (version_in_tag tag.now) }
@@ -63,7 +62,6 @@ pub fn start_in_tag(tag: &[u8]) -> Option<usize>
 }
 
 /// Returns where the version after a prefix of a tag begins, as `version_after_prefix` finds it. None if there is none.
-/// Does not allocate.
 pub fn start_after_prefix(prefix: &[u8], tag: &[u8]) -> Option<usize>
     ensures version { option_map (λ start. drop start tag.now) result
         ≡ option_map versioning_text (version_after_prefix prefix.now tag.now) }
@@ -76,7 +74,7 @@ pub fn start_after_prefix(prefix: &[u8], tag: &[u8]) -> Option<usize>
 }
 
 /// Returns the text of the version in a tag: its rest from the digit on where the version begins, as `version_in_tag`
-/// finds it, whether it is a version or not. None if there is no such digit. Does not allocate.
+/// finds it, whether it is a version or not. None if there is no such digit.
 pub fn text_in_tag(tag: &[u8]) -> Option<&[u8]>
     ensures { option_map (λ text. text.now) result ≡ text_in_tag tag.now }
 {

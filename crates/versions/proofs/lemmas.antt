@@ -1,7 +1,5 @@
 pub mod Conversions
 pub mod Errors
 pub mod Json
-pub mod KeyStream
+pub mod Keys
 pub mod Mess
-pub mod Range
-pub mod Tail

@@ -1,13 +1,9 @@
-pub mod BodyParts
 pub mod Errors
 pub mod Json
 pub mod KeyStream
+pub mod Laws
 pub mod Mess
-pub mod Range
-pub mod Requirement
 pub mod Requirements
 pub mod SemVer
-pub mod SemVerLaws
 pub mod Version
 pub mod Versioning
-pub mod VersioningLaws

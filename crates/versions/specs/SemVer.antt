@@ -5,7 +5,7 @@ use Rattle.std.specs.Option.{option_map}
 use Rattle.std.specs.Str.Parse.{digits_value}
 use Rattle.std.specs.String.{string_bytes}
 use Rattle.version_rules.specs.grammar.Numeral.{SpellsNumeral}
-use Rattle.version_parts.specs.Release.{plain_release, release_fed}
+use Rattle.version_parts.specs.Body.{plain_release, release_fed}
 use Rattle.versions.specs.declared.semver.SemVerRef.{SemVerRef}
 use Rattle.versions.specs.declared.semver.SemVer.{SemVer}
 use Rattle.versions.specs.declared.semver.SemVerText.{SemVerText}

@@ -1,15 +1,38 @@
 -- The general version that an owned or a scanned value holds, and what a hash is fed of it.
-use Rattle.std.specs.Prelude.{◌++◌}
+use Rattle.std.specs.Prelude.{List, [], ◌∷◌, ◌++◌, map}
+use Rattle.version_rules.specs.grammar.Chunk.{PlainChunk, chunk_text}
+use Rattle.version_parts.specs.Chunk.{plain_chunk}
+use Rattle.version_rules.specs.grammar.Last.{last_text}
+use Rattle.version_parts.specs.Last.{plain_last, last_fed}
+use Rattle.version_rules.specs.key.PartKey.{PartKey, chunk_parts, part_key}
+use Rattle.versions.specs.declared.parts.BodyParts.{BodyParts}
 use Rattle.std.specs.Hash.{HashWrites}
 use Rattle.std.specs.Option.{option_map}
 use Rattle.std.specs.String.{string_bytes}
-use Rattle.version_parts.specs.Body.{plain_chunks}
-use Rattle.version_parts.specs.Last.{last_fed, plain_last}
-use Rattle.version_parts.specs.Release.{plain_release, release_fed}
+use Rattle.version_parts.specs.Body.{plain_chunks, plain_release, release_fed}
 use Rattle.versions.specs.declared.version.VersionRef.{VersionRef}
 use Rattle.versions.specs.declared.version.Version.{Version}
 use Rattle.version_rules.specs.grammar.Version.{PlainVersion}
 use Rattle.std.specs.Hash as fed
+
+-- ---- the parts of a general version: those of its chunks, then its last part
+
+-- the first of chunks and a last part, and those after it
+abbrev pub first_of : List PlainChunk → PartKey → PartKey
+first_of [] last = last
+first_of (chunk ∷ chunks) last = part_key (chunk_text chunk)
+
+abbrev pub more_of : List PlainChunk → PartKey → List PartKey
+more_of [] last = []
+more_of (chunk ∷ chunks) last = chunk_parts chunks ++ last ∷ []
+
+abbrev pub first_part : BodyParts → PartKey
+first_part parts =
+    first_of (map plain_chunk parts.chunks.now) (part_key (last_text (plain_last parts.last.now)))
+
+abbrev pub more_parts : BodyParts → List PartKey
+more_parts parts =
+    more_of (map plain_chunk parts.chunks.now) (part_key (last_text (plain_last parts.last.now)))
 
 -- the version that a value holds
 abbrev pub plain_version : Version → PlainVersion

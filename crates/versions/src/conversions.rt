@@ -7,7 +7,7 @@ ghost use Rattle.version_parts.specs.Chunk.{plain_chunk};
 ghost use Rattle.version_parts.specs.Last.{plain_last};
 ghost use Rattle.version_parts.specs.MChunk.{plain_mchunk};
 ghost use Rattle.version_rules.specs.grammar.MChunk.{Plain};
-ghost use Rattle.version_parts.specs.Release.{plain_release};
+ghost use Rattle.version_parts.specs.Body.{plain_release};
 ghost use Rattle.version_rules.specs.grammar.Conversions.{behind_epoch, below_sections, digits_of_number, mchunk_of, mchunk_of_last, mess_of_semver, mess_of_version, meta_section, release_section, version_of_semver};
 ghost use Rattle.version_rules.specs.key.Key.{key_of_mess, key_of_semver, key_of_version, precedence};
 ghost use Rattle.version_rules.specs.grammar.Mess.{mess_text};

@@ -9,7 +9,7 @@ ghost use Rattle.version_parts.specs.MChunk.{plain_mchunk};
 ghost use Rattle.version_order.specs.keys.NumberBytes.{number_bytes};
 ghost use Rattle.version_rules.specs.key.PartKey.{parts_bytes};
 ghost use Rattle.version_parts.specs.Pieces.{IsNext};
-ghost use Rattle.version_parts.specs.Release.{plain_release};
+ghost use Rattle.version_parts.specs.Body.{plain_release};
 ghost use Rattle.version_rules.specs.order.Parts.{release_bytes};
 ghost use Rattle.version_rules.specs.key.Key.{key_of, key_of_mess, key_of_semver, key_of_version, key_with_epoch, section_epoch, sections_tail, strict_body, key_bytes};
 ghost use Rattle.versions.specs.KeyStream.{list_left, release_tail, tail_left};
@@ -43,7 +43,7 @@ const CAPACITY: usize = 32;
 
 /// The bytes of the key of a version that are still to come: of its epoch, of the parts of its body, and of its tail.
 /// They compare as the keys do, and `compare_bytes` compares two of them. Only the current piece is made; each further
-/// piece is made in turn, from a value or its text. Does not allocate. All bytes together take time linear in the
+/// piece is made in turn, from a value or its text. All bytes together take time linear in the
 /// version's text.
 #[derive(Drop)]
 pub struct KeyBytes<'a> {
@@ -75,7 +75,7 @@ impl<'a> KeyBytes<'a> {
     }
 
     // Returns the bytes of the key of a strict version.
-    #[tactic(auto, using(crate::proofs::lemmas::Tail::pre_release_written))]
+    #[tactic(auto, using(crate::proofs::lemmas::Keys::pre_release_written))]
     #[inline(always)]
     fn of_semver(ideal: &'a SemVer) -> KeyBytes<'a>
         ensures { result ≡ key_bytes (key_of_semver (plain_semver ideal.now)) }
@@ -85,7 +85,7 @@ impl<'a> KeyBytes<'a> {
     }
 
     // Returns the bytes of the key of a general version.
-    #[tactic(auto, using(crate::proofs::lemmas::Tail::release_written))]
+    #[tactic(auto, using(crate::proofs::lemmas::Keys::release_written))]
     #[inline(always)]
     pub(crate) fn of_version(general: &'a Version) -> KeyBytes<'a>
         ensures { result ≡ key_bytes (key_of_version (plain_version general.now)) }
@@ -314,7 +314,7 @@ pub(crate) fn key_list(alloc: Global, version: &Versioning) -> Result<Vec<u8>, A
 }
 
 /// Compares two keys byte by byte, as precedence compares their versions. It skips at once what both current pieces
-/// have in common, so it is faster than `compare_bytes`, which compares any two streams. Does not allocate.
+/// have in common, so it is faster than `compare_bytes`, which compares any two streams.
 #[inline(always)]
 pub fn compare_keys(mut a: KeyBytes<'_>, mut b: KeyBytes<'_>) -> Ordering
     ensures { result ≡ bytes_cmp a.entry b.entry }

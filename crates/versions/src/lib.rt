@@ -11,6 +11,8 @@
 //! In a JSON document a `Versioning` is a string, by `serialize_pretty` and `deserialize_pretty`; so are a
 //! `Requirement` and a `Requirements`, by `serialize` and `deserialize`. `SemVer`, `Version` and the parts of versions
 //! derive serde's forms.
+//!
+//! A call whose comment doesn't speak of allocation allocates nothing.
 #![tactic(auto)]
 
 mod asked;

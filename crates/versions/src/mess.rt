@@ -6,7 +6,7 @@ ghost use Rattle.std.proofs.Common.{ap};
 ghost use Rattle.std.specs.Cmp.{eq_by_cmp_equiv, on_equiv, on_per, partial_equiv_from_equiv};
 ghost use Rattle.std.specs.Ordering.{eq_by_cmp, on};
 ghost use Rattle.version_order.specs.texts.Front.{repeated};
-ghost use Rattle.version_parts.specs.Front.{Reads};
+ghost use Rattle.version_parts.specs.Body.{Reads};
 ghost use Rattle.version_order.specs.keys.OrderLaws.{same_where_tied};
 ghost use Rattle.versions.specs.Errors.{IllegalMess, ReadsOr};
 ghost use Rattle.version_rules.specs.grammar.Mess.{behind_colons, further_front, mess_front, mess_of, mess_plain_cmp, mess_text, nth_number, section_front};
@@ -46,7 +46,7 @@ impl Mess {
         }
     }
 
-    /// Returns whether the whole text parses as a messy version, so that `new` returns one. Does not allocate.
+    /// Returns whether the whole text parses as a messy version, so that `new` returns one.
     pub fn is_spelled_by(s: &str) -> bool
         ensures { result ≡ is_some (mess_of s.now) }
     {
@@ -75,7 +75,7 @@ impl Mess {
     }
 
     /// Returns the number of the chunk at `x`, counted from 0, in the first section that no colon follows, or None if
-    /// the chunk is not `Digits`. So an epoch is skipped. Does not allocate.
+    /// the chunk is not `Digits`. So an epoch is skipped.
     pub fn nth(&self, x: usize) -> Option<u32>
         ensures { result ≡ nth_number (plain_mess self.now) x }
     {
@@ -97,7 +97,7 @@ impl Mess {
         link(alloc, first, more)
     }
 
-    /// Returns the version without chunks and further sections. Does not allocate.
+    /// Returns the version without chunks and further sections.
     pub fn default_in(alloc: Global) -> Mess
         ensures { plain_mess result ≡ record { first = []; more = [] } }
     {
@@ -236,7 +236,7 @@ pub struct MessRef<'a> {
 
 impl<'a> MessRef<'a> {
     // Parses the whole text as a messy version.
-    #[tactic(auto, using(crate::proofs::lemmas::Mess::Scan::whole_mess))]
+    #[tactic(auto, using(crate::proofs::lemmas::Mess::whole_mess))]
     #[inline(always)]
     pub(crate) fn new(s: &'a str) -> Option<MessRef<'a>>
         ensures { option_map plain_mess_ref result ≡ mess_of s.now }

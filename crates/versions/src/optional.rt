@@ -6,7 +6,7 @@ ghost use Rattle.std.specs.Option.{option_map};
 ghost use Rattle.version_order.specs.texts.Bytes.{hyphen, plus};
 ghost use Rattle.version_order.specs.texts.Front.{optional};
 ghost use Rattle.version_rules.specs.grammar.Release.{meta_front, release_front, release_text};
-ghost use Rattle.version_parts.specs.Release.{plain_release};
+ghost use Rattle.version_parts.specs.Body.{plain_release};
 ghost use Rattle.version_rules.specs.grammar.SemVer.{optional_text};
 
 use std::alloc::{AllocError, Global};

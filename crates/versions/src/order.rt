@@ -24,8 +24,8 @@ use std::cmp::Ordering;
 
 impl Versioning {
     /// Compares two versions of any kind by their keys: the order of all versions (docs/ORDER.md). `Ord` breaks its
-    /// ties. Does not allocate.
-    #[tactic(auto, using(version_rules::proofs::lemmas::OrdersLaws::laws))]
+    /// ties.
+    #[tactic(auto, using(version_rules::proofs::lemmas::Order::laws))]
     pub fn precedence(&self, other: &Versioning) -> Ordering
         ensures keys { result ≡ precedence (key_of (plain_versioning self.now))
             (key_of (plain_versioning other.now)) }
@@ -39,7 +39,7 @@ impl Versioning {
         compare_keys(self.key_bytes(), other.key_bytes())
     }
 
-    /// Returns the bytes of its key, one after another. They compare as precedence does. Does not allocate.
+    /// Returns the bytes of its key, one after another. They compare as precedence does.
     #[inline(always)]
     pub fn key_bytes(&self) -> KeyBytes<'_>
         ensures { result ≡ key_bytes (key_of (plain_versioning self.now)) }
@@ -49,7 +49,7 @@ impl Versioning {
 
     /// Returns the bytes of its key as a list, for a database or a sort that knows nothing of versions. Two lists
     /// compare byte by byte, a prefix first, as the versions do in precedence. `Err` means allocation failure.
-    #[tactic(auto, using(version_rules::proofs::lemmas::OrdersLaws::laws))]
+    #[tactic(auto, using(version_rules::proofs::lemmas::Order::laws))]
     pub fn sort_key(&self, alloc: Global) -> Result<Vec<u8>, AllocError>
         ensures bytes { IfOk result (λ key. key.items
             ≡ key_bytes (key_of (plain_versioning self.now))) }
@@ -69,7 +69,7 @@ impl Versioning {
 }
 
 /// Compares by precedence. Breaks a tie by kind, strict before general before messy, then field by field, except
-/// metadata of strict versions. Does not allocate.
+/// metadata of strict versions.
 impl Ord for Versioning {
     ghost cmp = { on plain_versioning versioning_cmp };
 
@@ -98,7 +98,7 @@ impl PartialOrd for Versioning {
 
 impl Version {
     // Compares the keys of two versions.
-    #[tactic(auto, using(version_rules::proofs::lemmas::OrdersLaws::key_bytes_alone))]
+    #[tactic(auto, using(version_rules::proofs::lemmas::Order::key_bytes_alone))]
     fn compare_by_key(&self, other: &Version) -> Ordering
         ensures { result ≡ precedence (key_of_version (plain_version self.now))
             (key_of_version (plain_version other.now)) }
@@ -107,7 +107,7 @@ impl Version {
     }
 }
 
-/// Compares the keys; breaks a tie field by field, None before Some. Does not allocate.
+/// Compares the keys; breaks a tie field by field, None before Some.
 impl Ord for Version {
     ghost cmp = { on plain_version version_cmp };
 
@@ -134,7 +134,7 @@ impl PartialOrd for Version {
     }
 }
 
-/// Compares the keys; breaks a tie field by field, section by section. Does not allocate.
+/// Compares the keys; breaks a tie field by field, section by section.
 impl Ord for Mess {
     ghost cmp = { on plain_mess mess_cmp };
 
@@ -144,7 +144,7 @@ impl Ord for Mess {
 
     ghost matches_eq = { λ a b. mess_cmp_ties (plain_mess a) (plain_mess b) };
 
-    #[tactic(auto, using(version_rules::proofs::lemmas::OrdersLaws::key_bytes_alone))]
+    #[tactic(auto, using(version_rules::proofs::lemmas::Order::key_bytes_alone))]
     fn cmp(&self, other: &Mess) -> Ordering {
         compare_keys(KeyBytes::of_mess(self), KeyBytes::of_mess(other)).then_with(
             || self.compare_plain(other),

@@ -2,7 +2,7 @@
 
 ghost use Rattle.std.specs.Prelude.{◌≡◌};
 ghost use Rattle.version_rules.specs.key.PartKey.{part_key};
-ghost use Rattle.versions.specs.BodyParts.{first_part, more_parts};
+ghost use Rattle.versions.specs.Version.{first_part, more_parts};
 
 use std::cmp::Ordering;
 use version_parts::key::{PartText, compare_parts};
@@ -38,7 +38,7 @@ impl<'a> Parts for BodyParts<'a> {
         compare_parts(self.first(), other.first())
     }
 
-    #[tactic(auto, using(version_rules::proofs::lemmas::VersionMatch::zero_tied))]
+    #[tactic(auto, using(version_rules::proofs::lemmas::Matching::zero_tied))]
     fn begins_with_zero(self) -> bool {
         compare_parts(self.first(), PartText::number(0)).is_eq()
     }

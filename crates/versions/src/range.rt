@@ -6,7 +6,7 @@ ghost use Rattle.std.specs.declared.cmp.Ordering.TheVariants.{Less};
 ghost use Rattle.version_order.specs.keys.Lists.{bytes_cmp};
 ghost use Rattle.version_rules.specs.key.Key.{key_of, key_bytes};
 ghost use Rattle.version_rules.specs.requirement.Range.{common, earlier, earlier_high, everything, later, IsIn};
-ghost use Rattle.versions.specs.Range.{plain_range};
+ghost use Rattle.versions.specs.Requirements.{plain_range};
 ghost use Rattle.versions.specs.Versioning.{plain_versioning};
 
 pub(crate) mod build;
@@ -32,7 +32,7 @@ pub struct Range {
 }
 
 impl Range {
-    /// Returns the range of every version. Does not allocate.
+    /// Returns the range of every version.
     pub fn everything(alloc: Global) -> Range
         ensures { plain_range result ≡ everything }
     {
@@ -61,7 +61,6 @@ impl Range {
     }
 
     /// Returns whether a version is in the range: its key lies between the bounds, and its kind is one of the kinds.
-    /// Does not allocate.
     pub fn contains(&self, version: &Versioning) -> bool
         ensures { IsTrue result ↔ IsIn (plain_range self.now) (plain_versioning version.now) }
     {
@@ -71,7 +70,7 @@ impl Range {
     }
 
     /// Returns what is in both ranges: from the later low bound up to the earlier high one, of the kinds in both. It is
-    /// exact if both are. Does not allocate.
+    /// exact if both are.
     pub fn common(self, other: Range) -> Range
         ensures { plain_range result ≡ common (plain_range self) (plain_range other) }
     {

@@ -2,13 +2,12 @@
 
 ghost use Rattle.std.specs.Prelude.{◌≡◌, ◌↔◌, IfOk, IsSomeAnd, IsTrue, None, OnErr, Some};
 ghost use Rattle.std.specs.Option.{is_some, option_map};
-ghost use Rattle.version_parts.specs.Front.{Reads};
+ghost use Rattle.version_parts.specs.Body.{Reads};
 ghost use Rattle.versions.specs.Errors.{IllegalOp, ReadsOr};
 ghost use Rattle.version_rules.specs.requirement.Matching.{IsConvex, Matches};
-ghost use Rattle.versions.specs.Range.{plain_range};
+ghost use Rattle.versions.specs.Requirements.{plain_range, plain_requirement};
 ghost use Rattle.version_rules.specs.requirement.Range.{requirement_range, IsIn};
-ghost use Rattle.versions.specs.Requirement.{plain_requirement};
-ghost use Rattle.version_rules.specs.requirement.Requirement.{requirement_front, requirement_of, requirement_text, RequirementOwns, op_front};
+ghost use Rattle.version_rules.specs.requirement.Requirement.{requirement_front, requirement_of, requirement_text, RequirementOwns};
 ghost use Rattle.versions.specs.Versioning.{plain_versioning};
 ghost use Rattle.version_rules.specs.grammar.Versioning.{PlainVersioning};
 ghost use Rattle.version_rules.specs.declared.op.Op.TheVariants.{Wildcard};
@@ -54,7 +53,7 @@ impl Requirement {
         }
     }
 
-    /// Returns whether the whole text parses as a requirement, so that `new` returns one. Does not allocate.
+    /// Returns whether the whole text parses as a requirement, so that `new` returns one.
     pub fn is_spelled_by(s: &str) -> bool
         ensures { result ≡ is_some (requirement_of s.now) }
     {
@@ -109,8 +108,8 @@ impl Requirement {
     /// Returns whether the version matches. `=` compares by `==`, and `>`, `>=`, `<` and `<=` by precedence. `~` and
     /// `^` match by the rule of strict versions if both are strict, by that of general ones if both are general, else
     /// never. `*` matches every version, with or without a version of its own. Any other operator without a version
-    /// matches nothing. Does not allocate.
-    #[tactic(auto, using(version_rules::proofs::lemmas::Matching::Convex::requirement_convex))]
+    /// matches nothing.
+    #[tactic(auto, using(version_rules::proofs::lemmas::Matching::requirement_convex))]
     pub fn matches(&self, version: &Versioning) -> bool
         ensures set { IsTrue result
             ↔ Matches (plain_requirement self.now) (plain_versioning version.now) }
@@ -192,7 +191,7 @@ impl fmt::Display for Requirement {
 }
 
 // Parses a prefix as an operator; returns it and the rest.
-#[tactic(auto, unfolding(version_rules::specs::requirement::Op::op_front))]
+#[tactic(auto, unfolding(version_rules::specs::requirement::Requirement::op_front))]
 fn split_op(i: &str) -> Option<(Op, &str)>
     ensures { option_map (λ r. (r.0, r.1.now)) result ≡ op_front i.now }
 {

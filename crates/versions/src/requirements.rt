@@ -4,9 +4,8 @@ ghost use Rattle.std.specs.Prelude.{◌≡◌, ◌↔◌, IfOk, IsSome, IsTrue, 
 ghost use Rattle.std.specs.Option.{is_some, option_map};
 ghost use Rattle.versions.specs.Errors.{IllegalOp, ReadsOr};
 ghost use Rattle.version_rules.specs.requirement.Matching.{IsConvex, MatchesAll};
-ghost use Rattle.versions.specs.Range.{plain_range};
+ghost use Rattle.versions.specs.Requirements.{plain_range, plain_requirements};
 ghost use Rattle.version_rules.specs.requirement.Range.{range_of, IsIn};
-ghost use Rattle.versions.specs.Requirements.{plain_requirements};
 ghost use Rattle.version_rules.specs.requirement.Requirements.{requirements_of, requirements_text};
 ghost use Rattle.versions.specs.Versioning.{plain_versioning};
 ghost use Rattle.version_rules.specs.grammar.Versioning.{PlainVersioning};
@@ -39,7 +38,7 @@ impl Requirements {
         read_members(alloc, s)
     }
 
-    /// Returns whether the whole text parses as a list, so that `new` returns one. Does not allocate.
+    /// Returns whether the whole text parses as a list, so that `new` returns one.
     pub fn is_spelled_by(s: &str) -> bool
         ensures { result ≡ is_some (requirements_of s.now) }
     {
@@ -66,8 +65,8 @@ impl Requirements {
         Ok(Requirements(copy))
     }
 
-    /// Returns whether each member matches the version; an empty list matches every version. Does not allocate.
-    #[tactic(auto, using(version_rules::proofs::lemmas::Matching::Convex::requirements_convex))]
+    /// Returns whether each member matches the version; an empty list matches every version.
+    #[tactic(auto, using(version_rules::proofs::lemmas::Matching::requirements_convex))]
     pub fn matches(&self, version: &Versioning) -> bool
         ensures set { IsTrue result
             ↔ MatchesAll (plain_requirements self.now) (plain_versioning version.now) }

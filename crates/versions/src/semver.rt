@@ -4,12 +4,11 @@ ghost use Rattle.std.specs.Prelude.{◌≡◌, ◌↔◌, refl, IfOk, IfSome, Is
 ghost use Rattle.std.specs.Cmp.{eq_by_cmp_equiv, on_equiv, on_per, on_total, partial_equiv_from_equiv, po};
 ghost use Rattle.std.specs.Option.{is_some, option_map};
 ghost use Rattle.std.specs.Ordering.{as_partial_cmp, eq_by_cmp, on};
-ghost use Rattle.version_parts.specs.Front.{Reads};
-ghost use Rattle.version_parts.specs.Release.{plain_release};
+ghost use Rattle.version_parts.specs.Body.{Reads, plain_release};
 ghost use Rattle.version_order.specs.keys.Lists.{none_last_cmp};
 ghost use Rattle.version_rules.specs.order.Parts.{release_cmp};
 ghost use Rattle.versions.specs.Errors.{IllegalSemver, ReadsOr};
-ghost use Rattle.versions.specs.SemVerLaws.{fed_alike};
+ghost use Rattle.versions.specs.Laws.{fed_alike};
 ghost use Rattle.version_rules.specs.laws.Versioning.{semver_total};
 ghost use Rattle.version_rules.specs.requirement.SemVerMatch.{numbers, MatchesCaret, MatchesTilde};
 ghost use Rattle.version_rules.specs.order.Kinds.{semver_cmp};
@@ -57,7 +56,7 @@ impl SemVer {
         }
     }
 
-    /// Returns whether the whole text parses as a strict version, so that `new` returns one. Does not allocate.
+    /// Returns whether the whole text parses as a strict version, so that `new` returns one.
     pub fn is_spelled_by(s: &str) -> bool
         ensures { result ≡ is_some (semver_of s.now) }
     {
@@ -112,7 +111,7 @@ impl fmt::Display for SemVer {
 
 impl SemVer {
     /// Returns whether `~self` matches `other`: major and minor are equal, and the patch is not less. Pre-releases and
-    /// metadata do not count. Does not allocate.
+    /// metadata do not count.
     pub fn matches_tilde(&self, other: &SemVer) -> bool
         ensures { IsTrue result
             ↔ MatchesTilde (numbers (plain_semver self.now)) (numbers (plain_semver other.now)) }
@@ -121,7 +120,7 @@ impl SemVer {
     }
 
     /// Returns whether `^self` matches `other`. Leading numbers that are 0 in both are skipped; the next must be equal,
-    /// and those after it not less, compared in turn. Pre-releases and metadata do not count. Does not allocate.
+    /// and those after it not less, compared in turn. Pre-releases and metadata do not count.
     pub fn matches_caret(&self, other: &SemVer) -> bool
         ensures { IsTrue result
             ↔ MatchesCaret (numbers (plain_semver self.now)) (numbers (plain_semver other.now)) }
@@ -183,7 +182,7 @@ impl Hash for SemVer {
 }
 
 /// Compares major, minor and patch by value, then the pre-releases chunk by chunk (SemVer 2.0, section 11). No
-/// pre-release comes last. Metadata does not count. Does not allocate.
+/// pre-release comes last. Metadata does not count.
 impl Ord for SemVer {
     ghost cmp = { on plain_semver semver_cmp };
 

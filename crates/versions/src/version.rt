@@ -7,14 +7,13 @@ ghost use Rattle.std.specs.Option.{is_some, option_map};
 ghost use Rattle.std.specs.Ordering.{eq_by_cmp, on};
 ghost use Rattle.version_rules.specs.grammar.Body.{body_front};
 ghost use Rattle.version_order.specs.texts.Front.{optional};
-ghost use Rattle.version_parts.specs.Front.{Reads};
+ghost use Rattle.version_parts.specs.Body.{Reads};
 ghost use Rattle.version_rules.specs.grammar.Last as plain;
 ghost use Rattle.version_order.specs.keys.OrderLaws.{same_where_tied};
 ghost use Rattle.versions.specs.Errors.{IllegalVersion, ReadsOr};
-ghost use Rattle.versions.specs.BodyParts.{first_part, more_parts};
+ghost use Rattle.versions.specs.Version.{first_part, more_parts, plain_version_ref, plain_version, version_fed};
 ghost use Rattle.version_rules.specs.key.Key.{key_of_version};
 ghost use Rattle.version_rules.specs.grammar.Version.{epoch_front, version_front, version_nth, version_of, version_text, VersionOwns};
-ghost use Rattle.versions.specs.Version.{plain_version_ref, plain_version, version_fed};
 ghost use Rattle.version_rules.specs.laws.Versioning.{version_plain_total, versions_same};
 ghost use Rattle.version_rules.specs.requirement.VersionMatch.{epoch_and_parts, MatchesCaret, MatchesTilde};
 ghost use Rattle.version_rules.specs.order.Kinds.{version_plain_cmp};
@@ -65,7 +64,7 @@ impl Version {
         }
     }
 
-    /// Returns whether the whole text parses as a general version, so that `new` returns one. Does not allocate.
+    /// Returns whether the whole text parses as a general version, so that `new` returns one.
     pub fn is_spelled_by(s: &str) -> bool
         ensures { result ≡ is_some (version_of s.now) }
     {
@@ -94,7 +93,7 @@ impl Version {
         Ok(Some((version.build(alloc)?, rest)))
     }
 
-    /// Returns a version without epoch, chunks, release and metadata, whose last part is `0`. Does not allocate.
+    /// Returns a version without epoch, chunks, release and metadata, whose last part is `0`.
     pub fn default_in(alloc: Global) -> Version
         ensures { plain_version result
             ≡ record { epoch = None; chunks = []; last = plain.Numeric 0; release = None; meta = None } }
@@ -122,7 +121,7 @@ impl Version {
     }
 
     /// Returns the number at a place, counted from 0: of a chunk, or after the chunks the first number of the last
-    /// part. None for `Alphanum`, and after the end. Does not allocate.
+    /// part. None for `Alphanum`, and after the end.
     pub fn nth(&self, n: usize) -> Option<u32>
         ensures { result ≡ version_nth (plain_version self.now) n }
     {
@@ -164,7 +163,7 @@ impl fmt::Display for Version {
 
 impl Version {
     /// Returns whether `~self` matches `other`: the epochs are equal (no epoch is 0), and there are equally many parts,
-    /// all but the last the same and the last not before. Releases and metadata do not count. Does not allocate.
+    /// all but the last the same and the last not before. Releases and metadata do not count.
     pub fn matches_tilde(&self, other: &Version) -> bool
         ensures { IsTrue result
             ↔ MatchesTilde (epoch_and_parts (plain_version self.now))
@@ -176,7 +175,7 @@ impl Version {
 
     /// Returns whether `^self` matches `other`: the epochs are equal (no epoch is 0), and `other` has a part for each
     /// part of `self`. These are the same for the leading plain zeros of `self` and for its first other part; then they
-    /// are not before those of `self`. More parts may follow. Releases and metadata do not count. Does not allocate.
+    /// are not before those of `self`. More parts may follow. Releases and metadata do not count.
     pub fn matches_caret(&self, other: &Version) -> bool
         ensures { IsTrue result
             ↔ MatchesCaret (epoch_and_parts (plain_version self.now))

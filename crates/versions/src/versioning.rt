@@ -4,14 +4,15 @@ ghost use Rattle.std.specs.Prelude.{◌≡◌, IfOk, IsSomeAnd, None, OnErr, Som
 ghost use Rattle.std.specs.Cmp.{eq_by_cmp_equiv, on_equiv, on_per, partial_equiv_from_equiv};
 ghost use Rattle.std.specs.Option.{is_some, option_map};
 ghost use Rattle.std.specs.Ordering.{eq_by_cmp, on};
-ghost use Rattle.version_parts.specs.Front.{Reads};
+ghost use Rattle.version_parts.specs.Body.{Reads};
 ghost use Rattle.versions.specs.Errors.{IllegalVersioning, ReadsOr};
 ghost use Rattle.version_rules.specs.grammar.Versioning.{versioning_kind, is_complex, is_general, is_ideal, kind_rank, semver_nth, versioning_front, versioning_nth, versioning_of, versioning_plain_cmp, versioning_text, VersioningOwns};
 ghost use Rattle.versions.specs.SemVer.{plain_semver};
+ghost use Rattle.version_rules.specs.grammar.Versioning.{is_complex, is_general, is_ideal, kind_rank, semver_nth, versioning_front, versioning_nth, versioning_of, versioning_plain_cmp, versioning_text, VersioningOwns};
 ghost use Rattle.versions.specs.Versioning.{plain_versioning, versioning_fed, AnswersAlike};
 ghost use Rattle.version_rules.specs.grammar.Versioning as plain;
 ghost use Rattle.version_rules.specs.laws.Versioning.{versioning_plain_total};
-ghost use Rattle.versions.specs.VersioningLaws.{versions_fed_alike};
+ghost use Rattle.versions.specs.Laws.{versions_fed_alike};
 ghost use Rattle.version_texts.specs.versioning_ref.VersioningRef.{plain_versioning_ref};
 
 use crate::errors::{Error, ReadError};
@@ -59,7 +60,7 @@ impl Versioning {
         }
     }
 
-    /// Returns whether the whole text parses as a version of any kind, so that `new` returns one. Does not allocate.
+    /// Returns whether the whole text parses as a version of any kind, so that `new` returns one.
     pub fn is_spelled_by(s: &str) -> bool
         ensures { result ≡ is_some (versioning_of s.now) }
     {
@@ -123,28 +124,28 @@ impl Versioning {
         }
     }
 
-    /// Returns whether it is a strict version. Does not allocate.
+    /// Returns whether it is a strict version.
     pub fn is_ideal(&self) -> bool
         ensures { result ≡ is_ideal (plain_versioning self.now) }
     {
         matches!(self, Versioning::Ideal(_))
     }
 
-    /// Returns whether it is a general version. Does not allocate.
+    /// Returns whether it is a general version.
     pub fn is_general(&self) -> bool
         ensures { result ≡ is_general (plain_versioning self.now) }
     {
         matches!(self, Versioning::General(_))
     }
 
-    /// Returns whether it is a messy version. Does not allocate.
+    /// Returns whether it is a messy version.
     pub fn is_complex(&self) -> bool
         ensures { result ≡ is_complex (plain_versioning self.now) }
     {
         matches!(self, Versioning::Complex(_))
     }
 
-    /// Returns its kind. Does not allocate.
+    /// Returns its kind.
     pub fn kind(&self) -> Kind
         ensures { result ≡ versioning_kind (plain_versioning self.now) }
     {
@@ -156,7 +157,7 @@ impl Versioning {
     }
 
     /// Returns the number at a place, counted from 0: major, minor or patch of a strict version, or what `nth` of the
-    /// other kinds returns. Does not allocate.
+    /// other kinds returns.
     pub fn nth(&self, n: usize) -> Option<u32>
         ensures { result ≡ versioning_nth (plain_versioning self.now) n }
     {
@@ -167,7 +168,7 @@ impl Versioning {
         }
     }
 
-    /// Compares two versions by kind, then field by field. `Ord` breaks ties of precedence by this. Does not allocate.
+    /// Compares two versions by kind, then field by field. `Ord` breaks ties of precedence by this.
     pub fn compare_plain(&self, other: &Versioning) -> Ordering
         ensures { result ≡ versioning_plain_cmp (plain_versioning self.now)
             (plain_versioning other.now) }

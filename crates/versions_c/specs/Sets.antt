@@ -2,8 +2,7 @@
 use Rattle.std.specs.Prelude.{◌≡◌, ◌≢◌, ◌⊎◌, ◌<◌, ◌≤◌, ◌∷◌, ⊤, ℕ, ℤ, Bool, false, true, IsSome, List, Option, Some, None, length, slice_range}
 use Rattle.version_order.specs.Rules.{Rules}
 use Rattle.version_schemes.specs.declared.scheme.Scheme.{Scheme}
-use Rattle.version_sets.specs.Ends.{Rise, has}
-use Rattle.version_sets.specs.Form.{form_bytes}
+use Rattle.version_sets.specs.Form.{Rise, has, form_bytes}
 use Rattle.version_sets.specs.Reader.{IsWrittenSet}
 use Rattle.version_sets.specs.Reading.{Reading, Right, Wrong, fault_of, set_has}
 use Rattle.version_sets.specs.declared.read.fault.Reason.{Reason}

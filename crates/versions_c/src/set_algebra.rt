@@ -3,9 +3,7 @@
 ghost use Rattle.std.specs.Prelude.{◌≡◌, ◌≢◌, ◌⊎◌, Err, IfErr, IfOk, ◌+◌, ◌≤◌, ◌<◌, ◌&&◌, ◌||◌, List, not, length, slice_index, IfSome, MatchOption, Bool, false, ℕ};
 ghost use Rattle.std.specs.Result.{IsOkAnd};
 ghost use Rattle.version_schemes.specs.Scheme.{numbered, rules};
-ghost use Rattle.version_sets.specs.Ends.{has, IsPart, Meet, Rise};
-ghost use Rattle.version_sets.specs.Form.{ends_early, form_bytes};
-ghost use Rattle.version_sets.specs.Intervals.{interval_at, intervals};
+ghost use Rattle.version_sets.specs.Form.{has, IsPart, Meet, Rise, ends_early, form_bytes, interval_at, intervals};
 ghost use Rattle.version_sets.specs.Set.{by_rule, ends_of, left};
 ghost use Rattle.versions_c.specs.Offsets.{text_at, AreOffsets};
 ghost use Rattle.versions_c.specs.Ranges.{one_if};

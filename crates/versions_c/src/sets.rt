@@ -6,7 +6,7 @@ ghost use Rattle.version_schemes.specs.Scheme.{numbered, rules, scheme_number};
 ghost use Rattle.version_sets.specs.Comparison.{ends_with};
 ghost use Rattle.version_sets.specs.Form.{form_bytes};
 ghost use Rattle.version_sets.specs.Reading.{fault_of};
-ghost use Rattle.version_sets.specs.Reason.{reason_text};
+ghost use Rattle.version_sets.specs.Set.{reason_text};
 ghost use Rattle.version_sets.specs.declared.read.comparison.Comparison.TheVariants.{Equal};
 ghost use Rattle.version_order.specs.keys.Sinks.{saturated};
 ghost use Rattle.versions_c.specs.Schemes.{reading_by, room_by};

@@ -9,9 +9,8 @@ use Rattle.version_schemes.specs.any.Order.{PlainAny}
 use Rattle.version_schemes.specs.declared.scheme.Scheme.{Scheme}
 use Rattle.version_sets.proofs.lemmas.Ends.{at_first}
 use Rattle.version_sets.proofs.lemmas.Form.{holds_ends}
-use Rattle.version_sets.specs.Ends.{Rise, has}
+use Rattle.version_sets.specs.Form.{Rise, has, form_bytes, form_ends}
 use Rattle.version_sets.specs.Excluding.{AreLeft, leave_out}
-use Rattle.version_sets.specs.Form.{form_bytes, form_ends}
 use Rattle.version_sets.specs.Reader.{IsWrittenSet}
 use Rattle.version_sets.specs.Reading.{Member, Reading, Right, Wrong, set_has}
 use Rattle.version_sets.specs.declared.read.pieces.Pieces.{Pieces}

@@ -4,8 +4,7 @@ ghost use Rattle.std.specs.Prelude.{◌≡◌, ◌++◌, codes, List, OnOk, Some
 ghost use Rattle.version_answers.specs.Pieces.{Adds};
 ghost use Rattle.version_answers.specs.one.Why.{head_text, members_text, why_text, IsWhyLine};
 ghost use Rattle.version_sets.specs.Excluding.{leave_out};
-ghost use Rattle.version_sets.specs.Form.{between};
-ghost use Rattle.version_sets.specs.Ends.{has};
+ghost use Rattle.version_sets.specs.Form.{between, has};
 ghost use Rattle.version_answers.specs.Sets.{keys_of, set_of};
 ghost use Rattle.version_sets.specs.Reading.{Member};
 ghost use Rattle.version_schemes.specs.any.AnyVersion.{plain_any};

@@ -13,7 +13,7 @@ use Rattle.version_rules.specs.grammar.Versioning.{versioning_of}
 use Rattle.version_schemes.specs.any.Order.{PlainAny}
 use Rattle.version_schemes.specs.declared.scheme.Scheme.{Scheme}
 use Rattle.version_schemes.specs.declared.scheme.Scheme.TheVariants.{Mixed, SemVer}
-use Rattle.version_sets.specs.Ends.{has}
+use Rattle.version_sets.specs.Form.{has}
 use Rattle.version_tasks.specs.Stability.{of_text, rank, stability_of}
 use Rattle.version_tasks.specs.declared.stability.Stability.{Stability}
 

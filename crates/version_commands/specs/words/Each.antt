@@ -23,7 +23,7 @@ use Rattle.version_lines.specs.Lines.{lines_of, plain_end}
 use Rattle.version_schemes.specs.any.Order.{PlainAny}
 use Rattle.version_schemes.specs.declared.scheme.Scheme.{Scheme}
 use Rattle.version_schemes.specs.declared.scheme.Scheme.TheVariants.{Mixed}
-use Rattle.version_sets.specs.Ends.{has}
+use Rattle.version_sets.specs.Form.{has}
 use Rattle.version_rules.specs.grammar.Versioning.{PlainVersioning, versioning_of}
 
 -- by which scheme a question reads versions: only `key` and `why` may ask for another than mixed

@@ -11,7 +11,7 @@ ghost use Rattle.version_answers.specs.Tags.{begins_with_v, compare_otherwise, i
 ghost use Rattle.version_commands.specs.hints.Hint.{is_kept_otherwise};
 ghost use Rattle.version_commands.specs.hints.TaskHint.{IfTags, IsOfEach, MayTell};
 ghost use Rattle.version_answers.specs.declared.message.remark.Remark.{Remark};
-ghost use Rattle.version_sets.specs.Ends.{has};
+ghost use Rattle.version_sets.specs.Form.{has};
 
 use crate::faults::Fault;
 use crate::files::{Files, Hint};

@@ -160,7 +160,7 @@ fn passes(filter: &Option<Filter>, version: &AnyVersion<'_>) -> bool
 
 impl Chooses for Set {
     ghost use Rattle.version_commands.specs.lines.Choice.{is_of};
-    ghost use Rattle.version_sets.specs.Ends.{has};
+    ghost use Rattle.version_sets.specs.Form.{has};
 
     ghost keeps = { λ set. is_of (has set) };
 

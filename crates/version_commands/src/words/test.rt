@@ -6,7 +6,7 @@ ghost use Rattle.version_answers.specs.Tags.{is_bare, is_tested_otherwise};
 ghost use Rattle.version_commands.specs.hints.TaskHint.{HasOtherwise, IfTags, MayTell};
 ghost use Rattle.version_answers.specs.Spelling.{spelled};
 ghost use Rattle.version_commands.specs.words.Test.{answer_line, answer_of_set, answer_of_two, AreSetsSo};
-ghost use Rattle.version_sets.specs.Ends.{IsPart, Meet};
+ghost use Rattle.version_sets.specs.Form.{IsPart, Meet};
 
 use crate::faults::Fault;
 use crate::files::Files;

@@ -13,7 +13,7 @@ use std::cmp::Ordering;
 
 /// Compares two streams by the first byte at which they differ. A prefix comes before the longer stream. Takes bytes
 /// from both in turn, from `a` first, and none after the first difference, so the caller can continue with what is
-/// left. `a` must end; `b` need not. Does not allocate.
+/// left. `a` must end; `b` need not.
 pub fn compare_bytes<A: Iterator<Item = u8>, B: Iterator<Item = u8>>(
     a: &mut A,
     b: &mut B,
@@ -39,14 +39,14 @@ pub fn compare_bytes<A: Iterator<Item = u8>, B: Iterator<Item = u8>>(
     }
 }
 
-/// Compares two parts by their printed texts. Does not allocate.
+/// Compares two parts by their printed texts.
 pub fn compare_parts(a: PartText<'_>, b: PartText<'_>) -> Ordering
     ensures { result ≡ part_cmp (Some (part_key a.entry)) (Some (part_key b.entry)) }
 {
     compare_bytes(&mut PieceBytes::part(a), &mut PieceBytes::part(b))
 }
 
-/// Compares two lists of chunks as lists of parts. Does not allocate.
+/// Compares two lists of chunks as lists of parts.
 pub fn compare_part_lists(a: &[Chunk], b: &[Chunk]) -> Ordering
     ensures { result ≡ list_cmp (chunk_parts (map plain_chunk a.now))
         (chunk_parts (map plain_chunk b.now)) }

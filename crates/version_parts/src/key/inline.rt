@@ -126,7 +126,7 @@ impl InlineBytes {
     }
 
     // Puts the bytes of a number before the others.
-    #[tactic(auto, using(crate::proofs::lemmas::NumberBytes::Inline::number_put))]
+    #[tactic(auto, using(crate::proofs::lemmas::Keys::number_put))]
     #[inline(always)]
     fn put_number(&mut self, number: u32)
         requires { length self.old ≤ 2 }
@@ -142,7 +142,7 @@ impl InlineBytes {
     }
 
     // Puts a number in decimal before the others, and returns the count of its digits.
-    #[tactic(auto, using(crate::proofs::lemmas::NumberBytes::Inline::ten_digits))]
+    #[tactic(auto, using(crate::proofs::lemmas::Keys::ten_digits))]
     fn put_decimal(&mut self, number: u32) -> u8
         requires { length self.old ≤ 3 }
         ensures value { self.new ≡ decimal number ++ self.old }
@@ -155,7 +155,7 @@ impl InlineBytes {
     }
 
     // Removes from the start of both as many bytes as both have, if these bytes are the same.
-    #[tactic(auto, using(crate::proofs::lemmas::Compare::Past::past))]
+    #[tactic(auto, using(crate::proofs::lemmas::Compare::past))]
     #[inline(always)]
     pub(crate) fn pass_same(&mut self, other: &mut InlineBytes)
         ensures { GonePast self.old other.old self.new other.new }

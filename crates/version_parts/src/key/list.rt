@@ -39,7 +39,7 @@ pub trait Code: Element {
     ghost begins: { (key : Key) → ¬ (bytes (Some key) ≡ []) };
 }
 
-/// The remaining items of a list. Does not allocate.
+/// The remaining items of a list.
 #[derive(Drop)]
 pub struct ItemsLeft<'a, C: Code> {
     items: &'a [C::Item],
@@ -73,7 +73,7 @@ impl<'a, C: Code> ItemsLeft<'a, C> {
     }
 }
 
-/// What remains of a list: its items, and its end. Does not allocate.
+/// What remains of a list: its items, and its end.
 #[derive(Drop)]
 pub struct ListLeft<'a, C: Code> {
     items: ItemsLeft<'a, C>,
@@ -116,7 +116,7 @@ impl<'a, C: Code> ListLeft<'a, C> {
 
 impl<'a> ListLeft<'a, MessyChunk> {
     /// Returns the chunks of a messy section as parts, and the end of the list after them.
-    #[tactic(auto, using(crate::proofs::lemmas::PartKey::Lists::section_written))]
+    #[tactic(auto, using(crate::proofs::lemmas::Keys::section_written))]
     pub fn section(chunks: &'a [MChunk]) -> ListLeft<'a, MessyChunk>
         ensures { result ≡ parts_bytes (section_parts (map plain_mchunk chunks.now)) }
     {
@@ -124,8 +124,7 @@ impl<'a> ListLeft<'a, MessyChunk> {
     }
 }
 
-/// The remaining bytes of a list: those of the current item, and then those of what remains of the list. Does not
-/// allocate.
+/// The remaining bytes of a list: those of the current item, and then those of what remains of the list.
 #[derive(Drop)]
 pub struct ListBytes<'a, C: Code> {
     piece: PieceBytes<'a>,
@@ -173,7 +172,7 @@ impl<'a, C: Code> Iterator for ListBytes<'a, C> {
 
 impl<'a> ListBytes<'a, Part> {
     /// Returns the bytes of chunks as a list of parts.
-    #[tactic(auto, using(crate::proofs::lemmas::PartKey::Lists::parts_written))]
+    #[tactic(auto, using(crate::proofs::lemmas::Keys::parts_written))]
     pub fn parts(chunks: &'a [Chunk]) -> ListBytes<'a, Part>
         ensures { result ≡ parts_bytes (chunk_parts (map plain_chunk chunks.now)) }
     {

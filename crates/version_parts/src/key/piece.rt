@@ -19,7 +19,7 @@ use std::alloc::AllocError;
 use std::marker::Model;
 
 /// The remaining bytes of a part, of a number or of a text. The bytes of a number of 32 bits are computed at once, into
-/// a small array. A run of a text that stands unchanged in the key is borrowed. Does not allocate. Each run of digits
+/// a small array. A run of a text that stands unchanged in the key is borrowed. Each run of digits
 /// is counted once, so all bytes together take time linear in the text.
 #[derive(Drop)]
 pub struct PieceBytes<'a> {
@@ -184,7 +184,7 @@ impl<'a> PieceBytes<'a> {
     }
 
     // Sets the piece to the bytes of a chunk as a part.
-    #[tactic(auto, using(version_rules::proofs::lemmas::PartKey::plain_number))]
+    #[tactic(auto, using(version_rules::proofs::lemmas::Key::plain_number))]
     #[inline(always)]
     pub(crate) fn set_chunk_as_part(&mut self, chunk: ChunkRef<'a>)
         ensures { self.new ≡ part_bytes
@@ -196,7 +196,7 @@ impl<'a> PieceBytes<'a> {
         }
     }
 
-    /// Removes the same bytes from the start of both, perhaps not all that are the same. Does not allocate.
+    /// Removes the same bytes from the start of both, perhaps not all that are the same.
     #[inline(always)]
     pub fn pass_same(&mut self, other: &mut PieceBytes<'_>)
         ensures { GonePast self.old other.old self.new other.new }
@@ -280,7 +280,7 @@ const WINDOW: usize = 64;
 
 // Removes from the start of both runs as many bytes as both have, and at most a window of them, if these bytes are the
 // same.
-#[tactic(auto, using(crate::proofs::lemmas::Compare::Past::past))]
+#[tactic(auto, using(crate::proofs::lemmas::Compare::past))]
 #[inline(always)]
 fn pass_same_run(run: &mut &[u8], other: &mut &[u8])
     ensures { GonePast run.old.now other.old.now run.new.now other.new.now }

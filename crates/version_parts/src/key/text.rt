@@ -12,7 +12,7 @@ use std::marker::Model;
 use version_order::{Class, run_length};
 
 /// The remaining bytes of the printed text of a part: the digits of a number, a borrowed text, and the digits of a
-/// second number. Does not allocate.
+/// second number.
 #[derive(Drop)]
 pub struct PartText<'a> {
     before: InlineBytes,
@@ -94,7 +94,7 @@ impl<'a> PartText<'a> {
     }
 
     // The length of the run of digits that the text begins with.
-    #[tactic(auto, using(crate::proofs::lemmas::General::Runs::runs_of_two))]
+    #[tactic(auto, using(crate::proofs::lemmas::Scans::runs_of_two))]
     pub(crate) fn digit_count(&self) -> usize
         ensures { result ≡ prefix_len is_ascii_digit self.now }
     {

@@ -11,7 +11,7 @@ use Rattle.version_order.specs.declared.ends.Kept.{Kept}
 use Rattle.version_order.specs.keys.Lists.{bytes_cmp}
 use Rattle.version_order.specs.Keyed.{after, BeginsKey, PlainKeyed}
 use Rattle.version_sets.specs.Comparison.{asks_parts, before_star, ends_with, is_star}
-use Rattle.version_sets.specs.Ends.{Rise}
+use Rattle.version_sets.specs.Form.{Rise}
 use Rattle.version_sets.specs.declared.read.comparison.Comparison.{Comparison}
 use Rattle.version_order.specs.declared.ends.Kept.TheVariants as kept
 use Rattle.version_sets.specs.declared.read.comparison.Comparison.TheVariants as comparison

@@ -13,8 +13,8 @@ use Rattle.std.specs.declared.cmp.Ordering.{Ordering}
 use Rattle.std.specs.declared.cmp.Ordering.TheVariants.{Less, Equal, Greater}
 use Rattle.version_order.specs.keys.OrderLaws.{bytes_same}
 use Rattle.version_order.specs.keys.Lists.{bytes_cmp}
-use Rattle.version_sets.specs.Ends.{AreMerged, Rise, has}
-use Rattle.version_sets.specs.Merge.{kept, merged}
+use Rattle.version_sets.specs.Form.{AreMerged, Rise, has}
+use Rattle.version_sets.specs.Pile.{kept, merged}
 
 total : IsTotalOrder bytes_cmp
 total = nat_list_cmp_total

@@ -5,7 +5,7 @@ use Rattle.std.specs.Option.{is_some}
 use Rattle.version_order.specs.declared.facts.Operators.{Operators}
 use Rattle.version_order.specs.Keyed.{PlainKeyed}
 use Rattle.version_sets.specs.Comparison.{ends_with}
-use Rattle.version_sets.specs.Ends.{has}
+use Rattle.version_sets.specs.Form.{has}
 use Rattle.version_sets.specs.Excluding.{AreLeft, EndsAt, StandsBefore, first_out, found_or, leave_out, left_read, room_left, span_of, steps_left, with_found}
 use Rattle.version_sets.specs.Pieces.{pieces}
 use Rattle.version_sets.specs.Reading.{Asked, Member, Not, Reading, Right, With, Wrong, answered, pieces_room, set_has, with_member}

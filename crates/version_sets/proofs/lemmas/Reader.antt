@@ -3,8 +3,7 @@ use Rattle.std.proofs.Common.{◌≡◌, ◌∙◌, ◌+◌, ◌≤◌, ◌&&◌
 use Rattle.std.proofs.lemmas.List.{take-append-drop, take_at}
 use Rattle.std.specs.List.{list_all}
 use Rattle.version_order.specs.keys.Sinks.{put_at}
-use Rattle.version_sets.specs.Ends.{Rise, has}
-use Rattle.version_sets.specs.Form.{form_bytes}
+use Rattle.version_sets.specs.Form.{Rise, has, form_bytes}
 use Rattle.version_sets.specs.Pile.{IsPile, through}
 use Rattle.version_sets.specs.Reader.{Continues}
 use Rattle.version_sets.specs.Reading.{Member, Reading, Right, Wrong, next_alternative, set_has, with_member}

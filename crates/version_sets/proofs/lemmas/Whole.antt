@@ -10,9 +10,8 @@ use Rattle.std.specs.Ordering.{is_lt}
 use Rattle.std.specs.declared.cmp.Ordering.{Ordering}
 use Rattle.std.specs.declared.cmp.Ordering.TheVariants.{Less, Equal, Greater}
 use Rattle.version_order.specs.keys.Lists.{bytes_cmp}
-use Rattle.version_sets.specs.Ends.{Rise}
-use Rattle.version_sets.specs.Form.{number, places}
-use Rattle.version_sets.specs.Whole.{AreLeft, RiseAbove, is_above}
+use Rattle.version_sets.specs.Form.{Rise, number, places}
+use Rattle.version_sets.specs.Set.{AreLeft, RiseAbove, is_above}
 use Rattle.version_sets.proofs.lemmas.Ends.{below_all}
 use Rattle.version_sets.proofs.lemmas.Form.{number_length}
 

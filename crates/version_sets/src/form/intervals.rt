@@ -2,8 +2,7 @@
 
 ghost use Rattle.std.specs.Prelude.{◌≡◌, IfSome};
 ghost use Rattle.std.specs.Option.{option_map};
-ghost use Rattle.version_sets.specs.Form.{between};
-ghost use Rattle.version_sets.specs.Intervals.{interval_at, intervals, IsSpan};
+ghost use Rattle.version_sets.specs.Form.{between, interval_at, intervals, IsSpan};
 
 use crate::form::Form;
 
@@ -18,14 +17,14 @@ pub struct Interval {
 impl<'a> Form<'a> {
     ghost use Rattle.version_sets.specs.Set.{ends_of};
 
-    /// Returns how many intervals it has. Does not allocate.
+    /// Returns how many intervals it has.
     pub fn intervals(&self) -> usize
         ensures { result ≡ intervals (ends_of self.now) }
     {
         (self.count + 1) / 2
     }
 
-    /// Returns the interval at a place, or None where it has fewer. Does not allocate.
+    /// Returns the interval at a place, or None where it has fewer.
     pub fn interval(&self, place: usize) -> Option<Interval>
         ensures interval { option_map (λ i. (
           between self.now.ends.now i.low.0 i.low.1,

@@ -2,9 +2,8 @@
 
 ghost use Rattle.std.specs.Prelude.{◌≡◌, ◌++◌, ◌<◌, ◌^◌, length, IfNone, IfSome, List, None, false, true, ℕ};
 ghost use Rattle.std.specs.Option.{option_map, IsSomeAnd};
-ghost use Rattle.version_sets.specs.Ends.{Rise};
-ghost use Rattle.version_sets.specs.Form.{form_bytes, number};
-ghost use Rattle.version_sets.specs.Whole.{is_above, AreLeft};
+ghost use Rattle.version_sets.specs.Form.{Rise, form_bytes, number};
+ghost use Rattle.version_sets.specs.Set.{is_above, AreLeft};
 
 use crate::form::Form;
 use version_order::compare_bytes;
@@ -13,7 +12,7 @@ impl<'a> Form<'a> {
     ghost use Rattle.version_sets.specs.Set.{ends_of};
 
     /// Reads a set as `of` does, but gives None also where the bytes are not those that a call writes: where the ends are
-    /// not one behind another through the last byte, or do not rise. Takes time linear in the bytes. Does not allocate.
+    /// not one behind another through the last byte, or do not rise. Takes time linear in the bytes.
     pub fn whole(bytes: &'a [u8]) -> Option<(u8, Form<'a>)>
         ensures form { (order : ℕ) (ends : List (List ℕ)) → bytes.now ≡ form_bytes order ends → Rise ends
             → IsSomeAnd result (λ set. (set.0 ≡ order) × (ends_of set.1 ≡ ends)) }

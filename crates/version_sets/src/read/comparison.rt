@@ -36,7 +36,7 @@ pub enum Comparison {
 }
 
 impl Comparison {
-    /// Returns the comparison whose word a text begins with, and the rest, or None without one. Does not allocate.
+    /// Returns the comparison whose word a text begins with, and the rest, or None without one.
     #[tactic(auto, unfolding(crate::specs::Comparison::comparison_front))]
     pub(crate) fn front(text: &[u8]) -> Option<(Comparison, &[u8])>
         ensures front { option_map (λ front. (front.0, front.1.now)) result ≡ comparison_front text.now }
@@ -60,7 +60,7 @@ impl Comparison {
         }
     }
 
-    /// Returns the same with `.*` behind its version, or None where that may not be. Does not allocate.
+    /// Returns the same with `.*` behind its version, or None where that may not be.
     pub(crate) fn starred(self) -> Option<Comparison>
         ensures { result ≡ starred self }
     {
@@ -71,7 +71,7 @@ impl Comparison {
         }
     }
 
-    /// Returns whether it is by parts. Does not allocate.
+    /// Returns whether it is by parts.
     pub(crate) fn asks_parts(self) -> bool
         ensures { result ≡ asks_parts self }
     {
@@ -81,21 +81,21 @@ impl Comparison {
         )
     }
 
-    /// Returns whether it has a doubled sign. Does not allocate.
+    /// Returns whether it has a doubled sign.
     pub(crate) fn asks_doubled(self) -> bool
         ensures { result ≡ asks_doubled self }
     {
         matches!(self, Comparison::Earlier | Comparison::Later)
     }
 
-    /// Returns whether it is of versions that have parts alone. Does not allocate.
+    /// Returns whether it is of versions that have parts alone.
     pub(crate) fn asks_bare(self) -> bool
         ensures { result ≡ asks_bare self }
     {
         matches!(self, Comparison::Prefix | Comparison::NotPrefix)
     }
 
-    /// Returns the ends of what it holds, by the key of its version. Does not allocate.
+    /// Returns the ends of what it holds, by the key of its version.
     pub(crate) fn ends(self) -> &'static [End]
         ensures { result.now ≡ comparison_ends self }
     {

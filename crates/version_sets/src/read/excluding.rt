@@ -2,10 +2,9 @@
 
 ghost use Rattle.std.specs.Prelude.{◌≡◌, ◌∷◌, ◌+◌, ◌*◌, ◌≤◌, ◌<◌, ◌^◌, [], length, not, true, Bool, IfErr, IfNone, IfOk, IfSome, List, None, Option, ℕ};
 ghost use Rattle.std.proofs.Props.{props};
-ghost use Rattle.version_sets.specs.Ends.{has};
+ghost use Rattle.version_sets.specs.Form.{has, form_bytes};
 ghost use Rattle.version_sets.specs.Excluding.{first_out, leave_out, left_read, room_left, steps_left, AreLeft, EndsAt, StandsBefore};
 ghost use Rattle.version_sets.specs.Comparison.{asks_parts, ends_with};
-ghost use Rattle.version_sets.specs.Form.{form_bytes};
 ghost use Rattle.version_sets.specs.Pieces.{pieces, Word};
 ghost use Rattle.version_sets.specs.Reading.{asked, piece_room, pieces_room, read_set, set_room, Member, Right, With};
 ghost use Rattle.version_sets.specs.declared.read.comparison.Comparison.{Comparison as Comparisons};
@@ -42,7 +41,7 @@ pub struct Alternatives<'t> {
 }
 
 impl<'t> Alternatives<'t> {
-    /// Returns all alternatives of a text. Does not allocate.
+    /// Returns all alternatives of a text.
     pub fn of(text: &'t [u8]) -> Alternatives<'t>
         ensures all { (read_as : List ℕ → Option PlainKeyed) (words : Operators) (first : List Member)
             (others : List (List Member)) → read_set read_as words text.now ≡ Right first others
@@ -60,7 +59,7 @@ impl<'t> Alternatives<'t> {
 
     /// Returns the first member that leaves a version out, of the next alternative that does. None where no other one
     /// does: none at all of a set that has the version, of one that has it not as many as it has alternatives. A room in
-    /// which the set can be read is enough, and is overwritten. Does not allocate.
+    /// which the set can be read is enough, and is overwritten.
     pub fn next_excluding<V: SchemeVersion<'t>>(
         &mut self,
         version: &V,

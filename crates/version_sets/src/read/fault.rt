@@ -1,7 +1,7 @@
 //! Why a text is no set, and where.
 
 ghost use Rattle.std.specs.Prelude.{◌≡◌};
-ghost use Rattle.version_sets.specs.Reason.{reason_text};
+ghost use Rattle.version_sets.specs.Set.{reason_text};
 
 use crate::read::slip::Slip;
 

@@ -14,7 +14,7 @@ use crate::read::steps::{State, Step};
 use version_order::SchemeVersion;
 
 /// Returns where the first wrong piece of a text begins and why it is no set of an order, or None where it is one. Takes
-/// time linear in the text, and no room. Does not allocate.
+/// time linear in the text, and no room.
 pub fn find_fault<'t, V: SchemeVersion<'t>>(text: &'t [u8]) -> Option<Fault>
     ensures { option_map (λ fault. (fault.place, fault.reason)) result
         ≡ fault_of (read_set V.rules.read_as V.rules.facts.operators text.now) }

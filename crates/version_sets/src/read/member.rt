@@ -85,8 +85,7 @@ pub(crate) fn write_member<'t, V: SchemeVersion<'t>>(
 }
 
 /// Writes the set of what ties with a version of an order into a buffer, with a number for the order, if it fits there.
-/// The version may be any one: of a value that is given none is a slip. Returns how many bytes the set has. Does not
-/// allocate.
+/// The version may be any one: of a value that is given none is a slip. Returns how many bytes the set has.
 pub fn write_tied<'t, V: SchemeVersion<'t>>(order: u8, version: V, room: &mut [u8]) -> usize
     ensures length { result ≡ saturated (length (form_bytes order (ends_with Equal (V.plain version)))) }
     ensures bytes { IsWritten room.old 0 (form_bytes order (ends_with Equal (V.plain version))) room.new }

@@ -2,8 +2,7 @@
 //! another in a room.
 
 ghost use Rattle.std.specs.Prelude.{◌≡◌, ◌∷◌, ◌*◌, ◌+◌, ◌<◌, ◌≤◌, ◌^◌, ◌&&◌, ◌||◌, [], false, length, true, Bool, IfErr, IfOk, List, ℕ};
-ghost use Rattle.version_sets.specs.Ends.{has, Rise};
-ghost use Rattle.version_sets.specs.Form.{form_bytes};
+ghost use Rattle.version_sets.specs.Form.{has, Rise, form_bytes};
 ghost use Rattle.version_sets.specs.Pieces.{piece_length, plain_piece};
 ghost use Rattle.version_sets.specs.Reader.{Continues, Fits, Holds, IsWrittenSet};
 ghost use Rattle.version_sets.specs.Reading.{after_step, piece_room, Reading, Wrong};

@@ -2,4 +2,3 @@
 pub mod Order
 pub mod Read
 pub mod Text
-pub mod Worked

@@ -1,5 +1,15 @@
 -- The worked rows, by computation.
-use Rattle.std.proofs.Common.{refl}
+use Rattle.std.proofs.Common.{◌≡◌, ◌&&◌, ◌^◌, ◌∙◌, ◌-◌, if◌then◌else◌, ℕ, suc, Bool, true, List, [], ◌∷◌, drop, length, map, nat_lt, Option, Some, None, refl, sym, ap, arith, inl, inr}
+use Rattle.std.proofs.lemmas.Bool.{and_parts, cases_Bool, ltb-true}
+use Rattle.std.proofs.lemmas.Bool.Decides.{nat_tests}
+use Rattle.std.specs.Cmp.{first_so, second_so}
+use Rattle.std.specs.List.{list_all}
+use Rattle.version_rules.specs.grammar.Versioning.{PlainVersioning, is_prerelease}
+use Rattle.version_texts.specs.versioning_ref.VersioningRef.{version_in}
+use Rattle.version_tasks.specs.Next.{IsNext, NoNext, numbers_of}
+use Rattle.version_tasks.specs.Worked.{AreNext, HaveNoNext, WorkedRows, next_rows, no_next_rows}
+use Rattle.version_tasks.proofs.lemmas.Next.Order.{are_zeros, fit, is_next, next_number, none_beyond, none_past, none_without, number_at, raised, raised_follows, raised_number}
+use Rattle.version_tasks.proofs.lemmas.Next.Text.{numbered, numbered_form}
 use Rattle.std.specs.Fmt.{digits}
 use Rattle.version_rules.specs.grammar.Body.{body_front}
 use Rattle.version_rules.specs.grammar.Chunk.{chunk_front_of}
@@ -11,9 +21,89 @@ use Rattle.version_rules.specs.grammar.Numeral.{unsigned_front}
 use Rattle.version_rules.specs.grammar.SemVer.{semver_front, semver_of}
 use Rattle.version_rules.specs.grammar.Version.{epoch_front, version_front, version_of}
 use Rattle.version_tasks.specs.Tag.{place_in_tag}
-use Rattle.version_tasks.specs.Worked.{WorkedRows, next_rows, no_next_rows}
-use Rattle.version_tasks.proofs.lemmas.Next.Worked.{next_rows_are, no_next_rows_are}
-use Rattle.version_texts.specs.versioning_ref.VersioningRef.{version_in}
+
+-- ---- what comes next after a version, computed
+
+-- the number that comes next at a place
+abbrev next_in : PlainVersioning → ℕ → List ℕ → ℕ
+next_in v place ns =
+    next_number (is_prerelease v && are_zeros (drop (suc place) ns)) (number_at place ns)
+
+-- the version that comes next
+abbrev next_of_numbers : PlainVersioning → ℕ → Option (List ℕ) → Option PlainVersioning
+next_of_numbers v place None = None
+next_of_numbers v place (Some ns) =
+    if nat_lt place (length ns) && (fit ns && nat_lt (next_in v place ns) (2 ^ 32))
+    then Some (numbered v (raised place ns (next_in v place ns)))
+    else None
+
+computed_next : (v : PlainVersioning) (place : ℕ) (w : PlainVersioning) (numbers : Option (List ℕ))
+    → numbers_of v ≡ numbers → next_of_numbers v place numbers ≡ Some w → IsNext v place w
+computed_next v place w None are e = cc e
+computed_next v place w (Some ns) are e =
+    let k = next_in v place ns in
+    elim (cases_Bool (nat_lt place (length ns) && (fit ns && nat_lt k (2 ^ 32)))) [
+      | inr other ↦ cc (rw other at e)
+      | inl passes ↦
+          let first = and_parts (nat_lt place (length ns)) (fit ns && nat_lt k (2 ^ 32)) passes in
+          let second = and_parts (fit ns) (nat_lt k (2 ^ 32)) first.1 in
+          let within = ltb-true place (length ns) first.0 in
+          let form =
+          numbered_form v place ns (raised place ns k) are
+          (raised_follows place ns k within second.0 (ltb-true k (2 ^ 32) second.1)) in
+          let same : numbered v (raised place ns k) ≡ w = cc (rw passes at e) in
+          rw same at
+          (is_next v place ns are second.0 (numbered v (raised place ns k)) form.0
+          (sym (ap (number_at place) form.1 ∙ raised_number place ns k within)))
+    ]
+
+-- whether there is none
+abbrev has_none : PlainVersioning → ℕ → Option (List ℕ) → Bool
+has_none v place None = true
+has_none v place (Some ns) =
+    fit ns && (if nat_lt place (length ns) then nat_lt (2 ^ 32 - 1) (next_in v place ns) else true)
+
+computed_none : (v : PlainVersioning) (place : ℕ) (numbers : Option (List ℕ))
+    → numbers_of v ≡ numbers → has_none v place numbers ≡ true → NoNext v place
+computed_none v place None are e = none_without v place are
+computed_none v place (Some ns) are e =
+    let both =
+    and_parts (fit ns)
+    (if nat_lt place (length ns) then nat_lt (2 ^ 32 - 1) (next_in v place ns) else true) e in
+    elim (cases_Bool (nat_lt place (length ns))) [
+      | inl within ↦
+          let large : nat_lt (2 ^ 32 - 1) (next_in v place ns) ≡ true = rw within at both.1 in
+          let past = ltb-true (2 ^ 32 - 1) (next_in v place ns) large in
+          none_past v place ns are both.0 (omega (arith, past))
+      | inr beyond ↦ none_beyond v place ns are both.0 (grind (arith, nat_tests, beyond))
+    ]
+
+-- rows that are computed
+pub next_rows_are : (rows : List (List ℕ × ℕ × List ℕ))
+    → map (λ row. next_of_numbers (version_in row.0) row.1 (numbers_of (version_in row.0))) rows
+    ≡ map (λ row. Some (version_in row.2)) rows
+    → AreNext rows
+next_rows_are [] e = tt
+next_rows_are (row ∷ rows) e =
+    let first : next_of_numbers (version_in row.0) row.1 (numbers_of (version_in row.0))
+    ≡ Some (version_in row.2) = cc e in
+    let rest : map (λ (row : List ℕ × ℕ × List ℕ).
+    next_of_numbers (version_in row.0) row.1 (numbers_of (version_in row.0))) rows
+    ≡ map (λ (row : List ℕ × ℕ × List ℕ). Some (version_in row.2)) rows = cc e in (
+      computed_next (version_in row.0) row.1 (version_in row.2) (numbers_of (version_in row.0)) refl
+          first,
+      next_rows_are rows rest,
+    )
+
+pub no_next_rows_are : (rows : List (List ℕ × ℕ))
+    → list_all (λ row. has_none (version_in row.0) row.1 (numbers_of (version_in row.0))) rows
+    ≡ true
+    → HaveNoNext rows
+no_next_rows_are [] e = tt
+no_next_rows_are (row ∷ rows) e = (
+  computed_none (version_in row.0) row.1 (numbers_of (version_in row.0)) refl (first_so _ _ e),
+  no_next_rows_are rows (second_so _ _ e),
+)
 
 pub worked_rows : WorkedRows
 unfolding place_in_tag body_front chunk_front_of dotted_front optional repeated run_front

@@ -27,10 +27,10 @@ pub struct Next<'a> {
 impl<'a> Next<'a> {
     ghost use Rattle.std.specs.Prelude.{length};
     ghost use Rattle.version_rules.specs.grammar.Versioning.{versioning_text};
-    ghost use Rattle.version_tasks.specs.NextRef.{plain_next};
+    ghost use Rattle.version_tasks.specs.Next.{plain_next};
     ghost use Rattle.version_order.specs.keys.Sinks.{saturated, IsWritten};
 
-    /// Returns how many bytes its text has. Does not allocate.
+    /// Returns how many bytes its text has.
     pub fn length(&self) -> usize
         ensures { result ≡ saturated (length (versioning_text (plain_next self.now))) }
     {
@@ -39,7 +39,7 @@ impl<'a> Next<'a> {
         sink.length()
     }
 
-    /// Writes its text into a buffer, if it fits there, and returns how many bytes it has. Does not allocate.
+    /// Writes its text into a buffer, if it fits there, and returns how many bytes it has.
     pub fn write(&self, room: &mut [u8]) -> usize
         ensures bytes { IsWritten room.old 0 (versioning_text (plain_next self.now)) room.new }
         ensures length { result ≡ saturated (length (versioning_text (plain_next self.now))) }
@@ -77,7 +77,7 @@ fn put_zeros<S: Sink>(sink: &mut S, zeros: usize)
 /// Writes its text.
 impl<'a> fmt::Display for Next<'a> {
     ghost use Rattle.version_rules.specs.grammar.Versioning.{versioning_text};
-    ghost use Rattle.version_tasks.specs.NextRef.{plain_next};
+    ghost use Rattle.version_tasks.specs.Next.{plain_next};
 
     ghost output = { λ next. Some (versioning_text (plain_next next)) };
 

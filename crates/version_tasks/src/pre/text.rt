@@ -26,10 +26,10 @@ pub struct NextPre<'a> {
 impl<'a> NextPre<'a> {
     ghost use Rattle.std.specs.Prelude.{length};
     ghost use Rattle.version_rules.specs.grammar.Versioning.{versioning_text};
-    ghost use Rattle.version_tasks.specs.NextPreRef.{plain_next_pre};
+    ghost use Rattle.version_tasks.specs.NextPre.{plain_next_pre};
     ghost use Rattle.version_order.specs.keys.Sinks.{saturated, IsWritten};
 
-    /// Returns how many bytes its text has. Does not allocate.
+    /// Returns how many bytes its text has.
     pub fn length(&self) -> usize
         ensures { result ≡ saturated (length (versioning_text (plain_next_pre self.now))) }
     {
@@ -38,7 +38,7 @@ impl<'a> NextPre<'a> {
         sink.length()
     }
 
-    /// Writes its text into a buffer, if it fits there, and returns how many bytes it has. Does not allocate.
+    /// Writes its text into a buffer, if it fits there, and returns how many bytes it has.
     pub fn write(&self, room: &mut [u8]) -> usize
         ensures bytes { IsWritten room.old 0 (versioning_text (plain_next_pre self.now)) room.new }
         ensures length { result ≡ saturated (length (versioning_text (plain_next_pre self.now))) }
@@ -102,7 +102,7 @@ fn put_decimal<S: Sink>(sink: &mut S, number: u32)
 /// Writes its text.
 impl<'a> fmt::Display for NextPre<'a> {
     ghost use Rattle.version_rules.specs.grammar.Versioning.{versioning_text};
-    ghost use Rattle.version_tasks.specs.NextPreRef.{plain_next_pre};
+    ghost use Rattle.version_tasks.specs.NextPre.{plain_next_pre};
 
     ghost output = { λ next. Some (versioning_text (plain_next_pre next)) };
 

@@ -84,7 +84,7 @@ impl<'a> Model for PartsLeft<'a> {
 
 impl<'a> PartsLeft<'a> {
     /// Returns the parts of a value: its chunks and its last part.
-    #[tactic(auto, using(crate::proofs::lemmas::KeyStream::parts_written))]
+    #[tactic(auto, using(crate::proofs::lemmas::Keys::parts_written))]
     #[inline(always)]
     pub fn of(chunks: &'a Chunks, last: &'a Last) -> PartsLeft<'a>
         ensures { result ≡ parts_bytes

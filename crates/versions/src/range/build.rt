@@ -3,11 +3,11 @@
 ghost use Rattle.std.specs.Prelude.{◌≡◌, ◌∷◌, ◌++◌, IfOk, IsTrue, OnOk, Some};
 ghost use Rattle.version_order.specs.keys.Codes.{items_bytes};
 ghost use Rattle.version_rules.specs.key.PartKey.{part_bytes};
-ghost use Rattle.versions.specs.BodyParts.{first_part, more_parts};
+ghost use Rattle.versions.specs.Version.{first_part, more_parts};
 ghost use Rattle.version_rules.specs.requirement.Range.{end_bytes, is_whole, kept_parts, range_from, AreWhole, begun};
 ghost use Rattle.version_rules.specs.key.Key.{key_of, strict_body};
 ghost use Rattle.version_rules.specs.grammar.Versioning.{versioning_kind};
-ghost use Rattle.versions.specs.Range.{plain_range};
+ghost use Rattle.versions.specs.Requirements.{plain_range};
 ghost use Rattle.versions.specs.Versioning.{plain_versioning};
 ghost use Rattle.version_order.specs.declared.ends.Kept.TheVariants.{ButLastOrOnly};
 ghost use Rattle.version_rules.specs.declared.kind.Kind.TheVariants.{Complex};
@@ -98,7 +98,7 @@ fn append_begun(version: &Versioning, kept: Kept, list: &mut Vec<u8>) -> Result<
 }
 
 // Appends the bytes of the epoch 0, and of those of three numbers that are kept as parts, to a list.
-#[tactic(auto, using(version_rules::proofs::lemmas::Ends::three_parts))]
+#[tactic(auto, using(version_rules::proofs::lemmas::Range::three_parts))]
 fn append_numbers(numbers: Numbers, kept: Kept, list: &mut Vec<u8>) -> Result<(), AllocError>
     ensures { OnOk result (list.new.items ≡ list.old.items
         ++ begun 0 (kept_parts kept (strict_body numbers.0 numbers.1 numbers.2))) }
@@ -132,7 +132,7 @@ fn append_parts(
 }
 
 // Appends the bytes of the parts that are kept to a list.
-#[tactic(auto, using(version_rules::proofs::lemmas::Ends::last_kept))]
+#[tactic(auto, using(version_rules::proofs::lemmas::Range::last_kept))]
 fn append_kept(mut parts: BodyParts<'_>, kept: Kept, list: &mut Vec<u8>) -> Result<(), AllocError>
     requires { ¬ (kept ≡ ButLastOrOnly) }
     ensures { OnOk result (list.new.items ≡ list.old.items ++ items_bytes part_bytes

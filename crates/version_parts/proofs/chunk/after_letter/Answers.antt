@@ -1,7 +1,7 @@
 use Rattle.std.proofs.Common.{◌≡◌, ◌<◌, true, arith, get_or, length, sym}
 use Rattle.std.proofs.lemmas.Str.{IsCharBoundary-after_ascii}
 use Rattle.std.specs.Char.{is_ascii_alphabetic}
-use Rattle.version_parts.proofs.lemmas.General.Runs.{letter_ascii}
+use Rattle.version_parts.proofs.lemmas.Scans.{letter_ascii}
 use Rattle.version_parts.proofs.chunk.after_letter.Goals as goal
 
 pub split_at-requires : goal.split_at-requires

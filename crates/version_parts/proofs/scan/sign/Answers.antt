@@ -1,6 +1,6 @@
 use Rattle.std.proofs.Common.{◌<◌, arith, length, sym}
 use Rattle.std.proofs.lemmas.Str.{IsCharBoundary-after_ascii}
-use Rattle.version_parts.proofs.lemmas.General.Runs.{sep_ascii}
+use Rattle.version_parts.proofs.lemmas.Scans.{sep_ascii}
 use Rattle.version_parts.proofs.scan.sign.Goals as goal
 
 pub split_at-requires : goal.split_at-requires

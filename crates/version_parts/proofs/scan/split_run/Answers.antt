@@ -1,4 +1,4 @@
-use Rattle.version_parts.proofs.lemmas.General.Runs.{run_boundary}
+use Rattle.version_parts.proofs.lemmas.Scans.{run_boundary}
 use Rattle.version_parts.proofs.scan.split_run.Goals as goal
 
 pub split_at-requires : goal.split_at-requires

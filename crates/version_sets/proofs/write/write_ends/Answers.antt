@@ -4,7 +4,7 @@ use Rattle.version_order.specs.keys.Sinks.{length-put, put_at, put_nothing}
 use Rattle.version_sets.specs.Form.{number, places}
 use Rattle.version_sets.specs.Set.{left}
 use Rattle.version_sets.proofs.lemmas.Form.{number_length}
-use Rattle.version_sets.proofs.lemmas.Written.{put_next}
+use Rattle.version_sets.proofs.lemmas.Members.{put_next}
 use Rattle.version_sets.proofs.write.write_ends.Goals as goal
 
 pub loop-end-preserved : goal.loop-end-preserved

@@ -6,7 +6,7 @@ use Rattle.version_order.specs.keys.Sinks.{put_at}
 use Rattle.version_sets.specs.Form.{form_bytes, number, places}
 use Rattle.version_sets.specs.Set.{left}
 use Rattle.version_sets.proofs.lemmas.Form.{form_length, row_size}
-use Rattle.version_sets.proofs.lemmas.Written.{put_form, put_whole}
+use Rattle.version_sets.proofs.lemmas.Members.{put_form, put_whole}
 use Rattle.version_sets.proofs.write.write_merge.Goals as goal
 
 -- what holds whatever a value is holds where there is one

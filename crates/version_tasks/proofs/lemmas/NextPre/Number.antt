@@ -1,31 +1,170 @@
 -- The number that comes next after the chunks of a word, read off texts.
-use Rattle.std.proofs.Common.{IfNone, IfSome, ◌≡◌, ◌∙◌, ◌<◌, ◌≤◌, ◌^◌, ◌⊎◌, ℕ, suc, true, false, List, [], ◌∷◌, ◌++◌, map, not, Option, Some, None, refl, sym, ap, append_assoc, arith, inl, inr}
+use Rattle.std.proofs.Common.{◌≡◌, ◌∙◌, ℕ, List, [], ◌∷◌, ◌++◌, Option, Some, None, refl, sym, ap, arith, length-append, length, ◌==◌, true, false, drop, take, IfNone, IfSome, MatchOption, ◌<◌, ◌≤◌, ◌^◌, ◌⊎◌, suc, map, not, append_assoc, inl, inr}
+use Rattle.std.specs.Cmp.{tied_itself, nat_cmp_is}
+use Rattle.std.specs.Ordering.{nat_cmp, ordering_then}
+use Rattle.std.specs.declared.cmp.Ordering.{Ordering}
+use Rattle.std.specs.declared.cmp.Ordering.TheVariants.{Less, Equal, Greater}
+use Rattle.version_rules.specs.grammar.Chunk.{PlainChunk, Numeric, Alphanum, chunk_text}
+use Rattle.version_order.specs.keys.OrderLaws.{then_equal}
+use Rattle.version_rules.specs.laws.Release.{chunk_total, chunks_same}
+use Rattle.version_rules.specs.order.Parts.{chunk_cmp, release_cmp}
+use Rattle.version_tasks.specs.NextPre.{AreNamed}
+use Rattle.version_texts.proofs.lemmas.order.Piece.Spelled.{release_chunks}
+use Rattle.std.proofs.lemmas.List.{drop_at, take-append-drop, take_at}
+use Rattle.std.proofs.lemmas.Slice.Eq.{bytes_eq-Decides}
+use Rattle.std.specs.Borrow.{Bor}
+use Rattle.std.specs.Str.{bytes_eq}
+use Rattle.version_order.specs.texts.Bytes.{dot, is_identifier_byte}
+use Rattle.version_order.specs.texts.Front.{begins, is_run}
+use Rattle.version_tasks.proofs.lemmas.NextPre.Text.{dotted, chunks_joined, release_spelled}
+use Rattle.version_tasks.specs.NextPreText.{word_text, IsLeastNumber, NonePass, Passes, is_release, is_word, word_chunks}
+use Rattle.version_order.specs.texts.Pieces.{is_dot, pieces, behind_piece, first_piece, further_pieces}
 use Rattle.std.proofs.lemmas.Bool.{and_parts, cases_Bool, not-true}
 use Rattle.std.proofs.lemmas.List.Folds.{list_all-append}
-use Rattle.std.specs.Cmp.{nat_cmp_is}
 use Rattle.std.specs.List.{list_all}
-use Rattle.std.specs.Ordering.{nat_cmp, ordering_then}
 use Rattle.std.specs.Str.Parse.{digits_value}
-use Rattle.std.specs.declared.cmp.Ordering.TheVariants.{Less, Equal, Greater}
 use Rattle.version_rules.proofs.lemmas.Chunk.{release_printed}
 use Rattle.version_order.proofs.lemmas.NumberBytes.{above, below}
-use Rattle.version_order.specs.texts.Bytes.{dot, is_identifier_byte}
-use Rattle.version_rules.specs.grammar.Chunk.{PlainChunk, Numeric, Alphanum, chunk_text}
 use Rattle.version_order.specs.texts.Grammar.{SpellsDotted}
 use Rattle.version_rules.specs.grammar.Release.{SpellsRelease, release_text}
-use Rattle.version_rules.specs.order.Parts.{chunk_cmp, release_cmp}
 use Rattle.version_tasks.proofs.lemmas.Next.Order.{three_ways}
-use Rattle.version_tasks.proofs.lemmas.NextPre.Chunks.{before_same, begun, behind_word, not_below}
-use Rattle.version_tasks.proofs.lemmas.NextPre.Text.{chunks_joined, dotted, release_spelled}
-use Rattle.version_tasks.specs.NextPreText.{IsLeastNumber, NonePass, Passes, is_release, is_word, word_chunks, word_text}
 use Rattle.version_texts.proofs.lemmas.order.Piece.{pieces_are}
 use Rattle.version_texts.proofs.lemmas.scan.Splits.{split-append, split_run}
 use Rattle.version_texts.proofs.lemmas.scan.TextKind.Chunks.{numeral_spells}
 use Rattle.version_texts.specs.key.TextKey.{chunk_of, chunks_of}
-use Rattle.version_order.specs.texts.Pieces.{pieces, behind_piece, first_piece, further_pieces, is_dot}
 use Rattle.version_texts.specs.scan.TextKind.{is_chunk, is_numeral}
-use Rattle.version_order.specs.texts.Front.{is_run}
 use Rattle.version_texts.specs.versioning_ref.Numbers.{numeral_value}
+
+-- ---- chunks and a number after them, compared with the chunks of a pre-release
+
+-- a number after chunks, and a chunk after the same ones
+pub behind_word : (word : List PlainChunk) (n : ℕ) (c : PlainChunk) (more : List PlainChunk)
+    → release_cmp (word ++ Numeric n ∷ []) (word ++ c ∷ more)
+    ≡ ordering_then (chunk_cmp (Numeric n) c) (release_cmp [] more)
+behind_word [] n c more = refl
+behind_word (d ∷ word) n c more =
+    ap (λ o. ordering_then o (release_cmp (word ++ Numeric n ∷ []) (word ++ c ∷ more)))
+    (tied_itself chunk_total d)
+    ∙ behind_word word n c more
+
+pub numbers_cmp : (word : List PlainChunk) (m n : ℕ)
+    → release_cmp (word ++ Numeric m ∷ []) (word ++ Numeric n ∷ []) ≡ nat_cmp m n
+numbers_cmp word m n = behind_word word m (Numeric n) [] ∙ then_equal (nat_cmp m n)
+
+-- chunks that are not before others come after them with any number
+pub not_below : (word own : List PlainChunk) (n : ℕ) → ¬ (release_cmp word own ≡ Less)
+    → release_cmp (word ++ Numeric n ∷ []) own ≡ Greater
+not_below [] [] n other = refl
+not_below [] (d ∷ own) n other = absurd (other refl)
+not_below (c ∷ word) [] n other = refl
+not_below (c ∷ word) (d ∷ own) n other = by (chunk_cmp c d) (not_below word own n) other
+  where
+    by : (o : Ordering)
+        → (¬ (release_cmp word own ≡ Less)
+        → release_cmp (word ++ Numeric n ∷ []) own ≡ Greater)
+        → ¬ (ordering_then o (release_cmp word own) ≡ Less)
+        → ordering_then o (release_cmp (word ++ Numeric n ∷ []) own) ≡ Greater
+    by Less more other = absurd (other refl)
+    by Equal more other = more other
+    by Greater more other = refl
+
+-- chunks that are before others come after them with a number only if these begin with them
+pub begun : (word own : List PlainChunk) (n : ℕ) → release_cmp word own ≡ Less
+    → release_cmp (word ++ Numeric n ∷ []) own ≡ Greater
+    → (c : PlainChunk) × (more : List PlainChunk) × (own ≡ word ++ c ∷ more)
+begun [] [] n less after = cc less
+begun [] (d ∷ own) n less after = (d, own, refl)
+begun (c ∷ word) [] n less after = cc less
+begun (c ∷ word) (d ∷ own) n less after =
+    by (chunk_cmp c d) (begun word own n) refl less after
+  where
+    by : (o : Ordering)
+        → (release_cmp word own ≡ Less
+        → release_cmp (word ++ Numeric n ∷ []) own ≡ Greater
+        → (e : PlainChunk) × (more : List PlainChunk) × (own ≡ word ++ e ∷ more))
+        → chunk_cmp c d ≡ o → ordering_then o (release_cmp word own) ≡ Less
+        → ordering_then o (release_cmp (word ++ Numeric n ∷ []) own) ≡ Greater
+        → (e : PlainChunk) × (more : List PlainChunk) × (d ∷ own ≡ (c ∷ word) ++ e ∷ more)
+    by Less further tied less after = cc after
+    by Greater further tied less after = cc less
+    by Equal further tied less after =
+        let rest = further less after in
+        let first : d ≡ c = sym (chunks_same c d tied) in
+        (rest.0, rest.1, λ i. first i ∷ rest.2 i)
+
+-- two lists with one more chunk each
+pub before_same : (a b : List PlainChunk) (x y : PlainChunk) → a ++ x ∷ [] ≡ b ++ y ∷ []
+    → (a ≡ b) × (x ≡ y)
+before_same [] [] x y e = (refl, cc e)
+before_same [] (c ∷ b) x y e =
+    absurd (omega (arith, ap (λ (l : List PlainChunk). length l) e, length-append b (y ∷ [])))
+before_same (c ∷ a) [] x y e =
+    absurd (omega (arith, ap (λ (l : List PlainChunk). length l) e, length-append a (x ∷ [])))
+before_same (c ∷ a) (d ∷ b) x y e =
+    let first : c ≡ d = cc e in
+    let rest : a ++ x ∷ [] ≡ b ++ y ∷ [] = cc e in
+    let both = before_same a b x y rest in
+    (λ i. first i ∷ both.0 i, both.1)
+
+-- one list of chunks is named
+pub one_named : (given : Option (List ℕ)) (pre_rel : Option (List PlainChunk))
+    (a b : List PlainChunk) → AreNamed given pre_rel a → AreNamed given pre_rel b → a ≡ b
+one_named (Some word) pre_rel a b first second =
+    sym (release_chunks word a first) ∙ release_chunks word b second
+one_named None pre_rel a b first second =
+    let all : a ++ Numeric first.0 ∷ [] ≡ b ++ Numeric second.0 ∷ [] =
+    cc (sym first.1 ∙ second.1) in
+    (before_same a b (Numeric first.0) (Numeric second.0) all).0
+
+-- ---- A word at the beginning of a text
+
+-- the text of a word begins with it
+pub dot_fits : (word : List ℕ) → (mark : List ℕ) × (word ++ mark ≡ word_text word)
+dot_fits [] = ([], refl)
+dot_fits (b ∷ word) = (dot ∷ [], refl)
+
+-- a word that is not empty has a dot after it
+word_text_is : (word : List ℕ) → (length word == 0) ≡ false → word_text word ≡ word ++ dot ∷ []
+word_text_is [] some = cc some
+word_text_is (b ∷ word) some = refl
+
+word_and_rest : (word rest : List ℕ) → (length word == 0) ≡ false
+    → word_text word ++ rest ≡ word ++ dot ∷ rest
+word_and_rest word rest some =
+    ap (λ (l : List ℕ). l ++ rest) (word_text_is word some) ∙ dotted word rest
+
+-- a text that does not begin with a word
+pub no_word : (word text : List ℕ) → bytes_eq (take (length word) text) word ≡ false
+    → (rest : List ℕ) → ¬ (text ≡ word_text word ++ rest)
+no_word [] text other rest is = cc other
+no_word (b ∷ word) text other rest is =
+    let front : take (length (b ∷ word)) text ≡ b ∷ word =
+    ap (take (length (b ∷ word))) (is ∙ dotted (b ∷ word) rest)
+    ∙ take_at (b ∷ word) (dot ∷ rest) (length (b ∷ word)) refl in
+    cc (sym other ∙ (bytes_eq-Decides (take (length (b ∷ word)) text) (b ∷ word)).1 front)
+
+-- a text that begins with a word, and what follows it
+module _ (word text after : List ℕ) (some : (length word == 0) ≡ false) where
+  pub with_word : bytes_eq (take (length word) text) word ≡ true → after ≡ drop (length word) text
+      → (found : Option (Bor (List ℕ)))
+      → MatchOption found (begins is_dot after ≡ false) (λ rest. after ≡ dot ∷ rest.now)
+      → IfSome found (λ rest. text ≡ word_text word ++ rest.now)
+  with_word same left None found = tt
+  with_word same left (Some rest) found =
+      sym (take-append-drop (length word) text)
+      ∙ (λ i. (bytes_eq-Decides (take (length word) text) word).0 same i
+      ++ (sym left ∙ found) i)
+      ∙ sym (word_and_rest word rest.now some)
+
+  pub no_dot_after : after ≡ drop (length word) text → (found : Option (Bor (List ℕ)))
+      → MatchOption found (begins is_dot after ≡ false) (λ rest. after ≡ dot ∷ rest.now)
+      → IfNone found ((rest : List ℕ) → ¬ (text ≡ word_text word ++ rest))
+  no_dot_after left None found = λ rest is.
+      let behind : after ≡ dot ∷ rest =
+      left ∙ ap (drop (length word)) (is ∙ word_and_rest word rest some)
+      ∙ drop_at word (dot ∷ rest) (length word) refl in
+      cc (rw behind at found)
+  no_dot_after left (Some rest) found = tt
 
 -- ---- a chunk is a number exactly if it is a numeral
 

@@ -15,7 +15,7 @@ use Rattle.version_tasks.specs.Next.{IsAfter}
 use Rattle.version_tasks.specs.NextPre.{AreNamed, IsNextPre, IsOfPreForm, IsPreRelease, NoNextPre}
 use Rattle.version_tasks.specs.NextPreText.{IsPlace, NonePass, Passes, own_chunks, word_chunks}
 use Rattle.version_tasks.proofs.lemmas.Next.Order.{both_raised, same, three_ways}
-use Rattle.version_tasks.proofs.lemmas.NextPre.Chunks.{numbers_cmp, one_named}
+use Rattle.version_tasks.proofs.lemmas.NextPre.Number.{numbers_cmp, one_named}
 
 abbrev tail_of : Option (List PlainChunk) → Tail
 tail_of pre_rel = option_map_or PreReleased pre_rel Bare

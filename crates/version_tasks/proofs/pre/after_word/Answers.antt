@@ -1,5 +1,5 @@
 use Rattle.std.proofs.Common.{sym}
-use Rattle.version_tasks.proofs.lemmas.NextPre.Word.{no_dot_after, no_word, with_word}
+use Rattle.version_tasks.proofs.lemmas.NextPre.Number.{no_dot_after, no_word, with_word}
 use Rattle.version_tasks.proofs.pre.after_word.Goals as goal
 
 pub returns-in_err-strip_prefix-clause-none : goal.returns-in_err-strip_prefix-clause-none

@@ -1,5 +1,5 @@
 use Rattle.std.proofs.Common.{◌≡◌, length}
-use Rattle.version_tasks.specs.AfterSeparator.{after_separator}
+use Rattle.version_tasks.specs.Next.{after_separator}
 use Rattle.version_tasks.proofs.tag.after_separator.Given as goal
 
 -- what is left decides

@@ -1,7 +1,7 @@
 use Rattle.std.proofs.Common.{◌∙◌, Some, sym, ap, arith}
 use Rattle.std.specs.Option.{option_map}
 use Rattle.version_rules.specs.grammar.Versioning.{versioning_text}
-use Rattle.version_tasks.proofs.lemmas.Tag.Starts.{in_tag}
+use Rattle.version_tasks.proofs.lemmas.Tag.{in_tag}
 use Rattle.version_tasks.proofs.tag.start_in_tag.Goals as goal
 
 pub overflow_sub-result : goal.overflow_sub-result

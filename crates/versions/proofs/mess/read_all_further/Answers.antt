@@ -2,7 +2,7 @@ use Rattle.std.proofs.Common.{rules, ◌∙◌, map, sym}
 use Rattle.std.proofs.lemmas.List.{map_push}
 use Rattle.versions.specs.Mess.{plain_further}
 use Rattle.version_rules.proofs.lemmas.Mess.{further_shrinks}
-use Rattle.versions.proofs.lemmas.Mess.Scan.{read_last, read_next}
+use Rattle.versions.proofs.lemmas.Mess.{read_last, read_next}
 use Rattle.versions.proofs.mess.read_all_further.Goals as goal
 
 pub loop-more-smaller : goal.loop-more-smaller

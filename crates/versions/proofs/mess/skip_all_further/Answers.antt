@@ -1,5 +1,5 @@
 use Rattle.std.proofs.Common.{rules, ◌∙◌, sym}
-use Rattle.versions.proofs.lemmas.Mess.Scan.{left_last, left_next, left_shorter}
+use Rattle.versions.proofs.lemmas.Mess.{left_last, left_next, left_shorter}
 use Rattle.versions.proofs.mess.skip_all_further.Goals as goal
 
 pub loop-after-smaller : goal.loop-after-smaller

@@ -1,5 +1,5 @@
 use Rattle.std.proofs.Common.{◌≡◌, Some, map}
-use Rattle.versions.specs.Requirement.{plain_requirement}
+use Rattle.versions.specs.Requirements.{plain_requirement}
 use Rattle.version_rules.specs.requirement.Requirement.{requirement_of}
 use Rattle.version_rules.specs.requirement.Requirements.{every}
 use Rattle.versions.proofs.requirements.read_members.Given as goal

@@ -1,6 +1,6 @@
 use Rattle.std.proofs.Common.{rules, of_z, to_z, ◌≡◌, ◌∙◌, List, ap, arith, false, length, subst, w32, ℕ}
 use Rattle.version_sets.specs.Form.{form_bytes}
-use Rattle.version_sets.specs.Merge.{merged}
+use Rattle.version_sets.specs.Pile.{merged}
 use Rattle.version_sets.specs.Set.{by_rule}
 use Rattle.version_sets.proofs.lemmas.Ends.{are_merged}
 use Rattle.version_sets.proofs.lemmas.Pile.{no_longer, nothing_alone}

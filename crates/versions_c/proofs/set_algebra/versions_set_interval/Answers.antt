@@ -2,8 +2,7 @@ use Rattle.std.proofs.Common.{◌≡◌, ◌∙◌, ◌+◌, ◌-◌, ◌*◌, �
 use Rattle.std.proofs.Math.Seq.{drop-append-add}
 use Rattle.std.specs.List.{slice_range}
 use Rattle.std.specs.Option.{IfSome, option_map, unwrap_or}
-use Rattle.version_sets.specs.Form.{between, number}
-use Rattle.version_sets.specs.Intervals.{IsSpan, interval_at}
+use Rattle.version_sets.specs.Form.{between, number, IsSpan, interval_at}
 use Rattle.version_sets.proofs.lemmas.Form.{between_is, number_length}
 use Rattle.versions_c.specs.Sets.{IsInterval, interval_status}
 use Rattle.versions_c.proofs.set_algebra.versions_set_interval.Goals as goal

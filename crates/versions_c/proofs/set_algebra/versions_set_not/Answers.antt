@@ -1,7 +1,6 @@
 use Rattle.std.proofs.Common.{rules, of_z, to_z, ◌≡◌, ◌∙◌, ◌∷◌, [], List, ap, arith, false, length, refl, true, subst, w32, ℕ}
-use Rattle.version_sets.specs.Ends.{has}
-use Rattle.version_sets.specs.Form.{form_bytes}
-use Rattle.version_sets.specs.Merge.{merged}
+use Rattle.version_sets.specs.Form.{has, form_bytes}
+use Rattle.version_sets.specs.Pile.{merged}
 use Rattle.version_sets.specs.Set.{by_rule}
 use Rattle.version_sets.specs.declared.merge.Rule.TheVariants.{FirstAlone}
 use Rattle.version_sets.proofs.lemmas.Comparison.{one_rises}

@@ -1,7 +1,7 @@
 use Rattle.std.proofs.Common.{rules, of_z, to_z, w32, ◌≡◌, None, IfSome, subst}
 use Rattle.version_schemes.specs.Scheme.{rules as rules_of}
 use Rattle.version_sets.specs.Reading.{fault_of}
-use Rattle.version_sets.specs.Reason.{reason_text}
+use Rattle.version_sets.specs.Set.{reason_text}
 use Rattle.versions_c.specs.Schemes.{reading_by}
 use Rattle.versions_c.specs.Written.{IsWritten}
 use Rattle.versions_c.specs.declared.status.TheConstants.{NO_WRONG_MEMBER}

@@ -4,7 +4,7 @@ use Rattle.version_answers.proofs.lemmas.Sets.{said_outside, said_within, same_k
 use Rattle.std.specs.Result.{OnOk}
 use Rattle.version_answers.specs.one.Why.{members_text}
 use Rattle.version_sets.specs.Excluding.{leave_out}
-use Rattle.version_sets.specs.Ends.{has}
+use Rattle.version_sets.specs.Form.{has}
 use Rattle.version_schemes.specs.any.AnyVersion.{plain_any}
 use Rattle.version_answers.proofs.one.why.add_verdict.Goals as goal
 

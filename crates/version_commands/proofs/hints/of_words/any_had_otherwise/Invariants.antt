@@ -4,7 +4,7 @@ use Rattle.std.specs.List.{list_any}
 use Rattle.version_commands.specs.lines.Choice.{is_of}
 use Rattle.version_commands.specs.hints.Hint.{is_kept_otherwise}
 use Rattle.version_commands.proofs.hints.of_words.any_had_otherwise.Given as goal
-use Rattle.version_sets.specs.Ends.{has}
+use Rattle.version_sets.specs.Form.{has}
 
 abbrev pub invariant-loop-word : goal.invariant-loop-word
 invariant-loop-word l =

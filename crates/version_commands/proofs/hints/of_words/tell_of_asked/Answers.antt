@@ -8,7 +8,7 @@ use Rattle.version_commands.specs.hints.Hint.{is_kept_otherwise}
 use Rattle.version_commands.specs.declared.options.Question.{Question}
 use Rattle.version_answers.specs.declared.spelling.Spelling.{Spelling}
 use Rattle.version_commands.proofs.hints.of_words.tell_of_asked.Goals as goal
-use Rattle.version_sets.specs.Ends.{has}
+use Rattle.version_sets.specs.Form.{has}
 
 pub tell_of_set-requires : goal.tell_of_set-requires
 tell_of_set-requires g c =

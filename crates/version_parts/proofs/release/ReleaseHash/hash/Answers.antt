@@ -1,6 +1,6 @@
 use Rattle.std.specs.Hash.{fed_along}
 use Rattle.version_parts.specs.Chunk.{chunk_fed, plain_chunk}
-use Rattle.version_parts.proofs.lemmas.Lists.Fed.{fed_plain}
+use Rattle.version_parts.proofs.lemmas.Lists.{fed_plain}
 use Rattle.version_parts.proofs.release.ReleaseHash.hash.Goals as goal
 
 pub returns : goal.returns

@@ -1,6 +1,6 @@
 use Rattle.std.proofs.Common.{rules, ◌<◌, arith, sym, map, length}
 use Rattle.std.proofs.lemmas.List.{length-map, map_push}
-use Rattle.version_parts.proofs.lemmas.Front.DottedScan.{built_all, built_last, built_next}
+use Rattle.version_parts.proofs.lemmas.Scans.{built_all, built_last, built_next}
 use Rattle.version_parts.proofs.scan.Dotted.build.Goals as goal
 
 pub returns-in_default-clause-ok : goal.returns-in_default-clause-ok

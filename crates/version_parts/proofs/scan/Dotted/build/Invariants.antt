@@ -1,7 +1,7 @@
 use Rattle.std.proofs.Common.{◌-◌, map, vec_len}
 use denote.Text.{Utf8}
 use denote.Shadow.{shadow}
-use Rattle.version_parts.proofs.lemmas.Front.DottedScan.{Built}
+use Rattle.version_parts.proofs.lemmas.Scans.{Built}
 use Rattle.version_parts.proofs.scan.Dotted.build.Given as goal
 
 -- the elements built so far, and as many of those left as are still needed, are the first count

@@ -1,7 +1,7 @@
 use Rattle.std.proofs.Common.{◌+◌, ◌≤◌, length}
 use denote.Text.{Utf8}
 use denote.Shadow.{shadow}
-use Rattle.version_parts.proofs.lemmas.Front.DottedScan.{Scanned}
+use Rattle.version_parts.proofs.lemmas.Scans.{Scanned}
 use Rattle.version_parts.proofs.scan.Dotted.scan.Given as goal
 
 -- count elements are read, and the last of them begins at `last`

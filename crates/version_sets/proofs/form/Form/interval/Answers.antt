@@ -2,8 +2,7 @@ use Rattle.std.proofs.Common.{◌≡◌, ◌∙◌, ◌*◌, ◌<◌, ◌≤◌,
 use Rattle.std.proofs.Math.ListN.{drop_of_length-le}
 use Rattle.std.proofs.lemmas.List.FromFn.{length-map-range_with_len}
 use Rattle.std.specs.Option.{IfNone, IfSome, option_map}
-use Rattle.version_sets.specs.Form.{between, end_at}
-use Rattle.version_sets.specs.Intervals.{first_interval}
+use Rattle.version_sets.specs.Form.{between, end_at, first_interval}
 use Rattle.version_sets.specs.Set.{ends_of}
 use Rattle.version_sets.specs.declared.form.Form.{Form}
 use Rattle.version_sets.proofs.form.Form.interval.Goals as goal

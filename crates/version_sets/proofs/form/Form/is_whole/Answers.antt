@@ -4,7 +4,7 @@ use Rattle.std.proofs.lemmas.List.{nil_from_length, take-append-drop}
 use Rattle.std.specs.List.{concat}
 use Rattle.std.specs.Option.{option_map}
 use Rattle.version_sets.specs.Form.{number}
-use Rattle.version_sets.specs.Whole.{is_above}
+use Rattle.version_sets.specs.Set.{is_above}
 use Rattle.version_sets.proofs.lemmas.Form.{number_length}
 use Rattle.version_sets.proofs.lemmas.Whole.{first_end, first_left, first_over, next, none_left, none_more, with_end}
 use Rattle.version_sets.proofs.form.Form.is_whole.Goals as goal

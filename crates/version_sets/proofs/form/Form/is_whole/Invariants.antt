@@ -1,6 +1,6 @@
 use Rattle.std.proofs.Common.{◌≡◌, ◌+◌, ◌*◌, List, None, length, ℕ}
 use Rattle.std.specs.Option.{option_map}
-use Rattle.version_sets.specs.Whole.{AreLeft}
+use Rattle.version_sets.specs.Set.{AreLeft}
 use Rattle.version_sets.proofs.form.Form.is_whole.Given as goal
 
 -- ends that are left are the last of all, and all end with ends that are left

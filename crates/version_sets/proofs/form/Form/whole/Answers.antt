@@ -1,8 +1,7 @@
 use Rattle.std.proofs.Common.{◌≡◌, ◌∙◌, ◌*◌, ◌∷◌, ◌++◌, List, ap, arith, drop, length, refl, subst, sym, take, ℕ}
 use Rattle.std.proofs.lemmas.List.{drop_at, take_at}
 use Rattle.std.proofs.lemmas.List.FromFn.{length-map-range_with_len}
-use Rattle.version_sets.specs.Ends.{Rise}
-use Rattle.version_sets.specs.Form.{end_at, ends_in, form_bytes, number}
+use Rattle.version_sets.specs.Form.{Rise, end_at, ends_in, form_bytes, number}
 use Rattle.version_sets.specs.Set.{ends_of}
 use Rattle.version_sets.proofs.lemmas.Form.{are_read, ends_are, number_length, row_size}
 use Rattle.version_sets.proofs.form.Form.whole.Goals as goal

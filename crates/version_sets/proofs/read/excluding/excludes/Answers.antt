@@ -1,6 +1,6 @@
 use Rattle.std.proofs.Common.{◌≡◌, ◌∙◌, List, [], ℕ, ap, arith, not, refl, rules, sym}
 use Rattle.version_sets.specs.Comparison.{ends_with}
-use Rattle.version_sets.specs.Ends.{has}
+use Rattle.version_sets.specs.Form.{has}
 use Rattle.version_sets.specs.Reading.{Asked, Not, With, asked}
 use Rattle.version_sets.proofs.lemmas.Steps.{asked_read, member_small}
 use Rattle.version_order.specs.Facts.{key_room}

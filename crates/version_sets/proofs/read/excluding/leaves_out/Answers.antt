@@ -3,7 +3,7 @@ use Rattle.version_order.specs.declared.ends.Kept.{Kept}
 use Rattle.version_order.specs.declared.facts.Operators.TheVariants.{Parts}
 use Rattle.version_order.specs.Keyed.{BeginsKey}
 use Rattle.version_sets.specs.Comparison.{ends_with}
-use Rattle.version_sets.specs.Ends.{Rise, has}
+use Rattle.version_sets.specs.Form.{Rise, has}
 use Rattle.version_sets.proofs.lemmas.Comparison.{rises}
 use Rattle.version_sets.proofs.lemmas.Reader.{begins_room}
 use Rattle.version_sets.proofs.read.excluding.leaves_out.Goals as goal

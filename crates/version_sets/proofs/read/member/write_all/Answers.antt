@@ -2,7 +2,7 @@ use Rattle.std.proofs.Common.{◌∙◌, ◌++◌, ◌∷◌, List, [], append-n
 use Rattle.version_order.specs.keys.Sinks.{put_at, put_nothing}
 use Rattle.version_sets.specs.Form.{form_bytes, number}
 use Rattle.version_sets.proofs.lemmas.Form.{form_length}
-use Rattle.version_sets.proofs.lemmas.Written.{put_form}
+use Rattle.version_sets.proofs.lemmas.Members.{put_form}
 use Rattle.version_sets.proofs.read.member.write_all.Goals as goal
 
 pub split_at_mut-head-requires : goal.split_at_mut-head-requires

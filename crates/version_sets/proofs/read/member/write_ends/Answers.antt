@@ -6,7 +6,7 @@ use Rattle.version_order.specs.Keyed.{end_of}
 use Rattle.version_sets.specs.Comparison.{bytes_of}
 use Rattle.version_sets.specs.Form.{number, places}
 use Rattle.version_sets.proofs.lemmas.Form.{number_length, row_size}
-use Rattle.version_sets.proofs.lemmas.Written.{put_next, put_whole}
+use Rattle.version_sets.proofs.lemmas.Members.{put_next, put_whole}
 use Rattle.version_sets.proofs.read.member.write_ends.Goals as goal
 
 pub loop-end-init : goal.loop-end-init

@@ -7,7 +7,7 @@ use Rattle.version_order.specs.Keyed.{PlainKeyed, end_of}
 use Rattle.version_sets.specs.Comparison.{bytes_of}
 use Rattle.version_sets.specs.Form.{form_bytes, number}
 use Rattle.version_sets.proofs.lemmas.Form.{form_length}
-use Rattle.version_sets.proofs.lemmas.Written.{put_form}
+use Rattle.version_sets.proofs.lemmas.Members.{put_form}
 use Rattle.version_sets.proofs.read.member.write_member.Goals as goal
 
 -- how long a set is by its ends

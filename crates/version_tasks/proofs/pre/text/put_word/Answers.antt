@@ -1,6 +1,6 @@
 use Rattle.std.proofs.Common.{◌∙◌, ◌++◌, List, ℕ, ap, sym}
 use Rattle.version_order.proofs.lemmas.Taking.{next_fits, owes_all, owes_rest}
-use Rattle.version_tasks.proofs.lemmas.NextPre.Word.{dot_fits}
+use Rattle.version_tasks.proofs.lemmas.NextPre.Number.{dot_fits}
 use Rattle.version_tasks.proofs.pre.text.put_word.Goals as goal
 
 pub put_all-requires : goal.put_all-requires

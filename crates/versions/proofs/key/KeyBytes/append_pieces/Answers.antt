@@ -1,4 +1,4 @@
-use Rattle.version_parts.proofs.lemmas.Lists.Growing.{at_any_error, grows_not, grows_so_far}
+use Rattle.version_parts.proofs.lemmas.Lists.{at_any_error, grows_not, grows_so_far}
 use Rattle.versions.proofs.key.KeyBytes.append_pieces.Goals as goal
 
 pub returns-in_err-append_to-clause-err : goal.returns-in_err-append_to-clause-err

@@ -2,7 +2,7 @@ mod Items
 use Rattle.std.proofs.Common.{◌∙◌, None, Some, sym}
 use Rattle.std.proofs.lemmas.Option.{slice_get-map}
 use Rattle.version_parts.specs.MChunk.{plain_mchunk}
-use Rattle.versions.proofs.lemmas.Mess.Flat.{first_is}
+use Rattle.versions.proofs.lemmas.Mess.{first_is}
 use Rattle.versions.proofs.mess.Mess.nth.Answers.Items.{lent_item}
 use Rattle.versions.proofs.mess.Mess.nth.Goals as goal
 

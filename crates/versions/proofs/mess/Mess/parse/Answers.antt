@@ -1,7 +1,7 @@
 use Rattle.std.proofs.Common.{sym}
 use Rattle.versions.specs.Mess.{plain_mess}
 use Rattle.version_rules.proofs.lemmas.Mess.{mess_front-None}
-use Rattle.versions.proofs.lemmas.Mess.Scan.{first_some, mess_read, reads_err, wants_memory}
+use Rattle.versions.proofs.lemmas.Mess.{first_some, mess_read, reads_err, wants_memory}
 use Rattle.versions.proofs.mess.Mess.parse.Goals as goal
 
 pub returns-in_err-first : goal.returns-in_err-first

@@ -6,7 +6,7 @@ use Rattle.version_parts.specs.Sep.{plain_sep}
 use Rattle.version_order.specs.texts.Sep.{sep_byte}
 use Rattle.version_rules.specs.grammar.Mess.{joined_section}
 use Rattle.versions.specs.Mess.{plain_mess}
-use Rattle.versions.proofs.lemmas.Mess.Flat.{ends, first_is, goes_on}
+use Rattle.versions.proofs.lemmas.Mess.{ends, first_is, goes_on}
 use Rattle.versions.proofs.mess.MessDisplay.fmt.Answers.MessText.{written_next}
 use Rattle.versions.proofs.mess.MessDisplay.fmt.Goals as goal
 

@@ -5,7 +5,7 @@ use Rattle.version_rules.specs.key.PartKey.{PartKey, part_bytes}
 use Rattle.version_rules.specs.requirement.VersionMatch.{is_plain_zero}
 use Rattle.version_order.specs.declared.ends.Kept.{Kept}
 use Rattle.version_order.specs.declared.ends.Kept.TheVariants.{All, ButLast, ButLastOrOnly, ThroughOther}
-use Rattle.versions.specs.BodyParts.{first_part, more_parts}
+use Rattle.versions.specs.Version.{first_part, more_parts}
 use Rattle.versions.proofs.range.build.append_kept.Goals.{else-eq-via-then-eq+else-not-begins_with_zero, else-eq-via-else-eq}
 use Rattle.versions.proofs.range.build.append_kept.Goals as goal
 

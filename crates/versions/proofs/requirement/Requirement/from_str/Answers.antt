@@ -2,8 +2,8 @@ use Rattle.std.proofs.Common.{rules}
 use Rattle.std.proofs.lemmas.Result.{err_from_is_err_and}
 use Rattle.versions.specs.Errors.{IllegalOp}
 use Rattle.version_rules.specs.requirement.Requirement.{RequirementOwns, requirement_of}
-use Rattle.versions.specs.Requirement.{plain_requirement}
-use Rattle.versions.proofs.lemmas.Errors.FromText.{reads_or, reads_or-refused}
+use Rattle.versions.specs.Requirements.{plain_requirement}
+use Rattle.versions.proofs.lemmas.Errors.{reads_or, reads_or-refused}
 use Rattle.versions.proofs.requirement.Requirement.from_str.Goals as goal
 
 pub returns-in_err-new : goal.returns-in_err-new

@@ -1,6 +1,6 @@
 use Rattle.std.proofs.Common.{refl, sym}
 use Rattle.version_rules.specs.grammar.Versioning.{versioning_of}
-use Rattle.versions.proofs.lemmas.Errors.Answered.{on_err}
+use Rattle.versions.proofs.lemmas.Errors.{on_err}
 use Rattle.version_rules.proofs.lemmas.Requirement.{requirement_owns}
 use Rattle.versions.proofs.requirement.Requirement.new.Goals as goal
 

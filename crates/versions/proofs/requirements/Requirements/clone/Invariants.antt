@@ -1,5 +1,5 @@
 use Rattle.std.proofs.Common.{◌≡◌, map, take}
-use Rattle.versions.specs.Requirement.{plain_requirement}
+use Rattle.versions.specs.Requirements.{plain_requirement}
 use Rattle.versions.proofs.requirements.Requirements.clone.Given as goal
 
 -- the members so far are copied

@@ -1,7 +1,6 @@
 use Rattle.std.proofs.Common.{◌≡◌, map, take}
-use Rattle.versions.specs.Range.{plain_range}
+use Rattle.versions.specs.Requirements.{plain_range, plain_requirement}
 use Rattle.version_rules.specs.requirement.Range.{range_of}
-use Rattle.versions.specs.Requirement.{plain_requirement}
 use Rattle.versions.proofs.requirements.Requirements.common_range.Given as goal
 
 -- what is in the range of each member so far

@@ -2,7 +2,7 @@ use Rattle.std.proofs.Common.{rules}
 use Rattle.std.proofs.lemmas.Result.{err_from_is_err_and}
 use Rattle.versions.specs.Errors.{IllegalOp}
 use Rattle.versions.specs.Requirements.{plain_requirements}
-use Rattle.versions.proofs.lemmas.Errors.FromText.{reads_or}
+use Rattle.versions.proofs.lemmas.Errors.{reads_or}
 use Rattle.versions.proofs.requirements.Requirements.from_str.Goals as goal
 
 pub returns-in_err-new : goal.returns-in_err-new

@@ -5,7 +5,7 @@ use Rattle.std.proofs.lemmas.List.{take_all}
 use Rattle.std.proofs.lemmas.List.Elements.{All-map, All-push, All-same}
 use Rattle.versions.specs.declared.requirement.Requirement.{Requirement}
 use Rattle.version_rules.specs.requirement.Matching.{Matches}
-use Rattle.versions.specs.Requirement.{plain_requirement}
+use Rattle.versions.specs.Requirements.{plain_requirement}
 use Rattle.versions.specs.Versioning.{plain_versioning}
 use Rattle.versions.proofs.requirements.Requirements.matches.Answers.Members.{member}
 use Rattle.versions.proofs.requirements.Requirements.matches.Goals as goal

@@ -1,4 +1,4 @@
-use Rattle.versions.proofs.lemmas.Range.{list_within}
+use Rattle.versions.proofs.lemmas.Keys.{list_within}
 use Rattle.versions.specs.Requirements.{plain_requirements}
 use Rattle.versions.proofs.requirements.Requirements.range.Goals as goal
 

@@ -3,7 +3,7 @@ use Rattle.std.proofs.lemmas.Result.{err_from_is_err_and}
 use Rattle.versions.specs.Errors.{IllegalSemver}
 use Rattle.version_rules.specs.grammar.SemVer.{SemVerOwns, semver_of}
 use Rattle.versions.specs.SemVer.{plain_semver}
-use Rattle.versions.proofs.lemmas.Errors.FromText.{reads_or, reads_or-refused}
+use Rattle.versions.proofs.lemmas.Errors.{reads_or, reads_or-refused}
 use Rattle.versions.proofs.semver.SemVer.from_str.Goals as goal
 
 pub returns-in_err-new : goal.returns-in_err-new

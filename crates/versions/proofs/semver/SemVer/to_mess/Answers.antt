@@ -1,6 +1,5 @@
-use Rattle.versions.proofs.lemmas.Errors.Answered.{along}
-use Rattle.versions.proofs.lemmas.Conversions.Key.{strict_as_messy}
-use Rattle.versions.proofs.lemmas.Conversions.Mess.{mess_of_semver_printed}
+use Rattle.versions.proofs.lemmas.Errors.{along}
+use Rattle.versions.proofs.lemmas.Conversions.{strict_as_messy, mess_of_semver_printed}
 use Rattle.version_rules.specs.key.Key.{key_of_mess, key_of_semver, precedence}
 use Rattle.version_rules.specs.grammar.Mess.{mess_text}
 use Rattle.versions.specs.Mess.{plain_mess}

@@ -1,5 +1,5 @@
-use Rattle.versions.proofs.lemmas.Errors.Answered.{along}
-use Rattle.versions.proofs.lemmas.Conversions.Key.{strict_as_general}
+use Rattle.versions.proofs.lemmas.Errors.{along}
+use Rattle.versions.proofs.lemmas.Conversions.{strict_as_general}
 use Rattle.version_rules.specs.key.Key.{key_of_semver, key_of_version, precedence}
 use Rattle.versions.specs.SemVer.{plain_semver}
 use Rattle.versions.specs.Version.{plain_version}

@@ -3,7 +3,7 @@ use Rattle.std.proofs.lemmas.Result.{err_from_is_err_and}
 use Rattle.versions.specs.Errors.{IllegalVersion}
 use Rattle.version_rules.specs.grammar.Version.{VersionOwns, version_of}
 use Rattle.versions.specs.Version.{plain_version}
-use Rattle.versions.proofs.lemmas.Errors.FromText.{reads_or, reads_or-refused}
+use Rattle.versions.proofs.lemmas.Errors.{reads_or, reads_or-refused}
 use Rattle.versions.proofs.version.Version.from_str.Goals as goal
 
 pub returns-in_err-new : goal.returns-in_err-new

@@ -1,6 +1,5 @@
-use Rattle.versions.proofs.lemmas.Errors.Answered.{along}
-use Rattle.versions.proofs.lemmas.Conversions.Key.{general_as_messy}
-use Rattle.versions.proofs.lemmas.Conversions.Mess.{mess_of_version_printed}
+use Rattle.versions.proofs.lemmas.Errors.{along}
+use Rattle.versions.proofs.lemmas.Conversions.{general_as_messy, mess_of_version_printed}
 use Rattle.version_rules.specs.key.Key.{key_of_mess, key_of_version, precedence}
 use Rattle.version_rules.specs.grammar.Mess.{mess_text}
 use Rattle.versions.specs.Mess.{plain_mess}

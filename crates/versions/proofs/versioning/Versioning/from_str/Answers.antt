@@ -3,7 +3,7 @@ use Rattle.std.proofs.lemmas.Result.{err_from_is_err_and}
 use Rattle.versions.specs.Errors.{IllegalVersioning}
 use Rattle.version_rules.specs.grammar.Versioning.{VersioningOwns, versioning_of}
 use Rattle.versions.specs.Versioning.{plain_versioning}
-use Rattle.versions.proofs.lemmas.Errors.FromText.{reads_or, reads_or-refused}
+use Rattle.versions.proofs.lemmas.Errors.{reads_or, reads_or-refused}
 use Rattle.versions.proofs.versioning.Versioning.from_str.Goals as goal
 
 pub returns-in_err-new : goal.returns-in_err-new

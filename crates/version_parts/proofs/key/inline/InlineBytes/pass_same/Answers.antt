@@ -1,5 +1,5 @@
 use Rattle.std.proofs.Common.{rules, ◌≡◌, take}
-use Rattle.version_parts.proofs.lemmas.Compare.Past.{past_left}
+use Rattle.version_parts.proofs.lemmas.Compare.{past_left}
 use Rattle.version_parts.proofs.key.inline.InlineBytes.pass_same.Goals as goal
 
 pub returns-then-eq : goal.returns-then-eq

@@ -1,5 +1,5 @@
 use Rattle.std.proofs.Common.{◌≤◌, length, arith}
-use Rattle.version_parts.proofs.lemmas.NumberBytes.Inline.{room}
+use Rattle.version_parts.proofs.lemmas.Keys.{room}
 use Rattle.version_parts.proofs.key.inline.InlineBytes.put_decimal.Goals as goal
 
 pub write_digits-requires : goal.write_digits-requires

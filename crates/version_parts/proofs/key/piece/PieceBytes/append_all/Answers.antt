@@ -1,4 +1,4 @@
-use Rattle.version_parts.proofs.lemmas.Lists.Growing.{at_any_error, grows_by_byte, grows_in_turn}
+use Rattle.version_parts.proofs.lemmas.Lists.{at_any_error, grows_by_byte, grows_in_turn}
 use Rattle.version_parts.proofs.key.piece.PieceBytes.append_all.Goals as goal
 
 pub returns-in_err-append_ready-2-clause-err : goal.returns-in_err-append_ready-2-clause-err

@@ -1,4 +1,4 @@
-use Rattle.version_parts.proofs.lemmas.Lists.Growing.{at_any_error, grows_not}
+use Rattle.version_parts.proofs.lemmas.Lists.{at_any_error, grows_not}
 use Rattle.version_parts.proofs.key.piece.PieceBytes.append_ready.Goals as goal
 
 pub returns-in_err-extend_from_slice-clause-err : goal.returns-in_err-extend_from_slice-clause-err

@@ -1,5 +1,5 @@
 use Rattle.std.proofs.Common.{refl}
-use Rattle.version_parts.proofs.lemmas.Compare.Past.{past_more}
+use Rattle.version_parts.proofs.lemmas.Compare.{past_more}
 use Rattle.version_parts.proofs.key.piece.PieceBytes.pass_same.Goals as goal
 
 pub returns-then-is_empty-2 : goal.returns-then-is_empty-2

@@ -1,6 +1,5 @@
 use Rattle.std.proofs.Common.{◌≡◌, ◌∙◌, ◌+◌, ◌≤◌, ◌&&◌, ◌∷◌, ◌++◌, [], ap, arith, length, sym, take}
-use Rattle.version_sets.specs.Ends.{has}
-use Rattle.version_sets.specs.Form.{form_bytes}
+use Rattle.version_sets.specs.Form.{has, form_bytes}
 use Rattle.version_sets.specs.Pile.{all_have, through}
 use Rattle.version_order.specs.keys.Sinks.{length-put}
 use Rattle.version_sets.proofs.lemmas.Reader.{and_turned, below_kept, put_taken, same_bytes}

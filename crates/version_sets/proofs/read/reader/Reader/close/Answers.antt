@@ -1,6 +1,5 @@
 use Rattle.std.proofs.Common.{◌≡◌, ◌∙◌, ◌+◌, ◌||◌, ◌∷◌, ◌++◌, [], ap, length, refl, sym, take}
-use Rattle.version_sets.specs.Ends.{has}
-use Rattle.version_sets.specs.Form.{form_bytes}
+use Rattle.version_sets.specs.Form.{has, form_bytes}
 use Rattle.version_sets.specs.Pile.{IsPile, all_have, through}
 use Rattle.version_sets.specs.declared.merge.Rule.TheVariants.{Both}
 use Rattle.version_sets.proofs.lemmas.Reader.{and_true, below_kept, of_one, or_turned}

@@ -1,6 +1,5 @@
 use Rattle.std.proofs.Common.{◌≡◌, ◌∙◌, ◌+◌, [], ap, length, subst, sym, zero-add}
-use Rattle.version_sets.specs.Ends.{has}
-use Rattle.version_sets.specs.Form.{form_bytes}
+use Rattle.version_sets.specs.Form.{has, form_bytes}
 use Rattle.version_sets.specs.Pile.{IsPile, all_have}
 use Rattle.version_sets.specs.declared.merge.Rule.TheVariants.{Either}
 use Rattle.version_sets.proofs.lemmas.Reader.{of_one, or_false}

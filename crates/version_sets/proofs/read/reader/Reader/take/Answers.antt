@@ -4,8 +4,7 @@ use Rattle.version_order.specs.keys.Sinks.{length-put}
 use Rattle.version_order.specs.declared.facts.Operators.TheVariants.{Parts}
 use Rattle.version_order.specs.Keyed.{BeginsKey}
 use Rattle.version_sets.specs.Comparison.{ends_with}
-use Rattle.version_sets.specs.Ends.{Rise, has}
-use Rattle.version_sets.specs.Form.{form_bytes}
+use Rattle.version_sets.specs.Form.{Rise, has, form_bytes}
 use Rattle.version_sets.specs.Pieces.{plain_piece}
 use Rattle.version_sets.specs.Reader.{Continues}
 use Rattle.version_sets.specs.Reading.{With, after_step, answered, asked}

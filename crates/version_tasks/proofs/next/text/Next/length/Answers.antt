@@ -1,7 +1,7 @@
 use Rattle.std.proofs.Common.{◌∙◌, ◌+◌, [], ℕ, List, ap, append-nil, length, zero-add}
 use Rattle.version_rules.specs.grammar.Versioning.{versioning_text}
 use Rattle.version_order.specs.keys.Sinks.{saturated}
-use Rattle.version_tasks.specs.NextRef.{plain_next}
+use Rattle.version_tasks.specs.Next.{plain_next}
 use Rattle.version_tasks.proofs.next.text.Next.length.Goals as goal
 
 pub returns : goal.returns

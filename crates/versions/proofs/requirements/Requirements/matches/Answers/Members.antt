@@ -4,7 +4,7 @@ use Rattle.std.proofs.lemmas.List.{get_or-map, length-map}
 use Rattle.versions.specs.declared.requirement.Requirement.{Requirement}
 use Rattle.version_rules.specs.requirement.Matching.{Matches, MatchesAll}
 use Rattle.version_rules.specs.requirement.Requirement.{PlainRequirement}
-use Rattle.versions.specs.Requirement.{plain_requirement}
+use Rattle.versions.specs.Requirements.{plain_requirement}
 use Rattle.version_rules.specs.grammar.Versioning.{PlainVersioning}
 
 -- if all members match a version, so does the member at a place

@@ -1,18 +1,27 @@
--- The laws of the plain order of versions of any kind, which the impls of `Eq` and `Hash` cite.
-use Rattle.std.proofs.Common.{◌≡◌, ◌++◌, true, ap}
+-- The laws of the order of strict versions, which the impls of `Ord`, `Eq` and `Hash` cite.
+use Rattle.std.proofs.Common.{◌≡◌, true, refl, ◌++◌, ap}
 use Rattle.std.specs.Cmp.{Equal-is}
-use Rattle.std.specs.Hash.{HashWrites}
 use Rattle.std.specs.Ordering.{eq_by_cmp}
+use Rattle.version_rules.specs.grammar.SemVer.{PlainSemVer}
+use Rattle.versions.specs.SemVer.{semver_fed}
+use Rattle.version_rules.specs.order.Kinds.{semver_cmp, version_plain_cmp}
+use Rattle.version_rules.specs.laws.Versioning.{tied_same, messes_same}
+use Rattle.std.specs.Hash.{HashWrites}
 use Rattle.version_rules.specs.grammar.Mess.{PlainMess, mess_plain_cmp}
 use Rattle.versions.specs.Mess.{mess_fed}
-use Rattle.version_rules.specs.laws.Versioning.{messes_same, versions_same}
-use Rattle.versions.specs.SemVerLaws.{fed_alike}
 use Rattle.version_rules.specs.grammar.Version.{PlainVersion}
 use Rattle.versions.specs.Version.{version_fed}
-use Rattle.version_rules.specs.order.Kinds.{version_plain_cmp}
 use Rattle.version_rules.specs.grammar.Versioning.{PlainVersioning, Ideal, General, Complex, versioning_plain_cmp}
 use Rattle.versions.specs.Versioning.{versioning_fed}
 use Rattle.std.specs.Hash as fed
+
+-- equal versions are fed alike
+pub fed_alike : (a b : PlainSemVer) → eq_by_cmp semver_cmp a b ≡ true → semver_fed a ≡ semver_fed b
+fed_alike a b tied =
+    let same = tied_same a b ((Equal-is (semver_cmp a b)).0 tied) in
+    rw (same.major, same.minor, same.patch, same.pre_rel) refl
+
+-- ---- the laws of the plain order of versions of any kind, which the impls of `Eq` and `Hash` cite
 
 -- equal versions are fed alike
 pub versions_fed_alike : (a b : PlainVersioning) → eq_by_cmp versioning_plain_cmp a b ≡ true

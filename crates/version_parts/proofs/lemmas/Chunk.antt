@@ -1,2 +1,0 @@
--- Chunks that are scanned.
-pub mod ShortRuns

@@ -1,2 +1,0 @@
--- Dotted lists that are scanned.
-pub mod DottedScan

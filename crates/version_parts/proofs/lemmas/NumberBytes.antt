@@ -1,2 +1,0 @@
--- The bytes of numbers, as they are put.
-pub mod Inline

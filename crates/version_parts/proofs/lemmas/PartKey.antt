@@ -1,2 +1,0 @@
--- The parts of owned chunks.
-pub mod Lists
