@@ -2,7 +2,7 @@
 use Rattle.version_rules.specs.grammar.Versioning.{PlainVersioning}
 use Rattle.version_tasks.specs.NextText.{next_text}
 use Rattle.version_tasks.specs.declared.next.text.Next.{Next}
-use Rattle.version_texts.specs.versioning_ref.VersioningRef.{version_in}
+use Rattle.version_texts.specs.VersioningRef.{version_in}
 
 -- the version that it is
 abbrev pub plain_next : Next → PlainVersioning

@@ -6,7 +6,7 @@ use Rattle.version_answers.specs.one.Show.{kind_name, shown_epoch, stability_nam
 use Rattle.version_rules.specs.grammar.Kind.{versioning_kind}
 use Rattle.version_rules.specs.grammar.Versioning.{PlainVersioning, versioning_nth, versioning_text}
 use Rattle.version_tasks.specs.Stability.{stability_of}
-use Rattle.version_texts.specs.versioning_ref.Field.{field_text}
+use Rattle.version_texts.specs.VersioningRef.{field_text}
 use Rattle.version_texts.specs.declared.versioning_ref.field.Field.TheVariants.{PreRelease, Release, Metadata}
 
 -- a number or a text, and null for what a version does not have

@@ -13,7 +13,7 @@ use Rattle.version_rules.specs.grammar.Version.{epoch_front, version_front, vers
 use Rattle.version_tasks.specs.Tag.{place_in_tag}
 use Rattle.version_tasks.specs.Worked.{WorkedRows, next_rows, no_next_rows}
 use Rattle.version_tasks.proofs.lemmas.Next.Worked.{next_rows_are, no_next_rows_are}
-use Rattle.version_texts.specs.versioning_ref.VersioningRef.{version_in}
+use Rattle.version_texts.specs.VersioningRef.{version_in}
 
 pub worked_rows : WorkedRows
 unfolding place_in_tag body_front chunk_front_of dotted_front optional repeated run_front

@@ -6,7 +6,7 @@ ghost use Rattle.version_rules.specs.key.Key.{key_of, precedence};
 ghost use Rattle.version_rules.specs.key.KeyTies.{key_tie_cmp};
 ghost use Rattle.version_rules.specs.grammar.Kind.{versioning_kind};
 ghost use Rattle.version_rules.specs.grammar.Versioning.{PlainVersioning, versioning_of};
-ghost use Rattle.version_texts.specs.key.KeyTies.{kind_on, kind_place, marked_number, texts_tie};
+ghost use Rattle.version_texts.specs.Order.{kind_on, kind_place, marked_number, texts_tie};
 
 use crate::order::ties::{compare_general, compare_messy};
 use std::cmp::Ordering;

@@ -9,7 +9,7 @@ use Rattle.version_order.specs.keys.OrderLaws.{then_equal}
 use Rattle.version_rules.specs.laws.Release.{chunk_total, chunks_same}
 use Rattle.version_rules.specs.order.ReleaseOrder.{chunk_cmp, release_cmp}
 use Rattle.version_tasks.specs.NextPre.{AreNamed}
-use Rattle.version_texts.proofs.lemmas.order.Piece.Spelled.{release_chunks}
+use Rattle.version_texts.proofs.lemmas.scan.Spelled.{release_chunks}
 
 -- a number after chunks, and a chunk after the same ones
 pub behind_word : (word : List PlainChunk) (n : ℕ) (c : PlainChunk) (more : List PlainChunk)

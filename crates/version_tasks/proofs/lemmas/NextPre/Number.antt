@@ -19,14 +19,12 @@ use Rattle.version_tasks.proofs.lemmas.NextPre.Chunks.{before_same, begun, behin
 use Rattle.version_tasks.proofs.lemmas.NextPre.Text.{chunks_joined, dotted, release_spelled}
 use Rattle.version_tasks.specs.NextPreText.{IsLeastNumber, NonePass, Passes, is_release, is_word, word_chunks, word_text}
 use Rattle.version_texts.proofs.lemmas.order.Piece.{pieces_are}
-use Rattle.version_texts.proofs.lemmas.scan.Splits.{split-append, split_run}
-use Rattle.version_texts.proofs.lemmas.scan.TextKind.Chunks.{numeral_spells}
-use Rattle.version_texts.specs.key.TextKey.{chunk_of, chunks_of}
-use Rattle.version_order.specs.texts.Pieces.{pieces}
-use Rattle.version_order.specs.texts.Pieces.{behind_piece, first_piece, further_pieces, is_dot}
-use Rattle.version_texts.specs.scan.TextKind.{is_chunk, is_numeral}
+use Rattle.version_texts.proofs.lemmas.scan.Spelled.{split-append, split_run, numeral_spells}
+use Rattle.version_texts.specs.Key.{chunk_of, chunks_of}
+use Rattle.version_order.specs.texts.Pieces.{pieces, behind_piece, first_piece, further_pieces, is_dot}
+use Rattle.version_texts.specs.Scan.{is_chunk, is_numeral}
 use Rattle.version_order.specs.texts.Front.{is_run}
-use Rattle.version_texts.specs.versioning_ref.Numbers.{numeral_value}
+use Rattle.version_texts.specs.VersioningRef.{numeral_value}
 
 -- ---- a chunk is a number exactly if it is a numeral
 

@@ -1,5 +1,5 @@
 use Rattle.std.proofs.Common.{◌∙◌, Some, ap, sym}
-use Rattle.version_texts.specs.versioning_ref.VersioningRef.{plain_versioning_ref}
+use Rattle.version_texts.specs.VersioningRef.{plain_versioning_ref}
 use Rattle.version_tasks.proofs.lemmas.NextPre.Read.{with_own, without_own}
 use Rattle.version_tasks.proofs.pre.pre_release.Goals as goal
 

@@ -1,6 +1,6 @@
 use Rattle.std.proofs.Common.{◌-◌, ◌∙◌, take, sym, ap}
 use Rattle.version_tasks.proofs.lemmas.Stability.{before_metadata}
-use Rattle.version_texts.specs.versioning_ref.VersioningRef.{plain_versioning_ref}
+use Rattle.version_texts.specs.VersioningRef.{plain_versioning_ref}
 use Rattle.version_tasks.proofs.stability.counted_text.Goals as goal
 
 pub returns-in-Some : goal.returns-in-Some

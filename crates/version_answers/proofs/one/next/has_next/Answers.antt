@@ -2,7 +2,7 @@ use Rattle.std.proofs.Common.{◌≡◌, ◌∙◌, true, List, ℕ, Option, Non
 use Rattle.version_tasks.specs.NextPre.{IsNextPre}
 use Rattle.version_tasks.specs.NextPreRef.{plain_next_pre}
 use Rattle.version_tasks.specs.NextRef.{plain_next}
-use Rattle.version_texts.specs.versioning_ref.VersioningRef.{plain_versioning_ref}
+use Rattle.version_texts.specs.VersioningRef.{plain_versioning_ref}
 use Rattle.version_answers.proofs.one.next.has_next.Goals as goal
 
 -- what a value has, where there is one
