@@ -11,7 +11,7 @@ use Rattle.version_rules.specs.grammar.Chunk.{PlainChunk}
 use Rattle.version_order.specs.texts.DigitRun.{is_digits}
 use Rattle.version_rules.specs.grammar.SemVer.{PlainSemVer}
 use Rattle.version_rules.specs.order.Kinds.{semver_cmp}
-use Rattle.version_texts.specs.key.TextKey.{chunks_of}
+use Rattle.version_texts.specs.Key.{chunks_of}
 use Rattle.version_order.specs.texts.Pieces.{pieces}
 use Rattle.version_order.specs.texts.Front.{is_run}
 use Rattle.version_order.specs.texts.Cuts.{cut_first}

@@ -6,7 +6,7 @@ ghost use Rattle.std.specs.List.{list_all, take_while};
 ghost use Rattle.version_order.specs.Walks.{IsCut, Stops};
 ghost use Rattle.version_order.specs.texts.Bytes.{dot, is_identifier_byte, is_metadata_byte};
 ghost use Rattle.version_order.specs.texts.DigitRun.{behind_digits};
-ghost use Rattle.version_texts.specs.key.TextKey.{chunks_of};
+ghost use Rattle.version_texts.specs.Key.{chunks_of};
 ghost use Rattle.scheme_semver.specs.Reading.{before_metadata, is_core, is_pre_release, is_tail, tail_of};
 ghost use Rattle.scheme_semver.specs.Texts.{allows, has_leading_zero, identifiers_of, is_number, is_section};
 ghost use Rattle.scheme_semver.specs.declared.reader.Section.TheVariants.{Metadata};

@@ -14,9 +14,9 @@ ghost use Rattle.version_rules.specs.key.PartKey.{part_cmp, part_key};
 ghost use Rattle.version_rules.specs.key.Tail.{Bare};
 ghost use Rattle.version_texts.specs.declared.order.difference.Difference.TheVariants as difference;
 ghost use Rattle.version_texts.specs.declared.versioning_ref.field.Field.TheVariants as field;
-ghost use Rattle.version_texts.specs.key.TextKey.{sections_of, tail_of_sections};
-ghost use Rattle.version_texts.specs.order.Difference.{difference_of};
-ghost use Rattle.version_texts.specs.versioning_ref.Field.{field_text};
+ghost use Rattle.version_texts.specs.Key.{sections_of, tail_of_sections};
+ghost use Rattle.version_texts.specs.Order.{difference_of};
+ghost use Rattle.version_texts.specs.VersioningRef.{field_text};
 
 // The part that is printed of a version, by its place, is the part that the order has there: the same number or word,
 // counted from the same beginning. The word `nothing` stands for it exactly if the version has no such part.

@@ -3,7 +3,7 @@ ghost use Rattle.std.specs.Prelude.{◌≡◌};
 ghost use Rattle.std.specs.Option.{option_map};
 ghost use Rattle.version_answers.specs.Spelling.{before_named, found_text, mixed_spelling, named_text, spelled, spelled_mixed};
 ghost use Rattle.version_schemes.specs.any.AnyVersion.{plain_any};
-ghost use Rattle.version_texts.specs.versioning_ref.VersioningRef.{plain_versioning_ref};
+ghost use Rattle.version_texts.specs.VersioningRef.{plain_versioning_ref};
 
 use version_schemes::{AnyVersion, Scheme};
 use version_tasks::{text_after_prefix, text_in_tag};

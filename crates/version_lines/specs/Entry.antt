@@ -9,7 +9,7 @@ use Rattle.version_lines.specs.declared.sort.entry.Entry.{Entry}
 use Rattle.version_schemes.specs.any.Order.{PlainAny}
 use Rattle.version_order.specs.keys.Lists.{bytes_cmp}
 use Rattle.version_rules.specs.declared.kind.Kind.{Kind}
-use Rattle.version_texts.specs.key.KeyTies.{kind_on, marked_number, texts_tie}
+use Rattle.version_texts.specs.Order.{kind_on, marked_number, texts_tie}
 
 -- the line of an entry
 abbrev pub entry_line : Entry → List ℕ

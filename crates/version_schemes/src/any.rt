@@ -6,7 +6,7 @@ ghost use Rattle.version_rules.specs.grammar.Versioning.{versioning_of};
 ghost use Rattle.version_order.specs.keys.Lists.{bytes_cmp};
 ghost use Rattle.version_schemes.specs.any.Order.{any_of, any_precedence};
 ghost use Rattle.version_schemes.specs.declared.scheme.Scheme.TheVariants.{Mixed};
-ghost use Rattle.version_texts.specs.versioning_ref.VersioningRef.{plain_versioning_ref};
+ghost use Rattle.version_texts.specs.VersioningRef.{plain_versioning_ref};
 
 use crate::key::append_key;
 use crate::scheme::Scheme;

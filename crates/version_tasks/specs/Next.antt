@@ -7,10 +7,9 @@ use Rattle.version_rules.specs.grammar.Chunk.{number_of}
 use Rattle.version_rules.specs.key.Key.{key_of, precedence, versioning_epoch}
 use Rattle.version_rules.specs.grammar.Versioning.{versioning_kind, PlainVersioning, Ideal, General, Complex}
 use Rattle.version_rules.specs.grammar.Last.{PlainLast, Numeric, Rc, Post, Alphanum}
-use Rattle.version_rules.specs.grammar.Versioning.{PlainVersioning, Ideal, General, Complex}
 use Rattle.version_tasks.specs.NextText.{next_text}
 use Rattle.version_tasks.specs.declared.next.text.Next.{Next}
-use Rattle.version_texts.specs.versioning_ref.VersioningRef.{version_in}
+use Rattle.version_texts.specs.VersioningRef.{version_in}
 use Rattle.version_tasks.specs.Tag.{is_point, is_separator}
 
 -- all of these numbers, if none is missing

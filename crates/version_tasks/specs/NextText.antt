@@ -2,7 +2,7 @@
 use Rattle.std.specs.Prelude.{◌==◌, ℕ, zero, suc, Bool, false, List, [], ◌∷◌, ◌++◌, Option, Some, None}
 use Rattle.std.specs.Fmt.{decimal}
 use Rattle.version_order.specs.texts.Bytes.{dot}
-use Rattle.version_texts.specs.versioning_ref.Numbers.{numeral_value}
+use Rattle.version_texts.specs.VersioningRef.{numeral_value}
 
 -- whether a text is the numeral 0
 abbrev pub is_zero_number : Option ℕ → Bool

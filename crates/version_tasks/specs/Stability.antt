@@ -13,7 +13,7 @@ use Rattle.version_rules.specs.grammar.Version.{version_text}
 use Rattle.version_rules.specs.grammar.Versioning.{PlainVersioning, Ideal, General, Complex}
 use Rattle.version_tasks.specs.declared.stability.Stability.{Stability}
 use Rattle.version_tasks.specs.declared.stability.Stability.TheVariants.{Dev, Alpha, Beta, Rc, Stable}
-use Rattle.version_texts.specs.versioning_ref.Field.{bare_semver, bare_version, field_text}
+use Rattle.version_texts.specs.VersioningRef.{bare_semver, bare_version, field_text}
 use Rattle.version_order.specs.texts.Pieces.{first_piece}
 use Rattle.version_texts.specs.declared.versioning_ref.field.Field.TheVariants as field
 

@@ -7,7 +7,7 @@ use Rattle.version_tasks.specs.Stability.{stability_of}
 use Rattle.version_tasks.specs.Tag.{version_after_prefix, version_in_tag}
 use Rattle.version_tasks.specs.declared.stability.Stability.{Stability}
 use Rattle.version_tasks.specs.declared.stability.Stability.TheVariants.{Dev, Alpha, Beta, Rc, Stable}
-use Rattle.version_texts.specs.versioning_ref.VersioningRef.{version_in}
+use Rattle.version_texts.specs.VersioningRef.{version_in}
 
 -- tags, and the texts of the versions in them
 abbrev pub tags : List (List ℕ × Option (List ℕ))

@@ -8,7 +8,7 @@ ghost use Rattle.version_rules.specs.grammar.Versioning.{PlainVersioning};
 ghost use Rattle.version_rules.specs.requirement.Matching.{MatchesAll};
 ghost use Rattle.version_tasks.specs.Newest.{given_version, IsNewest, IsWanted, NoVersion};
 ghost use Rattle.version_tasks.specs.Stability.{rank, stability_of};
-ghost use Rattle.version_texts.specs.versioning_ref.VersioningRef.{plain_versioning_ref};
+ghost use Rattle.version_texts.specs.VersioningRef.{plain_versioning_ref};
 
 use crate::stability::{Stability, stability_of};
 use crate::tag::version_in_tag;

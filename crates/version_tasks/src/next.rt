@@ -6,8 +6,8 @@ ghost use Rattle.version_rules.specs.grammar.Versioning.{is_prerelease, versioni
 ghost use Rattle.version_tasks.specs.Next.{IsNext, NoNext, last_place, plain_next};
 ghost use Rattle.version_tasks.specs.NextText.{is_zero};
 ghost use Rattle.version_order.specs.texts.Pieces.{further_pieces, is_dot, pieces};
-ghost use Rattle.version_texts.specs.scan.TextKind.{is_numeral};
-ghost use Rattle.version_texts.specs.versioning_ref.VersioningRef.{plain_versioning_ref};
+ghost use Rattle.version_texts.specs.Scan.{is_numeral};
+ghost use Rattle.version_texts.specs.VersioningRef.{plain_versioning_ref};
 
 mod text;
 

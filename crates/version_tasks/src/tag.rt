@@ -5,7 +5,7 @@ ghost use Rattle.std.specs.Option.{option_map};
 ghost use Rattle.version_rules.specs.grammar.Versioning.{versioning_text};
 ghost use Rattle.version_tasks.specs.Tag.{is_separator, text_after_prefix, text_at_beginning, text_in_tag, version_after_prefix, version_in_tag, without_v};
 ghost use Rattle.version_tasks.specs.Next.{after_separator};
-ghost use Rattle.version_texts.specs.versioning_ref.VersioningRef.{plain_versioning_ref};
+ghost use Rattle.version_texts.specs.VersioningRef.{plain_versioning_ref};
 
 use version_order::{Class, begins_with};
 use version_texts::VersioningRef;

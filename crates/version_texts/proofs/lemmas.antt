@@ -1,4 +1,4 @@
-pub mod Mixed
+pub mod Library
 pub mod Viable
 pub mod key
 pub mod order

@@ -1,7 +1,7 @@
+pub mod Key
 pub mod Mixed
-pub mod Viable
-pub mod key
-pub mod order
-pub mod requirement
-pub mod scan
-pub mod versioning_ref
+pub mod Order
+pub mod Range
+pub mod Requirement
+pub mod Scan
+pub mod VersioningRef

@@ -15,7 +15,7 @@ impl<'t> SchemeVersion<'t> for VersioningRef<'t> {
     ghost use Rattle.std.specs.Ordering.{on};
     ghost use Rattle.version_rules.specs.key.Key.{key_of, precedence};
     ghost use Rattle.version_texts.specs.Mixed.{mixed, mixed_begins, mixed_facts, mixed_rules, mixed_some, mixed_writes};
-    ghost use Rattle.version_texts.specs.versioning_ref.VersioningRef.{plain_versioning_ref};
+    ghost use Rattle.version_texts.specs.VersioningRef.{plain_versioning_ref};
 
     ghost rules = { mixed_rules };
 

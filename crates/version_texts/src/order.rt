@@ -5,8 +5,8 @@ ghost use Rattle.std.specs.Ordering.{nat_cmp};
 ghost use Rattle.std.specs.Str.Parse.{digits_value};
 ghost use Rattle.version_rules.specs.key.Key.{precedence};
 ghost use Rattle.version_rules.specs.key.Tail.{tail_cmp};
-ghost use Rattle.version_texts.specs.scan.Shape.{Fits, epoch_in, tail_in};
-ghost use Rattle.version_texts.specs.key.TextKey.{tail_of, text_key};
+ghost use Rattle.version_texts.specs.Scan.{Fits, epoch_in, tail_in};
+ghost use Rattle.version_texts.specs.Key.{tail_of, text_key};
 
 pub(crate) mod delimiters;
 pub(crate) mod difference;

@@ -7,9 +7,8 @@ ghost use Rattle.std.specs.Option.{option_map};
 ghost use Rattle.version_order.specs.texts.Bytes.{HasDigits};
 ghost use Rattle.version_order.specs.texts.DigitRun.{is_digits};
 ghost use Rattle.version_order.specs.texts.Class.{contains, first_rank};
-ghost use Rattle.version_texts.specs.scan.Shape.{behind_body, body_end, body_start, shape_at, shape_of};
+ghost use Rattle.version_texts.specs.Scan.{behind_body, body_end, body_start, shape_at, shape_of, are_marked_runs, body_of, epoch_is_numeral, has_three_numbers, is_chunk, is_general, is_metadata_tail, is_not_plus, is_numeral, is_released, is_tail, kind_in, section_end, section_pieces};
 ghost use Rattle.version_order.specs.texts.Pieces.{pieces};
-ghost use Rattle.version_texts.specs.scan.TextKind.{are_marked_runs, body_of, epoch_is_numeral, has_three_numbers, is_chunk, is_general, is_metadata_tail, is_not_plus, is_numeral, is_released, is_tail, kind_in, section_end, section_pieces};
 ghost use Rattle.version_order.specs.texts.Front.{is_run};
 
 pub(crate) mod numeral;
@@ -99,6 +98,7 @@ fn finish(text: &[u8], body: Body) -> Option<Shape>
 
 // Returns the shape of a text that is messy or no version.
 #[inline(always)]
+#[tactic(auto, using(crate::proofs::lemmas::scan::Scanned::ended, crate::proofs::lemmas::scan::Scanned::goes_on, crate::proofs::lemmas::scan::Scanned::no_kind))]
 fn scan_messy(text: &[u8], body: usize, end: usize) -> Option<Shape>
     requires body { body ≡ body_start text.now }
     requires end { end ≡ body_end text.now }
@@ -303,6 +303,7 @@ fn scan_release(text: &[u8], start: usize) -> Option<usize>
 
 // Returns whether nothing follows a place, or a plus and metadata.
 #[inline(always)]
+#[tactic(auto, using(crate::proofs::lemmas::scan::Section::lone_plus, crate::proofs::lemmas::scan::Section::metadata_by_end, crate::proofs::lemmas::scan::Section::plus_at))]
 fn is_metadata_tail(text: &[u8], start: usize, next: u8) -> bool
     requires within { start ≤ length text.now }
     requires next { next ≡ first_rank (drop start text.now) }
@@ -322,6 +323,7 @@ fn is_metadata_tail(text: &[u8], start: usize, next: u8) -> bool
 
 // Returns whether only runs of letters and digits follow a place, each behind a dot or a sign.
 #[inline(always)]
+#[tactic(auto, using(crate::proofs::lemmas::scan::Section::marked_empty, crate::proofs::lemmas::scan::Section::marked_next))]
 fn are_marked_runs(text: &[u8], start: usize) -> bool
     requires { start ≤ length text.now }
     ensures { result ≡ are_marked_runs (drop start text.now) }

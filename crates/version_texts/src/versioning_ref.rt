@@ -4,17 +4,17 @@ ghost use Rattle.std.specs.Prelude.{◌≡◌, Some, true};
 ghost use Rattle.std.specs.Char.{is_ascii_digit};
 ghost use Rattle.std.specs.List.{list_all};
 ghost use Rattle.std.specs.Str.Parse.{digits_value};
-ghost use Rattle.version_texts.specs.scan.Shape.{shape_of};
+ghost use Rattle.version_texts.specs.Scan.{shape_of};
 ghost use Rattle.version_order.specs.keys.Sinks.{saturated};
-ghost use Rattle.version_rules.specs.grammar.Versioning.{versioning_kind, kind_rank, PlainVersioning};
+ghost use Rattle.version_rules.specs.grammar.Versioning.{versioning_kind};
 
 pub(crate) mod field;
 pub(crate) mod numbers;
 
 use crate::key::length::{LONGEST_WITH_ROOM, length_with, room_for};
+use crate::key::ties::compare_key_ties;
 use crate::key::whole;
 use crate::order::difference::{Difference, key_difference};
-use crate::order::ties;
 use crate::requirement::end_order::compare_ends;
 use crate::requirement::{matching, range};
 use crate::scan::scan;
@@ -45,11 +45,10 @@ impl<'a> VersioningRef<'a> {
     ghost use Rattle.version_rules.specs.requirement.Range.{end_bytes, kept_parts, begun, has_kind, AreBetween};
     ghost use Rattle.version_rules.specs.key.Key.{key_of, precedence, versioning_epoch, key_bytes};
     ghost use Rattle.version_rules.specs.grammar.Versioning.{is_prerelease, versioning_nth, versioning_of, versioning_plain_cmp, versioning_text};
-    ghost use Rattle.version_texts.specs.order.Difference.{difference_of};
-    ghost use Rattle.version_texts.specs.versioning_ref.Field.{epoch_and_parts, field_span};
+    ghost use Rattle.version_texts.specs.Order.{difference_of};
+    ghost use Rattle.version_texts.specs.VersioningRef.{epoch_and_parts, field_span, major_text, plain_versioning_ref};
     ghost use Rattle.version_order.specs.keys.Sinks.{saturated, IsWritten};
     ghost use Rattle.version_texts.specs.Mixed.{is_bare};
-    ghost use Rattle.version_texts.specs.versioning_ref.VersioningRef.{major_text, plain_versioning_ref};
 
     /// Parses the whole text as a strict version, else as a general, else as a messy one; returns None if it does not
     /// parse. Does not allocate.
@@ -63,6 +62,7 @@ impl<'a> VersioningRef<'a> {
     /// Parses bytes as `new` parses their text; returns None if they do not parse. Bytes that are not UTF-8 are not a
     /// version. Does not allocate.
     #[inline(always)]
+    #[tactic(auto, using(crate::proofs::lemmas::versioning_ref::VersioningRef::spelled, crate::proofs::lemmas::versioning_ref::VersioningRef::unspelled))]
     pub fn from_bytes(bytes: &'a [u8]) -> Option<VersioningRef<'a>>
         ensures { option_map plain_versioning_ref result ≡ versioning_of bytes.now }
     {
@@ -72,6 +72,7 @@ impl<'a> VersioningRef<'a> {
 
     /// Returns its kind. Does not allocate.
     #[inline(always)]
+    #[tactic(auto, using(crate::proofs::lemmas::versioning_ref::VersioningRef::kind_read))]
     pub fn kind(&self) -> Kind
         ensures { result ≡ versioning_kind (plain_versioning_ref self.now) }
     {
@@ -88,6 +89,7 @@ impl<'a> VersioningRef<'a> {
     }
 
     /// Returns the text that it was parsed from, which is what it prints. Does not allocate.
+    #[tactic(auto, using(version_rules::proofs::lemmas::Grammar::is_read, version_rules::proofs::lemmas::Grammar::same_bytes, crate::proofs::lemmas::versioning_ref::VersioningRef::spelled, crate::proofs::lemmas::versioning_ref::VersioningRef::printed_read, crate::proofs::lemmas::versioning_ref::VersioningRef::utf8_read))]
     pub fn text(&self) -> &'a str
         ensures printed { result.now ≡ versioning_text (plain_versioning_ref self.now) }
         ensures read { versioning_of result.now ≡ Some (plain_versioning_ref self.now) }
@@ -97,6 +99,7 @@ impl<'a> VersioningRef<'a> {
 
     /// Returns the bytes of its text. Does not allocate.
     #[inline(always)]
+    #[tactic(auto, using(crate::proofs::lemmas::versioning_ref::VersioningRef::spelled, crate::proofs::lemmas::versioning_ref::VersioningRef::printed_read))]
     pub fn bytes(&self) -> &'a [u8]
         ensures printed { result.now ≡ versioning_text (plain_versioning_ref self.now) }
         ensures read { versioning_of result.now ≡ Some (plain_versioning_ref self.now) }
@@ -105,6 +108,7 @@ impl<'a> VersioningRef<'a> {
     }
 
     // Returns the major number of a strict version as its text has it, and the dot behind it. Empty for other kinds.
+    #[tactic(auto, using(crate::proofs::lemmas::versioning_ref::VersioningRef::strict_major, crate::proofs::lemmas::versioning_ref::VersioningRef::other_major))]
     pub(crate) fn major(&self) -> &'a [u8]
         ensures { result.now ≡ major_text (plain_versioning_ref self.now) }
     {
@@ -125,6 +129,7 @@ impl<'a> VersioningRef<'a> {
 
     /// Returns its epoch: the number before its colon, which counts in the order. None without an epoch, which a strict
     /// version never has. A number past `u64::MAX` gives `u64::MAX`. Does not allocate.
+    #[tactic(auto, using(std::proofs::lemmas::Bool::ne_eqb, crate::proofs::lemmas::versioning_ref::VersioningRef::shape_fits, crate::proofs::lemmas::versioning_ref::Field::field_spans))]
     pub fn epoch(&self) -> Option<u64>
         ensures { result ≡ option_map saturated (versioning_epoch (plain_versioning_ref self.now)) }
     {
@@ -157,6 +162,7 @@ impl<'a> VersioningRef<'a> {
 
     /// Returns the text of its epoch with the colon, which is empty without an epoch, and the text of its parts with
     /// dots between them. None of a messy version. Does not allocate.
+    #[tactic(auto, using(crate::proofs::lemmas::versioning_ref::Field::body_within, crate::proofs::lemmas::versioning_ref::Field::no_texts, crate::proofs::lemmas::versioning_ref::Field::texts_are, crate::proofs::lemmas::versioning_ref::VersioningRef::shape_fits, crate::proofs::lemmas::Library::length_taken))]
     pub fn epoch_and_parts(&self) -> Option<(&'a [u8], &'a [u8])>
         ensures { option_map (λ texts. (texts.0.now, texts.1.now)) result
             ≡ epoch_and_parts (plain_versioning_ref self.now) }
@@ -169,6 +175,7 @@ impl<'a> VersioningRef<'a> {
 
     /// Returns whether it has an epoch and parts alone: it is strict or general, without pre-release, release and
     /// metadata. Does not allocate.
+    #[tactic(auto, using(crate::proofs::lemmas::versioning_ref::Field::bare_general, crate::proofs::lemmas::versioning_ref::Field::bare_strict, crate::proofs::lemmas::versioning_ref::Field::messy_not_bare, crate::proofs::lemmas::versioning_ref::VersioningRef::kind_read))]
     pub fn is_bare(&self) -> bool
         ensures { result ≡ is_bare (plain_versioning_ref self.now) }
     {
@@ -189,6 +196,7 @@ impl<'a> VersioningRef<'a> {
 
     /// Compares two versions of any kind by their keys: the order of all versions (docs/ORDER.md). `Ord` breaks its
     /// ties. Does not allocate.
+    #[tactic(auto, using(crate::proofs::lemmas::versioning_ref::VersioningRef::shape_fits, crate::proofs::lemmas::versioning_ref::VersioningRef::key_read))]
     pub fn precedence(&self, other: &VersioningRef<'_>) -> Ordering
         ensures { result ≡ precedence (key_of (plain_versioning_ref self.now))
             (key_of (plain_versioning_ref other.now)) }
@@ -200,6 +208,7 @@ impl<'a> VersioningRef<'a> {
     /// in their tails. A version whose parts end differs there from one that has more, as `1.2` in part 2 from `1.2.0`.
     /// `Same` and `Tie` come exactly where `precedence` is `Equal`: `Same` where `==` holds, otherwise `Tie`. Does not
     /// allocate.
+    #[tactic(auto, using(crate::proofs::lemmas::order::Difference::by_keys, crate::proofs::lemmas::versioning_ref::VersioningRef::shape_fits, crate::proofs::lemmas::versioning_ref::VersioningRef::key_read))]
     pub fn difference(&self, other: &VersioningRef<'_>) -> Difference
         ensures { result ≡ difference_of (plain_versioning_ref self.now)
             (plain_versioning_ref other.now) }
@@ -215,6 +224,7 @@ impl<'a> VersioningRef<'a> {
     }
 
     /// Appends the bytes of its key to a list. `Err` means allocation failure; the list is then unchanged.
+    #[tactic(auto, using(version_order::proofs::lemmas::Sinks::appended))]
     pub fn append_key(&self, list: &mut Vec<u8>) -> Result<(), AllocError>
         ensures ok { OnOk result (list.new.items
             ≡ list.old.items ++ key_bytes (key_of (plain_versioning_ref self.now))) }
@@ -229,6 +239,7 @@ impl<'a> VersioningRef<'a> {
 
     // Returns a size that is enough for its key: for a long text its length, so that no memory is taken in vain.
     #[inline(always)]
+    #[tactic(auto, using(crate::proofs::lemmas::versioning_ref::VersioningRef::spelled))]
     fn key_room(&self) -> usize
         ensures { saturated (length (key_bytes (key_of (plain_versioning_ref self.now)))) ≤ result }
     {
@@ -242,6 +253,7 @@ impl<'a> VersioningRef<'a> {
     /// Writes the bytes of its key into a buffer from a place on, if they fit there, and returns the place after them.
     /// Does not allocate.
     #[inline(always)]
+    #[tactic(auto, using(crate::proofs::lemmas::versioning_ref::VersioningRef::shape_fits, crate::proofs::lemmas::versioning_ref::VersioningRef::key_read))]
     pub fn write_key(&self, room: &mut [u8], start: usize) -> usize
         ensures bytes { IsWritten room.old start
             (key_bytes (key_of (plain_versioning_ref self.now))) room.new }
@@ -263,6 +275,7 @@ impl<'a> VersioningRef<'a> {
 
     /// Compares the bytes of its key with given bytes, up to the first difference. Does not allocate.
     #[inline(always)]
+    #[tactic(auto, using(crate::proofs::lemmas::versioning_ref::VersioningRef::shape_fits, crate::proofs::lemmas::versioning_ref::VersioningRef::key_read))]
     pub fn compare_key(&self, bytes: &[u8]) -> Ordering
         ensures { result ≡ bytes_cmp (key_bytes (key_of (plain_versioning_ref self.now)))
             bytes.now }
@@ -292,6 +305,7 @@ impl<'a> VersioningRef<'a> {
 
     /// Appends the bytes of an end of a range of its key to a list. `Err` means allocation failure; the list is then
     /// unchanged.
+    #[tactic(auto, using(version_order::proofs::lemmas::Sinks::appended))]
     pub fn append_end(&self, end: End, list: &mut Vec<u8>) -> Result<(), AllocError>
         ensures ok { OnOk result (list.new.items
             ≡ list.old.items ++ end_bytes end (key_of (plain_versioning_ref self.now))) }
@@ -306,6 +320,7 @@ impl<'a> VersioningRef<'a> {
 
     /// Writes the bytes of an end of a range into a sink. Does not allocate.
     #[inline(always)]
+    #[tactic(auto, using(crate::proofs::lemmas::versioning_ref::VersioningRef::shape_fits, crate::proofs::lemmas::versioning_ref::VersioningRef::key_read))]
     pub fn put_end<S: Sink>(&self, end: End, sink: &mut S)
         requires { S.fits sink.old (end_bytes end (key_of (plain_versioning_ref self.now))) }
         ensures { S.takes sink.old (end_bytes end (key_of (plain_versioning_ref self.now)))
@@ -316,6 +331,7 @@ impl<'a> VersioningRef<'a> {
 
     /// Writes its key into a sink.
     #[inline(always)]
+    #[tactic(auto, using(crate::proofs::lemmas::versioning_ref::VersioningRef::shape_fits, crate::proofs::lemmas::versioning_ref::VersioningRef::key_read))]
     pub fn put_key<S: Sink>(&self, sink: &mut S)
         requires { S.fits sink.old (key_bytes (key_of (plain_versioning_ref self.now))) }
         ensures { S.takes sink.old (key_bytes (key_of (plain_versioning_ref self.now))) sink.new }
@@ -325,6 +341,7 @@ impl<'a> VersioningRef<'a> {
 
     /// Writes the bytes of its epoch and of the parts that are kept into a sink.
     #[inline(always)]
+    #[tactic(auto, using(crate::proofs::lemmas::versioning_ref::VersioningRef::shape_fits, crate::proofs::lemmas::versioning_ref::VersioningRef::key_read))]
     pub fn put_begun<S: Sink>(&self, kept: Kept, sink: &mut S)
         requires { S.fits sink.old (begun (key_of (plain_versioning_ref self.now)).epoch
             (kept_parts kept (key_of (plain_versioning_ref self.now)).body)) }
@@ -372,6 +389,7 @@ impl<'a> VersioningRef<'a> {
 
     // Returns a size that is enough for an end of a range.
     #[inline(always)]
+    #[tactic(auto, using(crate::proofs::lemmas::key::KeyRoom::end_length, crate::proofs::lemmas::versioning_ref::VersioningRef::spelled))]
     fn end_room(&self, end: End) -> usize
         ensures { saturated (length (end_bytes end (key_of (plain_versioning_ref self.now)))) ≤ result }
     {
@@ -394,6 +412,7 @@ impl<'a> VersioningRef<'a> {
 
     /// Compares the bytes of an end of a range with given bytes, up to the first difference. Does not allocate.
     #[inline(always)]
+    #[tactic(auto, using(crate::proofs::lemmas::versioning_ref::VersioningRef::shape_fits, crate::proofs::lemmas::versioning_ref::VersioningRef::key_read))]
     pub fn compare_end(&self, end: End, bytes: &[u8]) -> Ordering
         ensures { result ≡ bytes_cmp (end_bytes end (key_of (plain_versioning_ref self.now)))
             bytes.now }
@@ -402,6 +421,7 @@ impl<'a> VersioningRef<'a> {
     }
 
     // Compares the bytes of an end of a range with those of another, up to the first difference.
+    #[tactic(auto, using(crate::proofs::lemmas::versioning_ref::VersioningRef::shape_fits, crate::proofs::lemmas::versioning_ref::VersioningRef::key_read))]
     pub(crate) fn compare_ends(
         &self,
         end: End,
@@ -428,18 +448,12 @@ impl<'a> VersioningRef<'a> {
         ensures { result ≡ versioning_plain_cmp (plain_versioning_ref self.now)
             (plain_versioning_ref other.now) }
     {
-        if self.shape.kind != other.shape.kind {
-            return rank(self.shape.kind).cmp(&rank(other.shape.kind));
-        }
-        match self.shape.kind {
-            Kind::Ideal => Ordering::Equal,
-            Kind::General => ties::compare_general(self.text, other.text),
-            Kind::Complex => ties::compare_messy(self.text, other.text),
-        }
+        compare_key_ties(self.shape.kind, self.text, other.shape.kind, other.text)
     }
 }
 
 // Returns the value of digits, or `u64::MAX` if it is larger.
+#[tactic(auto, using(version_rules::proofs::lemmas::Numeral::next_value))]
 fn saturated_value(digits: &[u8]) -> u64
     requires { list_all is_ascii_digit digits.now ≡ true }
     ensures { result ≡ saturated (digits_value 10 digits.now) }
@@ -453,22 +467,10 @@ fn saturated_value(digits: &[u8]) -> u64
     value
 }
 
-// The place of a kind in the order of versions.
-#[inline(always)]
-fn rank(kind: Kind) -> u8
-    ensures { (v : PlainVersioning) → versioning_kind v ≡ kind → result ≡ kind_rank v }
-{
-    match kind {
-        Kind::Ideal => 0,
-        Kind::General => 1,
-        Kind::Complex => 2,
-    }
-}
-
 /// Writes the text that the version was parsed from, as its `Versioning` does.
 impl<'a> fmt::Display for VersioningRef<'a> {
     ghost use Rattle.version_rules.specs.grammar.Versioning.{versioning_text};
-    ghost use Rattle.version_texts.specs.versioning_ref.VersioningRef.{plain_versioning_ref};
+    ghost use Rattle.version_texts.specs.VersioningRef.{plain_versioning_ref};
 
     ghost output = { λ v. Some (versioning_text (plain_versioning_ref v)) };
 
@@ -483,30 +485,23 @@ impl<'a> PartialEq for VersioningRef<'a> {
     ghost use Rattle.std.specs.Ordering.{eq_by_cmp, on};
     ghost use Rattle.version_rules.specs.grammar.Versioning.{versioning_plain_cmp};
     ghost use Rattle.version_rules.specs.laws.Versioning.{versioning_plain_total};
-    ghost use Rattle.version_texts.specs.versioning_ref.VersioningRef.{plain_versioning_ref};
+    ghost use Rattle.version_texts.specs.VersioningRef.{plain_versioning_ref};
 
     ghost eq = { on plain_versioning_ref (eq_by_cmp versioning_plain_cmp) };
 
     ghost laws = { on_per plain_versioning_ref
         (partial_equiv_from_equiv (eq_by_cmp_equiv versioning_plain_total)) };
 
+    #[tactic(auto, using(version_rules::specs::laws::Key::versioning_cmp_ties))]
     fn eq(&self, other: &VersioningRef<'a>) -> bool {
-        if self.shape.kind != other.shape.kind {
-            return false;
-        }
-        match self.shape.kind {
-            Kind::Ideal => {
-                self.text[..self.shape.tail_end] == other.text[..other.shape.tail_end]
-            }
-            _ => self.text == other.text,
-        }
+        self.cmp(other).is_eq()
     }
 }
 
 impl<'a> Eq for VersioningRef<'a> {
     ghost use Rattle.std.specs.Cmp.{eq_by_cmp_equiv, on_equiv};
     ghost use Rattle.version_rules.specs.laws.Versioning.{versioning_plain_total};
-    ghost use Rattle.version_texts.specs.versioning_ref.VersioningRef.{plain_versioning_ref};
+    ghost use Rattle.version_texts.specs.VersioningRef.{plain_versioning_ref};
 
     ghost laws = { on_equiv plain_versioning_ref (eq_by_cmp_equiv versioning_plain_total) };
 }
@@ -519,7 +514,7 @@ impl<'a> Ord for VersioningRef<'a> {
     ghost use Rattle.std.specs.Ordering.{on};
     ghost use Rattle.version_rules.specs.order.Orders.{versioning_cmp};
     ghost use Rattle.version_rules.specs.laws.Key.{versioning_cmp_ties, versioning_cmp_total};
-    ghost use Rattle.version_texts.specs.versioning_ref.VersioningRef.{plain_versioning_ref};
+    ghost use Rattle.version_texts.specs.VersioningRef.{plain_versioning_ref};
 
     ghost cmp = { on plain_versioning_ref versioning_cmp };
 
@@ -544,7 +539,7 @@ impl<'a> PartialOrd for VersioningRef<'a> {
     ghost use Rattle.std.specs.Ordering.{as_partial_cmp, on};
     ghost use Rattle.version_rules.specs.order.Orders.{versioning_cmp};
     ghost use Rattle.version_rules.specs.laws.Key.{versioning_cmp_ties, versioning_cmp_total};
-    ghost use Rattle.version_texts.specs.versioning_ref.VersioningRef.{plain_versioning_ref};
+    ghost use Rattle.version_texts.specs.VersioningRef.{plain_versioning_ref};
 
     ghost partial_cmp = { as_partial_cmp (on plain_versioning_ref versioning_cmp) };
 
@@ -558,7 +553,7 @@ impl<'a> PartialOrd for VersioningRef<'a> {
 
 /// The questions that the operators of requirements ask. No call allocates.
 impl<'a> Asked for VersioningRef<'a> {
-    ghost use Rattle.version_texts.specs.versioning_ref.VersioningRef.{plain_versioning_ref};
+    ghost use Rattle.version_texts.specs.VersioningRef.{plain_versioning_ref};
 
     ghost plain = { plain_versioning_ref };
 
@@ -570,10 +565,12 @@ impl<'a> Asked for VersioningRef<'a> {
         VersioningRef::precedence(self, other)
     }
 
+    #[tactic(auto, using(crate::proofs::lemmas::versioning_ref::VersioningRef::spelled))]
     fn matches_tilde(&self, version: &VersioningRef<'a>) -> bool {
         matching::matches_tilde(self.text, self.shape, version.text, version.shape)
     }
 
+    #[tactic(auto, using(crate::proofs::lemmas::versioning_ref::VersioningRef::spelled))]
     fn matches_caret(&self, version: &VersioningRef<'a>) -> bool {
         matching::matches_caret(self.text, self.shape, version.text, version.shape)
     }

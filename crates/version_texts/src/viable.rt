@@ -7,9 +7,8 @@ ghost use Rattle.version_order.specs.texts.Class.{contains};
 ghost use Rattle.version_order.specs.texts.DigitRun.{is_digits};
 ghost use Rattle.version_order.specs.texts.Front.{begins};
 ghost use Rattle.version_rules.specs.grammar.Versioning.{versioning_of};
-ghost use Rattle.version_texts.specs.scan.TextKind.{is_chunk, is_general, is_messy, is_metadata_tail, is_released, is_tail};
+ghost use Rattle.version_texts.specs.Scan.{is_chunk, is_general, is_messy, is_metadata_tail, is_released, is_tail, is_parts};
 ghost use Rattle.version_order.specs.Viable.{IsLeft, IsLongestViable};
-ghost use Rattle.version_texts.specs.Viable.{is_parts};
 
 use crate::scan::numeral::spells_numeral;
 use version_order::{Class, after_byte, is_digits, split_byte, split_run};
@@ -29,6 +28,7 @@ pub(crate) fn mixed_length(text: &[u8]) -> usize
 }
 
 // What is left of a text as a general version. A strict one is general too.
+#[tactic(auto, using(crate::proofs::lemmas::Viable::after_colon, crate::proofs::lemmas::Viable::after_dot, crate::proofs::lemmas::Viable::after_first, crate::proofs::lemmas::Viable::no_first, crate::proofs::lemmas::Library::taken_pass))]
 fn left_of_general(text: &[u8]) -> &[u8]
     ensures { IsLeft is_general text.now result.now }
 {
@@ -59,6 +59,7 @@ fn after_epoch<'t>(first: &[u8], rest: &'t [u8]) -> Option<&'t [u8]>
 }
 
 // The same of a general version without an epoch.
+#[tactic(auto, using(crate::proofs::lemmas::Viable::last_part, crate::proofs::lemmas::Viable::next_part, crate::proofs::lemmas::Viable::no_part, crate::proofs::lemmas::Library::taken_pass))]
 fn left_of_parts(text: &[u8]) -> &[u8]
     ensures { IsLeft is_parts text.now result.now }
 {
@@ -85,6 +86,7 @@ fn is_chunk(run: &[u8], class: Class) -> bool
 }
 
 // The same of what may follow the parts.
+#[tactic(auto, using(crate::proofs::lemmas::Viable::released_tail, crate::proofs::lemmas::Viable::unreleased_tail))]
 fn left_of_tail(text: &[u8]) -> &[u8]
     ensures { IsLeft is_tail text.now result.now }
 {
@@ -95,6 +97,7 @@ fn left_of_tail(text: &[u8]) -> &[u8]
 }
 
 // The same of a release, and metadata that may follow it.
+#[tactic(auto, using(crate::proofs::lemmas::Viable::last_chunk, crate::proofs::lemmas::Viable::next_chunk, crate::proofs::lemmas::Viable::no_chunk, crate::proofs::lemmas::Library::taken_pass))]
 fn left_of_release(text: &[u8]) -> &[u8]
     ensures { IsLeft is_released text.now result.now }
 {
@@ -122,6 +125,7 @@ fn left_of_metadata(text: &[u8]) -> &[u8]
 }
 
 // The same of a messy version.
+#[tactic(auto, using(crate::proofs::lemmas::Viable::last_run, crate::proofs::lemmas::Viable::next_run, crate::proofs::lemmas::Viable::no_run))]
 fn left_of_messy(text: &[u8]) -> &[u8]
     ensures { IsLeft is_messy text.now result.now }
 {

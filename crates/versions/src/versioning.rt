@@ -8,12 +8,11 @@ ghost use Rattle.version_parts.specs.Body.{Reads};
 ghost use Rattle.versions.specs.Errors.{IllegalVersioning, ReadsOr};
 ghost use Rattle.version_rules.specs.grammar.Versioning.{versioning_kind, is_complex, is_general, is_ideal, kind_rank, semver_nth, versioning_front, versioning_nth, versioning_of, versioning_plain_cmp, versioning_text, VersioningOwns};
 ghost use Rattle.versions.specs.SemVer.{plain_semver};
-ghost use Rattle.version_rules.specs.grammar.Versioning.{is_complex, is_general, is_ideal, kind_rank, semver_nth, versioning_front, versioning_nth, versioning_of, versioning_plain_cmp, versioning_text, VersioningOwns};
 ghost use Rattle.versions.specs.Versioning.{plain_versioning, versioning_fed, AnswersAlike};
 ghost use Rattle.version_rules.specs.grammar.Versioning as plain;
 ghost use Rattle.version_rules.specs.laws.Versioning.{versioning_plain_total};
 ghost use Rattle.versions.specs.Laws.{versions_fed_alike};
-ghost use Rattle.version_texts.specs.versioning_ref.VersioningRef.{plain_versioning_ref};
+ghost use Rattle.version_texts.specs.VersioningRef.{plain_versioning_ref};
 
 use crate::errors::{Error, ReadError};
 use crate::mess::{Mess, MessRef};

@@ -2,7 +2,7 @@
 use Rattle.std.specs.Prelude.{ℕ, ℤ, ◌==◌, Option, Some, None, is_some, if◌then◌else◌}
 use Rattle.version_texts.specs.declared.versioning_ref.field.Field.{Field}
 use Rattle.version_texts.specs.declared.versioning_ref.field.Field.TheVariants.{Epoch, PreRelease, Release, Metadata}
-use Rattle.version_texts.specs.versioning_ref.Field.{field_span}
+use Rattle.version_texts.specs.VersioningRef.{field_span}
 use Rattle.version_rules.specs.grammar.Versioning.{PlainVersioning}
 use Rattle.versions_c.specs.declared.fields.TheConstants.{EPOCH, METADATA, PRE_RELEASE, RELEASE}
 use Rattle.versions_c.specs.declared.status.TheConstants.{OK, NO_FIELD, NO_VERSION, UNKNOWN_FIELD}

@@ -3,7 +3,7 @@ use Rattle.std.specs.Prelude.{ℕ, ℤ, nat_le, Option, Some, None, is_some, if�
 use Rattle.std.specs.Option.{option_map_or}
 use Rattle.version_rules.specs.key.Key.{versioning_epoch}
 use Rattle.version_rules.specs.grammar.Versioning.{PlainVersioning}
-use Rattle.version_texts.specs.versioning_ref.Numbers.{largest_epoch}
+use Rattle.version_texts.specs.VersioningRef.{largest_epoch}
 use Rattle.versions_c.specs.declared.status.TheConstants.{OK, LARGE_EPOCH, NO_NUMBER, NO_VERSION}
 
 -- the status for a text, by the number that its version has or lacks

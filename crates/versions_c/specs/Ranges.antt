@@ -4,7 +4,7 @@ use Rattle.std.proofs.Common.{inl, inr, refl}
 use Rattle.std.specs.declared.cmp.Ordering.{Ordering}
 use Rattle.std.specs.declared.cmp.Ordering.TheVariants.{Less, Equal, Greater}
 use Rattle.version_order.specs.keys.Lists.{bytes_cmp}
-use Rattle.version_texts.specs.requirement.RangeRef.{high_length}
+use Rattle.version_texts.specs.Range.{high_length}
 use Rattle.version_order.specs.keys.Sinks.{saturated}
 use Rattle.version_rules.specs.grammar.Versioning.{versioning_kind, PlainVersioning}
 use Rattle.version_rules.specs.requirement.Range.{IsIn, PlainRange, bytes_of, has_kind, range_of}

@@ -14,7 +14,7 @@ use Rattle.version_rules.specs.declared.kind.Kind.{Kind}
 use Rattle.version_rules.specs.declared.kind.Kind.TheVariants.{Ideal}
 use Rattle.version_schemes.specs.Scheme.{is_mixed, rules}
 use Rattle.version_schemes.specs.declared.scheme.Scheme.{Scheme}
-use Rattle.version_texts.specs.key.KeyTies.{kind_on, marked_number, texts_tie}
+use Rattle.version_texts.specs.Order.{kind_on, marked_number, texts_tie}
 use Rattle.versions_c.specs.Offsets.{AreOffsets, text_at}
 use Rattle.versions_c.specs.Schemes.{key_by}
 

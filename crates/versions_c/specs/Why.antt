@@ -6,8 +6,8 @@ use Rattle.version_rules.specs.requirement.Range.{range_of}
 use Rattle.version_rules.specs.requirement.Requirement.{PlainRequirement}
 use Rattle.version_rules.specs.requirement.Requirements.{requirements_of}
 use Rattle.version_rules.specs.grammar.Versioning.{PlainVersioning}
-use Rattle.version_texts.specs.requirement.Empty.{IsEmpty}
-use Rattle.version_texts.specs.requirement.Why.{IsExcluded, excluded_text}
+use Rattle.version_texts.specs.Range.{IsEmpty}
+use Rattle.version_texts.specs.Requirement.{IsExcluded, excluded_text}
 use Rattle.version_texts.specs.declared.requirement.why.Excluded.{Excluded}
 use Rattle.version_texts.specs.declared.requirement.why.Why.{Why}
 use Rattle.version_texts.specs.declared.requirement.why.Why.TheVariants.{Kind, Below, Above, Parts}

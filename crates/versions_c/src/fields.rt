@@ -2,7 +2,7 @@
 
 ghost use Rattle.std.specs.Prelude.{◌≡◌, ◌≢◌, IfSome, Some};
 ghost use Rattle.std.specs.Option.{option_and_then};
-ghost use Rattle.version_texts.specs.versioning_ref.Field.{field_span};
+ghost use Rattle.version_texts.specs.VersioningRef.{field_span};
 ghost use Rattle.version_rules.specs.grammar.Versioning.{versioning_of};
 ghost use Rattle.versions_c.specs.Fields.{field_of, field_status};
 

@@ -1,7 +1,7 @@
 //! The members of a list of requirements that its range leaves open, in the caller's buffer, and matches by both.
 
 ghost use Rattle.std.specs.Prelude.{◌≡◌, ◌≢◌, ◌↔◌, ◌<◌, ◌≤◌, ◌++◌, [], drop, length, IfSome, List, Some};
-ghost use Rattle.version_texts.specs.versioning_ref.VersioningRef.{plain_versioning_ref};
+ghost use Rattle.version_texts.specs.VersioningRef.{plain_versioning_ref};
 ghost use Rattle.version_rules.specs.requirement.Range.{inexact_members, inexact_text, range_of, IsIn};
 ghost use Rattle.version_rules.specs.requirement.Matching.{MatchesAll};
 ghost use Rattle.version_rules.specs.requirement.Requirement.{PlainRequirement};

@@ -1,9 +1,9 @@
 //! Which versions a list of requirements matches.
 
 ghost use Rattle.std.specs.Prelude.{◌≡◌, ◌≢◌, ◌↔◌, ◌<◌, ℕ, length, slice_index, IfSome, IsTrue, None, Some};
-ghost use Rattle.version_texts.specs.requirement.RangeRef.{plain_range_ref};
-ghost use Rattle.version_texts.specs.requirement.RequirementsRef.{wrong_member};
-ghost use Rattle.version_texts.specs.versioning_ref.VersioningRef.{plain_versioning_ref};
+ghost use Rattle.version_texts.specs.Range.{plain_range_ref};
+ghost use Rattle.version_texts.specs.Requirement.{wrong_member};
+ghost use Rattle.version_texts.specs.VersioningRef.{plain_versioning_ref};
 ghost use Rattle.version_rules.specs.requirement.Matching.{MatchesAll};
 ghost use Rattle.version_rules.specs.requirement.Requirements.{requirements_of};
 ghost use Rattle.version_rules.specs.grammar.Versioning.{versioning_of};

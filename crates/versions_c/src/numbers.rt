@@ -3,7 +3,7 @@
 ghost use Rattle.std.specs.Prelude.{◌≡◌, ◌≢◌, IfSome, Some};
 ghost use Rattle.version_rules.specs.key.Key.{versioning_epoch};
 ghost use Rattle.version_rules.specs.grammar.Versioning.{versioning_nth, versioning_of};
-ghost use Rattle.version_texts.specs.versioning_ref.Numbers.{largest_epoch};
+ghost use Rattle.version_texts.specs.VersioningRef.{largest_epoch};
 ghost use Rattle.versions_c.specs.Numbers.{epoch_status, number_status};
 
 use crate::status::{LARGE_EPOCH, NO_NUMBER, NO_VERSION, OK};

@@ -9,7 +9,7 @@ ghost use Rattle.versions_c.specs.Keys.{all_keys, keys_before, saturated_signed,
 ghost use Rattle.versions_c.specs.Written.{room_status};
 ghost use Rattle.versions_c.specs.Offsets.{text_at, AreOffsets};
 ghost use Rattle.versions_c.specs.Schemes.{key_by};
-ghost use Rattle.version_texts.specs.key.KeyTies.{marked_number};
+ghost use Rattle.version_texts.specs.Order.{marked_number};
 ghost use Rattle.versions_c.specs.Sorting.{keyed_cmp, keys_cmp, lying_cmp, tied_cmp, AreInOrder, AreSortOffsets, IsMarked};
 
 use crate::keys::{is_always_room, put_keys, put_keys_in};

@@ -4,8 +4,8 @@ ghost use Rattle.std.specs.Prelude.{◌≡◌, ◌≢◌, IfSome};
 ghost use Rattle.version_rules.specs.requirement.Range.{range_of};
 ghost use Rattle.version_rules.specs.requirement.Requirements.{requirements_of};
 ghost use Rattle.version_rules.specs.grammar.Versioning.{versioning_of};
-ghost use Rattle.version_texts.specs.requirement.Conflict.{ExcludeEachOther, IsByEnds};
-ghost use Rattle.version_texts.specs.requirement.Empty.{IsCrossed};
+ghost use Rattle.version_texts.specs.Requirement.{ExcludeEachOther, IsByEnds};
+ghost use Rattle.version_texts.specs.Range.{IsCrossed};
 ghost use Rattle.versions_c.specs.Why.{why_code, why_status, IsConflictStatus, IsExplained, IsToldWhy};
 
 use crate::matching::status_without_version;

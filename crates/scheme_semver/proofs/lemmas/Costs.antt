@@ -19,8 +19,8 @@ use Rattle.version_order.specs.texts.Pieces.{is_dot, pieces}
 use Rattle.version_rules.specs.grammar.Chunk.{PlainChunk}
 use Rattle.version_rules.specs.grammar.SemVer.{PlainSemVer}
 use Rattle.version_rules.specs.order.Parts.{chunk_bytes, release_bytes}
-use Rattle.version_texts.proofs.lemmas.key.TextKey.DotPieces.{more_items, text_chunk}
-use Rattle.version_texts.specs.key.TextKey.{chunk_of, chunks_of}
+use Rattle.version_texts.proofs.lemmas.key.Pieces.{more_items, text_chunk}
+use Rattle.version_texts.specs.Key.{chunk_of, chunks_of}
 use Rattle.scheme_semver.proofs.lemmas.Reading.{semver_read}
 use Rattle.scheme_semver.specs.declared.reader.Section.TheVariants as section
 use Rattle.scheme_semver.specs.Order.{pre_release_bytes, semver_bytes}

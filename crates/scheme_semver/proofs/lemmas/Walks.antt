@@ -26,8 +26,8 @@ use Rattle.version_order.specs.texts.Front.{begins}
 use Rattle.version_order.specs.texts.Pieces.{is_dot, pieces}
 use Rattle.version_rules.specs.grammar.Chunk.{PlainChunk}
 use Rattle.version_rules.specs.grammar.SemVer.{PlainSemVer}
-use Rattle.version_texts.proofs.lemmas.Viable.Parts.{no_digits, some_bytes}
-use Rattle.version_texts.specs.key.TextKey.{chunks_of}
+use Rattle.version_texts.proofs.lemmas.Viable.{no_digits, some_bytes}
+use Rattle.version_texts.specs.Key.{chunks_of}
 use Rattle.scheme_semver.proofs.lemmas.Numbers.{last_number, next_number, other_number}
 use Rattle.scheme_semver.proofs.lemmas.Reading.{semver_read}
 use Rattle.scheme_semver.proofs.lemmas.SemVer.{allows_no_other, section_bytes}

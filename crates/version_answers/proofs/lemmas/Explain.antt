@@ -34,19 +34,17 @@ use Rattle.version_rules.specs.key.Key.{Key, key_of, key_of_mess, precedence, se
 use Rattle.version_rules.specs.key.PartKey.{PartKey, list_cmp, part_cmp, part_key}
 use Rattle.version_rules.specs.key.Tail.{Tail, PreReleased, Bare, Released, tail_cmp}
 use Rattle.version_rules.specs.laws.Part.{part_total, parts_same}
-use Rattle.version_texts.proofs.lemmas.key.TextKey.{versioning_fits, versioning_key}
-use Rattle.version_texts.proofs.lemmas.key.TextKey.Sections.{further_text-is, no_further, section_no_sep, sections_are, sign_bytes}
-use Rattle.version_texts.proofs.lemmas.order.Difference.Laws.{epoch_law, part_law}
-use Rattle.version_texts.proofs.lemmas.scan.Shape.{IsCounted, body_taken, epoch_taken, no_epoch_taken, no_meta, version_cut}
-use Rattle.version_texts.proofs.lemmas.scan.Shape.Complex.{mess_cut}
-use Rattle.version_texts.proofs.lemmas.scan.Shape.Positions.{IsCut}
+use Rattle.version_texts.proofs.lemmas.versioning_ref.VersioningRef.{versioning_fits, versioning_key}
+use Rattle.version_texts.proofs.lemmas.scan.Complex.{further_text-is, no_further, section_no_sep, sections_are, sign_bytes, mess_cut}
+use Rattle.version_texts.proofs.lemmas.order.Difference.{epoch_law, part_law}
+use Rattle.version_texts.proofs.lemmas.scan.Shape.{IsCounted, body_taken, epoch_taken, no_epoch_taken, no_meta, version_cut, IsCut}
 use Rattle.version_texts.proofs.lemmas.versioning_ref.Field.{spelled_counts}
 use Rattle.version_texts.specs.declared.order.difference.Difference.TheVariants.{Epoch, Part}
-use Rattle.version_texts.specs.key.TextKey.{parts_of, sections_of, tail_of_sections}
+use Rattle.version_texts.specs.Key.{parts_of, sections_of, tail_of_sections}
 use Rattle.version_order.specs.texts.Pieces.{pieces}
-use Rattle.version_texts.specs.order.Difference.{difference_of}
-use Rattle.version_texts.specs.scan.Shape.{body_start}
-use Rattle.version_texts.specs.versioning_ref.Field.{field_text}
+use Rattle.version_texts.specs.Order.{difference_of}
+use Rattle.version_texts.specs.Scan.{body_start}
+use Rattle.version_texts.specs.VersioningRef.{field_text}
 use Rattle.version_texts.specs.declared.versioning_ref.field.Field.TheVariants as field
 
 -- ---- where the texts of versions are cut

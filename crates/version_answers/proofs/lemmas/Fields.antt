@@ -12,7 +12,7 @@ use Rattle.version_rules.specs.grammar.Release.{release_text}
 use Rattle.version_rules.specs.grammar.SemVer.{PlainSemVer, optional_text, semver_text}
 use Rattle.version_rules.specs.grammar.Version.{PlainVersion, epoch_text, version_text}
 use Rattle.version_rules.specs.grammar.Versioning.{PlainVersioning, Ideal, General, Complex, versioning_text}
-use Rattle.version_texts.specs.versioning_ref.Field.{bare_semver, bare_version, body_alone, field_span, field_text, numbers_alone, span_behind}
+use Rattle.version_texts.specs.VersioningRef.{bare_semver, bare_version, body_alone, field_span, field_text, numbers_alone, span_behind}
 use Rattle.version_texts.specs.declared.versioning_ref.field.Field.{Field}
 use Rattle.version_texts.specs.declared.versioning_ref.field.Field.TheVariants.{Epoch, PreRelease, Release, Metadata}
 

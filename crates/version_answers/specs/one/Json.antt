@@ -5,7 +5,7 @@ use Rattle.serde_json.specs.Written.{compact_text}
 use Rattle.version_answers.specs.one.Show.{kind_name, shown_epoch, stability_name}
 use Rattle.version_rules.specs.grammar.Versioning.{versioning_kind, PlainVersioning, versioning_nth, versioning_text}
 use Rattle.version_tasks.specs.Stability.{stability_of}
-use Rattle.version_texts.specs.versioning_ref.Field.{field_text}
+use Rattle.version_texts.specs.VersioningRef.{field_text}
 use Rattle.version_texts.specs.declared.versioning_ref.field.Field.TheVariants.{PreRelease, Release, Metadata}
 
 -- a number or a text, and null for what a version does not have

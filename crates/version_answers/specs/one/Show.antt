@@ -10,8 +10,7 @@ use Rattle.version_rules.specs.declared.kind.Kind.TheVariants.{Ideal, General, C
 use Rattle.version_tasks.specs.Stability.{stability_of}
 use Rattle.version_tasks.specs.declared.stability.Stability.{Stability}
 use Rattle.version_tasks.specs.declared.stability.Stability.TheVariants.{Dev, Alpha, Beta, Rc, Stable}
-use Rattle.version_texts.specs.versioning_ref.Field.{field_text}
-use Rattle.version_texts.specs.versioning_ref.Numbers.{largest_epoch}
+use Rattle.version_texts.specs.VersioningRef.{field_text, largest_epoch}
 use Rattle.version_texts.specs.declared.versioning_ref.field.Field.TheVariants.{PreRelease, Release, Metadata}
 
 -- the names of kinds

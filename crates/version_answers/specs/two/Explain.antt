@@ -13,11 +13,11 @@ use Rattle.version_order.specs.texts.DigitRun.{is_digits}
 use Rattle.version_rules.specs.grammar.Versioning.{PlainVersioning, Ideal, General, Complex, versioning_text}
 use Rattle.version_order.specs.declared.class.Class.TheVariants.{NotSign}
 use Rattle.version_rules.specs.key.Key.{key_of, precedence}
-use Rattle.version_texts.specs.order.Difference.{difference_of}
+use Rattle.version_texts.specs.Order.{difference_of}
 use Rattle.version_texts.specs.declared.order.difference.Difference.{Difference}
 use Rattle.version_texts.specs.declared.order.difference.Difference.TheVariants.{Same, Tie, Epoch, Part, Tail}
 use Rattle.version_texts.specs.declared.versioning_ref.field.Field.TheVariants as field
-use Rattle.version_texts.specs.versioning_ref.Field.{field_text}
+use Rattle.version_texts.specs.VersioningRef.{field_text}
 
 -- ---- the pieces of a version, as they are written
 

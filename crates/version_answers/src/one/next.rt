@@ -5,7 +5,7 @@ ghost use Rattle.std.specs.Option.{option_map};
 ghost use Rattle.version_answers.specs.one.Next.{IsNextBy, NoNextBy, WritesNext};
 ghost use Rattle.version_answers.specs.Pieces.{Adds};
 ghost use Rattle.version_rules.specs.grammar.Versioning.{versioning_text, PlainVersioning};
-ghost use Rattle.version_texts.specs.versioning_ref.VersioningRef.{plain_versioning_ref};
+ghost use Rattle.version_texts.specs.VersioningRef.{plain_versioning_ref};
 
 use crate::pieces::add_pieces;
 use std::alloc::{AllocError, Global};

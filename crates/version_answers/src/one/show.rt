@@ -5,8 +5,7 @@ ghost use Rattle.std.specs.Fmt.{decimal};
 ghost use Rattle.std.specs.Option.{option_map};
 ghost use Rattle.version_answers.specs.one.Show.{field_line, kind_name, show_text, shown_epoch, stability_name};
 ghost use Rattle.version_rules.specs.grammar.Versioning.{versioning_nth};
-ghost use Rattle.version_texts.specs.versioning_ref.Field.{field_text};
-ghost use Rattle.version_texts.specs.versioning_ref.VersioningRef.{plain_versioning_ref};
+ghost use Rattle.version_texts.specs.VersioningRef.{field_text, plain_versioning_ref};
 
 use crate::pieces::add_pieces;
 use itoa::Buffer;

@@ -7,7 +7,7 @@ ghost use Rattle.version_answers.specs.declared.message.remark.Remark.{Remark};
 ghost use Rattle.version_answers.specs.Sets.{keys_of};
 ghost use Rattle.version_schemes.specs.any.AnyVersion.{plain_any};
 ghost use Rattle.version_sets.specs.Form.{has};
-ghost use Rattle.version_texts.specs.versioning_ref.VersioningRef.{plain_versioning_ref};
+ghost use Rattle.version_texts.specs.VersioningRef.{plain_versioning_ref};
 
 use crate::faults::Fault;
 use std::alloc::Global;

@@ -15,8 +15,8 @@ use Rattle.version_lines.specs.Entry.{after_heads_cmp, entry_cmp, entry_key, ent
 use Rattle.version_lines.specs.Sort.{Reads, lines_cmp, lines_precedence, version_in}
 use Rattle.version_lines.specs.Sorting.{in_order, turn, turned}
 use Rattle.version_rules.specs.declared.kind.Kind.TheVariants.{Ideal}
-use Rattle.version_texts.specs.key.KeyTies.{kind_on, marked_number, texts_tie}
-use Rattle.version_texts.proofs.lemmas.key.KeyTies.{texts_tie_total}
+use Rattle.version_texts.specs.Order.{kind_on, marked_number, texts_tie}
+use Rattle.version_texts.proofs.lemmas.order.Ties.{texts_tie_total}
 use Rattle.version_lines.specs.declared.sort.entry.Entry.{Entry}
 use Rattle.version_schemes.proofs.lemmas.Any.{any_total, in_one_scheme, is_of}
 use Rattle.version_schemes.specs.any.Order.{PlainAny, any_precedence}

@@ -14,8 +14,8 @@ use Rattle.version_rules.specs.key.Key.{key_of, precedence}
 use Rattle.version_order.specs.keys.Codes.{Writes}
 use Rattle.version_order.specs.keys.Lists.{bytes_cmp}
 use Rattle.version_rules.specs.order.Orders.{versioning_cmp}
-use Rattle.version_texts.proofs.lemmas.key.KeyTies.{texts_alike, texts_tie_total}
-use Rattle.version_texts.specs.key.KeyTies.{texts_tie}
+use Rattle.version_texts.proofs.lemmas.order.Ties.{texts_alike, texts_tie_total}
+use Rattle.version_texts.specs.Order.{texts_tie}
 use Rattle.version_order.specs.Keyed.{PlainKeyed}
 use Rattle.version_texts.specs.Mixed.{mixed}
 use Rattle.version_order.proofs.lemmas.Keyed.{order_by_keys}

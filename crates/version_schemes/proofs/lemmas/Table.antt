@@ -28,10 +28,10 @@ use Rattle.version_order.specs.Viable.{IsViable}
 use Rattle.version_rules.proofs.lemmas.Order.{key_writes}
 use Rattle.version_rules.specs.grammar.Versioning.{versioning_of}
 use Rattle.version_rules.specs.key.Key.{key_of}
-use Rattle.version_texts.proofs.lemmas.Mixed.{mixed_within}
-use Rattle.version_texts.proofs.lemmas.Viable.General.{any_kind}
+use Rattle.version_texts.proofs.lemmas.requirement.EndOrder.{mixed_within}
+use Rattle.version_texts.proofs.lemmas.Viable.{any_kind}
 use Rattle.version_texts.specs.Mixed.{mixed, mixed_facts, mixed_some}
-use Rattle.version_texts.specs.scan.TextKind.{is_general}
+use Rattle.version_texts.specs.Scan.{is_general}
 use Rattle.version_schemes.specs.Scheme.{is_mixed, names, rules, scheme_named}
 use Rattle.version_schemes.specs.declared.scheme.Scheme.{Scheme}
 use Rattle.version_schemes.specs.declared.scheme.Scheme.TheVariants.{Deb, Gem, Mixed, Pypi, Rpm, SemVer}

@@ -18,7 +18,7 @@ use Rattle.version_schemes.specs.declared.any.AnyVersion.TheVariants as any
 use Rattle.version_schemes.specs.declared.scheme.Scheme.{Scheme}
 use Rattle.version_schemes.specs.declared.scheme.Scheme.TheVariants.{Deb, Gem, Mixed, Pypi, Rpm, SemVer}
 use Rattle.version_texts.specs.Mixed.{mixed}
-use Rattle.version_texts.specs.versioning_ref.VersioningRef.{plain_versioning_ref}
+use Rattle.version_texts.specs.VersioningRef.{plain_versioning_ref}
 
 -- one whose scheme has no kinds
 abbrev without_kind : Scheme → List ℕ → List ℕ → PlainAny

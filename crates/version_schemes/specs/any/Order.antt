@@ -9,7 +9,7 @@ use Rattle.version_rules.specs.grammar.Versioning.{versioning_kind, versioning_o
 use Rattle.version_order.specs.keys.Lists.{bytes_cmp}
 use Rattle.version_schemes.specs.Scheme.{is_mixed, rules, scheme_number}
 use Rattle.version_schemes.specs.declared.scheme.Scheme.{Scheme}
-use Rattle.version_texts.specs.key.KeyTies.{texts_tie}
+use Rattle.version_texts.specs.Order.{texts_tie}
 use Rattle.version_order.specs.Keyed.{PlainKeyed}
 
 -- a version: its scheme, its text, its key, and the kind that breaks ties of keys with the text. Where a scheme

@@ -1,5 +1,5 @@
 -- The newest of the candidates so far, and one more.
-use Rattle.std.proofs.Common.{◌≡◌, ◌∙◌, ◌<◌, ◌+◌, ◌⊎◌, ℕ, Option, Some, None, IfSome, IfNone, arith, inl, inr, refl, sym, ap}
+use Rattle.std.proofs.Common.{◌≡◌, ◌∙◌, ◌<◌, ◌+◌, ◌⊎◌, ℕ, Option, Some, None, IfSome, IfNone, arith, inl, inr, refl, sym, ap, get_or, List, [], ◌∷◌, suc, zero}
 use Rattle.std.proofs.lemmas.Bool.{cases_Bool, eqb-false, eqb-true}
 use Rattle.std.specs.Ordering.{ordering_reverse}
 use Rattle.std.specs.declared.cmp.Ordering.{Ordering}
@@ -9,9 +9,8 @@ use Rattle.version_rules.specs.laws.Key.{precedence_total}
 use Rattle.version_rules.specs.grammar.Versioning.{PlainVersioning}
 use Rattle.version_tasks.specs.Newest.{IsNewest, IsWanted, NoVersion, text_at}
 use Rattle.version_tasks.specs.declared.newest.Wanted.{Wanted}
-use Rattle.std.proofs.Common.{get_or, List, [], ◌∷◌, suc, zero}
 use Rattle.std.specs.Borrow.{Bor}
-use Rattle.version_texts.specs.versioning_ref.VersioningRef.{plain_versioning_ref}
+use Rattle.version_texts.specs.VersioningRef.{plain_versioning_ref}
 use Rattle.version_texts.specs.declared.versioning_ref.VersioningRef.{VersioningRef}
 
 -- what is held is the newest of so many candidates

@@ -7,7 +7,7 @@ use Rattle.version_rules.specs.grammar.SemVer.{PlainSemVer, optional_text, semve
 use Rattle.version_rules.specs.grammar.Version.{PlainVersion, version_text}
 use Rattle.version_rules.specs.grammar.Versioning.{PlainVersioning, Ideal, General, Complex, versioning_text}
 use Rattle.version_tasks.specs.Stability.{counted_text}
-use Rattle.version_texts.specs.versioning_ref.Field.{bare_semver, bare_version, field_span, span_behind}
+use Rattle.version_texts.specs.VersioningRef.{bare_semver, bare_version, field_span, span_behind}
 use Rattle.version_texts.specs.declared.versioning_ref.field.Field.TheVariants.{Metadata}
 
 -- a plus and metadata, or nothing

@@ -7,7 +7,7 @@ use Rattle.std.specs.Str.{bytes_eq}
 use Rattle.version_order.specs.texts.Front.{◌>>=◌}
 use Rattle.version_rules.specs.grammar.Versioning.{versioning_of, versioning_text}
 use Rattle.version_rules.proofs.lemmas.Versioning.{versioning_of-spells, versioning_printed}
-use Rattle.version_texts.specs.versioning_ref.VersioningRef.{plain_versioning_ref}
+use Rattle.version_texts.specs.VersioningRef.{plain_versioning_ref}
 use Rattle.version_texts.specs.declared.versioning_ref.VersioningRef.{VersioningRef}
 use Rattle.version_tasks.specs.Next.{after_separator}
 use Rattle.version_tasks.specs.Tag.{after_prefix, first_below, is_point, is_separator, may_begin, place_in_tag, text_at_beginning, text_in_tag, is_v, text_after_prefix, without_v}

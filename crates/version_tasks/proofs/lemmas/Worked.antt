@@ -5,7 +5,7 @@ use Rattle.std.proofs.lemmas.Bool.Decides.{nat_tests}
 use Rattle.std.specs.Cmp.{first_so, second_so}
 use Rattle.std.specs.List.{list_all}
 use Rattle.version_rules.specs.grammar.Versioning.{PlainVersioning, is_prerelease}
-use Rattle.version_texts.specs.versioning_ref.VersioningRef.{version_in}
+use Rattle.version_texts.specs.VersioningRef.{version_in}
 use Rattle.version_tasks.specs.Next.{IsNext, NoNext, numbers_of}
 use Rattle.version_tasks.specs.Worked.{AreNext, HaveNoNext, WorkedRows, next_rows, no_next_rows}
 use Rattle.version_tasks.proofs.lemmas.Next.Order.{are_zeros, fit, is_next, next_number, none_beyond, none_past, none_without, number_at, raised, raised_follows, raised_number}

@@ -3,7 +3,7 @@
 ghost use Rattle.std.specs.Prelude.{◌≡◌, Some};
 ghost use Rattle.version_rules.specs.grammar.Versioning.{versioning_of};
 ghost use Rattle.version_tasks.specs.NextText.{next_text, zeros_text};
-ghost use Rattle.version_texts.specs.versioning_ref.VersioningRef.{version_in};
+ghost use Rattle.version_texts.specs.VersioningRef.{version_in};
 
 use itoa::Buffer;
 use std::{fmt, str};

@@ -1,3 +1,2 @@
 pub mod KeyRoom
-pub mod KeyTies
-pub mod TextKey
+pub mod Pieces

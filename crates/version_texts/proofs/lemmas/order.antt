@@ -1,4 +1,7 @@
 pub mod Difference
-pub mod Parts
+pub mod Kept
+pub mod Lasts
 pub mod Piece
+pub mod Places
 pub mod Ties
+pub mod Variants

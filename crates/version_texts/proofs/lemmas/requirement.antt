@@ -1,8 +1,5 @@
 pub mod Empty
 pub mod EndOrder
-pub mod FirstFailing
-pub mod Inexact
 pub mod Matching
-pub mod MemberPlace
+pub mod Members
 pub mod RangeRef
-pub mod RequirementsRef

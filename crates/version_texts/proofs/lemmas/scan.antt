@@ -1,4 +1,7 @@
-pub mod Class
+pub mod Complex
+pub mod Scanned
+pub mod Section
 pub mod Shape
-pub mod Splits
+pub mod Spelled
+pub mod Tail
 pub mod TextKind

@@ -1,5 +1,4 @@
-pub mod Bare
-pub mod EpochAndParts
 pub mod Field
 pub mod Numbers
+pub mod Section
 pub mod VersioningRef

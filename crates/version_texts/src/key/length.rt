@@ -3,7 +3,7 @@
 ghost use Rattle.std.specs.Prelude.{◌≡◌, ◌+◌, ◌-◌, ◌<◌, ◌≤◌, ◌^◌, length, IfOk, List, Some, ℕ};
 ghost use Rattle.version_rules.specs.key.Key.{key_of, key_bytes};
 ghost use Rattle.version_rules.specs.grammar.Versioning.{versioning_of, PlainVersioning};
-ghost use Rattle.version_texts.specs.key.KeyRoom.{room_for};
+ghost use Rattle.version_texts.specs.Key.{room_for};
 ghost use Rattle.version_order.specs.keys.Sinks.{saturated};
 
 use std::alloc::AllocError;
@@ -13,6 +13,7 @@ pub(crate) const LONGEST_WITH_ROOM: usize = 256;
 
 /// Returns a size that is enough for the key of any text of a length. Does not allocate.
 #[inline(always)]
+#[tactic(auto, using(crate::proofs::lemmas::key::KeyRoom::enough_room))]
 pub fn room_for(text_len: usize) -> usize
     ensures room { result ≡ saturated (room_for text_len) }
 

@@ -5,9 +5,9 @@ ghost use Rattle.version_rules.specs.requirement.Range.{end_bytes};
 ghost use Rattle.version_rules.specs.key.Key.{key_bytes};
 ghost use Rattle.version_order.specs.keys.Lists.{bytes_cmp};
 ghost use Rattle.version_rules.specs.key.Tail.{tail_bytes};
-ghost use Rattle.version_texts.specs.scan.Shape.{tail_in, Fits};
+ghost use Rattle.version_texts.specs.Scan.{tail_in, Fits};
 ghost use Rattle.version_order.specs.keys.Sinks.{put_at};
-ghost use Rattle.version_texts.specs.key.TextKey.{tail_of, text_key};
+ghost use Rattle.version_texts.specs.Key.{tail_of, text_key};
 
 use crate::key::{put_front, put_tail, tail_at};
 use crate::requirement::range::put_end;

@@ -4,7 +4,7 @@ ghost use Rattle.std.specs.Prelude.{ℕ, suc, ◌≡◌, ◌↔◌, ◌⊎◌, t
 ghost use Rattle.std.specs.declared.cmp.Ordering.TheVariants.{Equal};
 ghost use Rattle.version_rules.specs.key.Key.{key_of, precedence};
 ghost use Rattle.version_rules.specs.grammar.Versioning.{PlainVersioning, SameVersioning};
-ghost use Rattle.version_texts.specs.order.Difference.{difference_of};
+ghost use Rattle.version_texts.specs.Order.{difference_of};
 ghost use Rattle.version_texts.specs.declared.order.difference.Difference.TheVariants.{Epoch, Part, Same, Tail, Tie};
 
 // Two versions are the same or tie exactly if precedence is Equal, and they are the same exactly if they are so apart

@@ -6,8 +6,8 @@ ghost use Rattle.version_rules.specs.requirement.Range.{range_of, IsIn, PlainRan
 ghost use Rattle.version_rules.specs.requirement.Requirement.{PlainRequirement};
 ghost use Rattle.version_rules.specs.requirement.Requirements.{requirements_of};
 ghost use Rattle.version_rules.specs.grammar.Versioning.{PlainVersioning};
-ghost use Rattle.version_texts.specs.requirement.Conflict.{ExcludeEachOther};
-ghost use Rattle.version_texts.specs.requirement.Empty.{IsEmpty};
+ghost use Rattle.version_texts.specs.Requirement.{ExcludeEachOther};
+ghost use Rattle.version_texts.specs.Range.{IsEmpty};
 ghost use Rattle.version_texts.specs.declared.requirement.conflict.Conflict.{Conflict};
 
 // No version is in an empty range. So a list whose range is empty matches none, nor does a list two of whose members

@@ -2,8 +2,8 @@
 //! its shape.
 
 ghost use Rattle.std.specs.Prelude.{◌≡◌, List, Some, ℕ};
-ghost use Rattle.version_texts.specs.scan.Shape.{shape_at, Fits};
-ghost use Rattle.version_texts.specs.key.TextKey.{text_key};
+ghost use Rattle.version_texts.specs.Scan.{shape_at, Fits};
+ghost use Rattle.version_texts.specs.Key.{text_key};
 ghost use Rattle.version_rules.specs.key.Key.{key_of};
 ghost use Rattle.version_rules.specs.grammar.Versioning.{versioning_kind, versioning_of, PlainVersioning};
 

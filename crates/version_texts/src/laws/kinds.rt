@@ -6,23 +6,23 @@ ghost use Rattle.version_rules.specs.grammar.Versioning.{versioning_kind, versio
 ghost use Rattle.version_rules.specs.grammar.Mess.{mess_of};
 ghost use Rattle.version_rules.specs.grammar.SemVer.{semver_of};
 ghost use Rattle.version_rules.specs.grammar.Version.{version_of};
-ghost use Rattle.version_texts.specs.scan.TextKind.{has_three_numbers, is_general, is_messy, kind_in};
+ghost use Rattle.version_texts.specs.Scan.{has_three_numbers, is_general, is_messy, kind_in};
 
 // A text parses as a strict version exactly if its pieces are those of a general one, and its body is three numbers.
-#[tactic(auto, using(crate::proofs::lemmas::scan::TextKind::StrictText::strict_kind))]
+#[tactic(auto, using(crate::proofs::lemmas::scan::TextKind::strict_kind))]
 fn strict_texts()
     ensures { (text : List ℕ) → is_some (semver_of text)
         ≡ (is_general text && has_three_numbers text) }
 {}
 
 // A text parses as a general version exactly if its pieces are those of one.
-#[tactic(auto, using(crate::proofs::lemmas::scan::TextKind::GeneralText::general_kind))]
+#[tactic(auto, using(crate::proofs::lemmas::scan::TextKind::general_kind))]
 fn general_texts()
     ensures { (text : List ℕ) → is_some (version_of text) ≡ is_general text }
 {}
 
 // A text parses as a messy version exactly if it is runs of letters and digits with single dots and signs between.
-#[tactic(auto, using(crate::proofs::lemmas::scan::TextKind::MessyText::mess_kind))]
+#[tactic(auto, using(crate::proofs::lemmas::scan::Complex::mess_kind))]
 fn messy_texts()
     ensures { (text : List ℕ) → is_some (mess_of text) ≡ is_messy text }
 {}

@@ -2,7 +2,7 @@
 
 ghost use Rattle.std.specs.Prelude.{◌≡◌};
 ghost use Rattle.version_order.specs.texts.Front.{begins};
-ghost use Rattle.version_texts.specs.order.Piece.{delimits, in_run};
+ghost use Rattle.version_texts.specs.Key.{delimits, in_run};
 
 use version_order::is_sign;
 

@@ -1,9 +1,9 @@
 //! Where two versions differ first, read off their texts. Nothing here allocates.
 
 ghost use Rattle.std.specs.Prelude.{◌≡◌};
-ghost use Rattle.version_texts.specs.order.Difference.{first_differing, key_difference};
-ghost use Rattle.version_texts.specs.scan.Shape.{Fits};
-ghost use Rattle.version_texts.specs.key.TextKey.{parts_of, text_key};
+ghost use Rattle.version_texts.specs.Order.{first_differing, key_difference};
+ghost use Rattle.version_texts.specs.Scan.{Fits};
+ghost use Rattle.version_texts.specs.Key.{parts_of, text_key};
 
 use crate::key::body_at;
 use crate::order::delimiters::Delimiters;

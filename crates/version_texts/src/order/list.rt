@@ -4,7 +4,7 @@ ghost use Rattle.std.specs.Prelude.{◌≡◌, IfNone, IfSome, None, Some};
 ghost use Rattle.std.specs.declared.cmp.Ordering.TheVariants.{Equal};
 ghost use Rattle.version_rules.specs.key.PartKey.{list_cmp, part_cmp, part_key};
 ghost use Rattle.version_rules.specs.key.Tail.{sections_cmp};
-ghost use Rattle.version_texts.specs.key.TextKey.{lists_of, parts_of, sections_of};
+ghost use Rattle.version_texts.specs.Key.{lists_of, parts_of, sections_of};
 
 use crate::order::delimiters::Delimiters;
 use crate::order::part::compare_parts_to;

@@ -9,7 +9,7 @@ ghost use Rattle.version_order.specs.texts.Front.{begins};
 ghost use Rattle.version_order.specs.keys.Lists.{bytes_cmp, none_last_cmp};
 ghost use Rattle.version_rules.specs.key.PartKey.{part_cmp, part_key, suffix_of, numbered_cmp, split_cmp, split_of};
 ghost use Rattle.version_texts.specs.declared.order.delimiters.Run.TheVariants.{Word};
-ghost use Rattle.version_texts.specs.order.Piece.{delimits, in_run};
+ghost use Rattle.version_texts.specs.Key.{delimits, in_run};
 ghost use Rattle.version_order.specs.texts.Pieces.{from_first};
 
 use crate::order::delimiters::{Delimiters, Run};
@@ -43,6 +43,7 @@ pub(crate) fn compare_parts_to<'a>(delimiters: Delimiters, a: &'a [u8], b: &'a [
 
 // Compares what follows two numbers, up to the ends of the parts. An empty suffix comes last.
 #[inline(always)]
+#[tactic(auto, using(crate::proofs::lemmas::order::Piece::no_bytes, crate::proofs::lemmas::order::Piece::no_suffix, crate::proofs::lemmas::order::Piece::some_suffix))]
 fn compare_suffixes<'a>(delimiters: Delimiters, a: &'a [u8], b: &'a [u8]) -> Compared<'a>
     ensures order { result.order
         ≡ none_last_cmp split_cmp (suffix_of (before_first (delimits delimiters) a.now))
@@ -108,6 +109,7 @@ fn compare_numbered<'a>(delimiters: Delimiters, a: &'a [u8], b: &'a [u8]) -> Com
 
 // Compares two texts by the bytes before their first ends.
 #[inline(always)]
+#[tactic(auto, using(crate::proofs::lemmas::order::Piece::run_is_piece))]
 pub(crate) fn compare_texts<'a>(delimiters: Delimiters, a: &'a [u8], b: &'a [u8]) -> Compared<'a>
     ensures order { result.order
         ≡ bytes_cmp (before_first (delimits delimiters) a.now) (before_first (delimits delimiters) b.now) }

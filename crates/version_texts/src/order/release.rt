@@ -8,7 +8,7 @@ ghost use Rattle.std.specs.declared.cmp.Ordering.TheVariants.{Equal, Greater};
 ghost use Rattle.version_order.specs.texts.DigitRun.{run_value};
 ghost use Rattle.version_rules.specs.order.Parts.{chunk_cmp, release_cmp};
 ghost use Rattle.version_order.specs.texts.Pieces.{behind_piece, first_piece};
-ghost use Rattle.version_texts.specs.key.TextKey.{chunk_of, chunks_of};
+ghost use Rattle.version_texts.specs.Key.{chunk_of, chunks_of};
 
 use crate::order::delimiters::Delimiters;
 use crate::order::part::compare_texts;
@@ -67,6 +67,7 @@ fn compare_first_chunks<'a>(a: &'a [u8], b: &'a [u8]) -> Compared<'a>
 // Compares two first chunks, of which the first one begins with the greater number. Its digits may be many, so they
 // are read to their end only where this decides.
 #[inline(always)]
+#[tactic(auto, using(crate::proofs::lemmas::order::Piece::above_number))]
 fn compare_greater(a: &[u8], b: &[u8]) -> Ordering
     requires { nat_cmp (run_value a.now) (run_value b.now) ≡ Greater }
     ensures { result ≡ chunk_cmp (chunk_of (first_piece a.now)) (chunk_of (first_piece b.now)) }
@@ -83,6 +84,7 @@ fn compare_greater(a: &[u8], b: &[u8]) -> Ordering
 
 // Whether the first chunk of a release is a number: digits alone.
 #[inline(always)]
+#[tactic(auto, using(crate::proofs::lemmas::order::Piece::digits_alone))]
 fn chunk_is_number(text: &[u8]) -> bool
     ensures { result ≡ list_all is_ascii_digit (first_piece text.now) }
 {

@@ -4,7 +4,7 @@ ghost use Rattle.std.specs.Prelude.{◌≡◌, drop};
 ghost use Rattle.std.specs.List.{prefix_len, take_while};
 ghost use Rattle.std.specs.declared.cmp.Ordering.TheVariants.{Equal};
 ghost use Rattle.version_order.specs.keys.Lists.{bytes_cmp};
-ghost use Rattle.version_texts.specs.order.Piece.{in_run};
+ghost use Rattle.version_texts.specs.Key.{in_run};
 
 use crate::order::delimiters::Run;
 use std::cmp::Ordering;

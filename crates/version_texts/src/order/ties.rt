@@ -3,8 +3,8 @@
 ghost use Rattle.std.specs.Prelude.{◌≡◌, ◌≤◌, length};
 ghost use Rattle.std.specs.Ordering.{ordering_then};
 ghost use Rattle.version_order.specs.keys.Lists.{bytes_cmp};
-ghost use Rattle.version_texts.specs.scan.Shape.{body_start};
-ghost use Rattle.version_texts.specs.order.Ties.{bodies_tie, byte_place, general_tie, is_lettered, is_numbered, last_tie, messy_tie};
+ghost use Rattle.version_texts.specs.Scan.{body_start};
+ghost use Rattle.version_texts.specs.Order.{bodies_tie, byte_place, general_tie, is_lettered, is_numbered, last_tie, messy_tie};
 
 use crate::scan::numeral::spells_numeral;
 use std::cmp::Ordering;
@@ -90,7 +90,7 @@ fn compare_lasts(a: &[u8], b: &[u8]) -> Ordering
 }
 
 // Returns whether a part is a numeral and letters, and then nothing or a numeral.
-fn is_numbered(part: &[u8]) -> bool
+pub(crate) fn is_numbered(part: &[u8]) -> bool
     ensures { result ≡ is_numbered part.now }
 {
     let (number, rest) = split_run(part, Class::Digit);
@@ -108,6 +108,7 @@ fn is_lettered(text: &[u8]) -> bool
 // Compares two messy versions byte by byte: signs in the order of declaration come before dots, and these before
 // digits and letters. A prefix comes before the longer text.
 #[inline(never)]
+#[tactic(auto, using(crate::proofs::lemmas::order::Lasts::bytes_end))]
 pub(crate) fn compare_messy(x: &[u8], y: &[u8]) -> Ordering
     ensures { result ≡ messy_tie x.now y.now }
 {

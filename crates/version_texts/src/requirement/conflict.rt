@@ -6,10 +6,8 @@ ghost use Rattle.version_order.specs.keys.Lists.{bytes_cmp};
 ghost use Rattle.version_rules.specs.requirement.Range.{common_kinds, has_kind, no_kinds, range_of, requirement_range};
 ghost use Rattle.version_rules.specs.requirement.Requirements.{requirements_of};
 ghost use Rattle.std.specs.Option.{option_map};
-ghost use Rattle.version_texts.specs.requirement.Conflict.{ExcludeEachOther, IsByEnds, IsFailing, IsOneAtMost};
-ghost use Rattle.version_texts.specs.requirement.Empty.{IsCrossed, IsEmpty};
-ghost use Rattle.version_texts.specs.requirement.MemberPlace.{NotEach};
-ghost use Rattle.version_texts.specs.requirement.RangeRef.{bound_bytes, plain_range_ref};
+ghost use Rattle.version_texts.specs.Requirement.{ExcludeEachOther, IsByEnds, IsFailing, IsOneAtMost, NotEach};
+ghost use Rattle.version_texts.specs.Range.{IsCrossed, IsEmpty, bound_bytes, plain_range_ref};
 
 use crate::requirement::first_failing::{ListTest, first_failing};
 use crate::requirement::range_ref::{Bound, RangeRef, or_lowest};

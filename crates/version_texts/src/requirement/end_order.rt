@@ -6,10 +6,9 @@ ghost use Rattle.version_order.specs.keys.Codes.{items_bytes};
 ghost use Rattle.version_rules.specs.requirement.Range.{end_bytes};
 ghost use Rattle.version_order.specs.keys.Lists.{bytes_cmp};
 ghost use Rattle.version_rules.specs.key.PartKey.{part_bytes};
-ghost use Rattle.version_texts.specs.requirement.EndOrder.{after_key, fixed_bytes, is_key, kept_of, mark_of, Begins, IsOfPart};
-ghost use Rattle.version_texts.specs.order.Parts.{parts_behind};
-ghost use Rattle.version_texts.specs.scan.Shape.{Fits};
-ghost use Rattle.version_texts.specs.key.TextKey.{parts_of, text_key};
+ghost use Rattle.version_texts.specs.Range.{after_key, fixed_bytes, is_key, kept_of, mark_of, Begins, IsOfPart};
+ghost use Rattle.version_texts.specs.Key.{parts_behind, parts_of, text_key};
+ghost use Rattle.version_texts.specs.Scan.{Fits};
 
 use crate::key::body_at;
 use crate::key::whole::compare_end;

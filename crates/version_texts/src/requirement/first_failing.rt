@@ -4,8 +4,7 @@ ghost use Rattle.std.specs.Prelude.{◌≡◌, ◌↔◌, ◌+◌, ◌≤◌, �
 ghost use Rattle.std.specs.List.{All};
 ghost use Rattle.version_rules.specs.requirement.Requirement.{PlainRequirement};
 ghost use Rattle.version_rules.specs.requirement.Requirements.{comma, requirements_of};
-ghost use Rattle.version_texts.specs.requirement.MemberPlace.{IsFirstFailing, NotEach};
-ghost use Rattle.version_texts.specs.requirement.Members.{cut_at_commas};
+ghost use Rattle.version_texts.specs.Requirement.{IsFirstFailing, NotEach, cut_at_commas};
 
 use crate::requirement::members::split_first;
 use crate::requirement::range_ref::halves;
@@ -26,6 +25,7 @@ pub(crate) trait ListTest {
 
 // Returns where the first member that fails begins, and its text. A list is halved: the time is that of a few tests of
 // the whole list.
+#[tactic(auto, using(crate::proofs::lemmas::requirement::Members::front_left, crate::proofs::lemmas::requirement::Members::one_left, crate::proofs::lemmas::requirement::Members::others_left, crate::proofs::lemmas::requirement::Members::whole_left, crate::proofs::lemmas::Library::length_append))]
 pub(crate) fn first_failing<'a, T: ListTest>(list: &'a [u8], test: &T) -> (usize, &'a [u8])
     requires { NotEach (T.passes test.now) (requirements_of list.now) }
     ensures first { (r : PlainRequirement)
@@ -47,6 +47,7 @@ pub(crate) fn first_failing<'a, T: ListTest>(list: &'a [u8], test: &T) -> (usize
 
 // Returns what stands before and after a comma: one near the middle of a long list, the first one of a short list. None
 // without a comma.
+#[tactic(auto, using(crate::proofs::lemmas::requirement::Members::after_piece, crate::proofs::lemmas::requirement::Members::only_piece))]
 fn parted(list: &[u8]) -> Option<(&[u8], &[u8])>
     ensures some { IfSome result (λ parts. list.now ≡ parts.0.now ++ comma ∷ parts.1.now) }
     ensures none { IfNone result (cut_at_commas list.now ≡ list.now ∷ []) }

@@ -6,10 +6,9 @@ ghost use Rattle.std.specs.Option.{IsSomeAnd};
 ghost use Rattle.version_rules.specs.requirement.Matching.{MatchesAll};
 ghost use Rattle.version_rules.specs.requirement.Range.{requirement_range, IsIn};
 ghost use Rattle.version_rules.specs.requirement.Requirements.{comma, requirements_of};
-ghost use Rattle.version_texts.specs.requirement.Inexact.{inexact_part, inexact_pieces, is_inexact};
-ghost use Rattle.version_texts.specs.requirement.Members.{cut_at_commas, pieces_of};
+ghost use Rattle.version_texts.specs.Requirement.{inexact_part, inexact_pieces, is_inexact, cut_at_commas, pieces_of};
 ghost use Rattle.version_order.specs.keys.Sinks.{saturated, IsWritten};
-ghost use Rattle.version_texts.specs.versioning_ref.VersioningRef.{plain_versioning_ref};
+ghost use Rattle.version_texts.specs.VersioningRef.{plain_versioning_ref};
 
 use crate::requirement::members::Members;
 use crate::requirement::requirement_ref::RequirementRef;
@@ -19,6 +18,7 @@ use version_order::{Count, Room, Sink, put_all};
 /// Writes the members of a list that need not match each version in their range, joined by commas, into a buffer, if
 /// they fit there. Returns how many bytes they are. For a version in the range of the list these members decide. Does
 /// not allocate.
+#[tactic(auto, using(version_order::proofs::lemmas::Sinks::counted))]
 pub fn write_inexact(list: &[u8], room: &mut [u8]) -> usize
     ensures bytes { IsWritten room.old 0 (inexact_part list.now) room.new }
     ensures length { result ≡ saturated (length (inexact_part list.now)) }
@@ -33,6 +33,7 @@ pub fn write_inexact(list: &[u8], room: &mut [u8]) -> usize
 }
 
 // Writes these members, joined by commas.
+#[tactic(auto, using(crate::proofs::lemmas::requirement::Members::after_commas, crate::proofs::lemmas::requirement::Members::joined_after, version_order::proofs::lemmas::Taking::next_fits, version_order::proofs::lemmas::Taking::owes_all, version_order::proofs::lemmas::Taking::owes_rest, version_order::proofs::lemmas::Taking::owes_same))]
 fn put_inexact<S: Sink>(sink: &mut S, list: &[u8])
     requires { S.fits sink.old (inexact_part list.now) }
     ensures { S.takes sink.old (inexact_part list.now) sink.new }

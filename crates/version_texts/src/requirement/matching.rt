@@ -1,10 +1,9 @@
 //! What an operator asks of two versions, by their texts and shapes. Nothing here allocates.
 
 ghost use Rattle.std.specs.Prelude.{◌≡◌, ◌∷◌, ◌↔◌, IsTrue, Some};
-ghost use Rattle.version_texts.specs.requirement.Matching.{epoch_and_parts_of};
-ghost use Rattle.version_texts.specs.scan.Shape.{body_in, shape_of, Fits};
-ghost use Rattle.version_texts.specs.order.Parts.{first_part, more_parts};
-ghost use Rattle.version_texts.specs.key.TextKey.{parts_of, text_key};
+ghost use Rattle.version_texts.specs.Range.{epoch_and_parts_of};
+ghost use Rattle.version_texts.specs.Scan.{body_in, shape_of, Fits};
+ghost use Rattle.version_texts.specs.Key.{first_part, more_parts, parts_of, text_key};
 ghost use Rattle.version_rules.specs.requirement.Matching.{MatchesCaret, MatchesTilde};
 ghost use Rattle.version_rules.specs.requirement.VersionMatch.{MatchesCaret as PartsCaret, MatchesTilde as PartsTilde};
 ghost use Rattle.version_rules.specs.grammar.Versioning.{versioning_of, PlainVersioning};
@@ -76,6 +75,7 @@ fn general_match_caret(wanted: &[u8], wanted_shape: Shape, text: &[u8], shape: S
 
 // The parts of the body of a version.
 #[inline(always)]
+#[tactic(auto, using(crate::proofs::lemmas::order::Piece::parts_begin))]
 fn body_parts(text: &[u8], shape: Shape) -> TextParts<'_>
     requires { Fits text.now shape }
     ensures { first_part result.0.now ∷ more_parts result.0.now ≡ parts_of (body_in text.now shape) }

@@ -1,8 +1,7 @@
 //! The members of a list of requirements.
 
 ghost use Rattle.std.specs.Prelude.{◌≡◌, ◌<◌, ◌≤◌, ◌+◌, ◌∷◌, [], IfNone, IfSome, length};
-ghost use Rattle.version_texts.specs.requirement.MemberPlace.{text_between};
-ghost use Rattle.version_texts.specs.requirement.Members.{cut_at_commas, list_of, pieces_of};
+ghost use Rattle.version_texts.specs.Requirement.{text_between, cut_at_commas, list_of, pieces_of};
 ghost use Rattle.std.specs.Option.{is_some};
 
 use crate::requirement::requirement_ref::RequirementRef;
@@ -57,6 +56,7 @@ pub fn text_between(text: &[u8], start: usize, end: usize) -> &[u8]
 }
 
 // Returns the text before the first comma, and the text after it, if there is one.
+#[tactic(auto, using(crate::proofs::lemmas::requirement::Members::one_piece, crate::proofs::lemmas::requirement::Members::pieces_cut))]
 pub(crate) fn split_first(list: &[u8]) -> (&[u8], Option<&[u8]>)
     ensures pieces { cut_at_commas list.now ≡ result.0.now ∷ pieces_of result.1 }
     ensures within { length result.0.now ≤ length list.now }

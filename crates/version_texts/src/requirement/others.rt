@@ -5,8 +5,8 @@ ghost use Rattle.std.specs.Option.{option_map};
 ghost use Rattle.version_rules.specs.requirement.Matching.{MatchesAll};
 ghost use Rattle.version_rules.specs.requirement.Range.{range_of};
 ghost use Rattle.version_rules.specs.requirement.Requirements.{requirements_of};
-ghost use Rattle.version_texts.specs.requirement.RangeRef.{plain_range_ref};
-ghost use Rattle.version_texts.specs.versioning_ref.VersioningRef.{plain_versioning_ref};
+ghost use Rattle.version_texts.specs.Range.{plain_range_ref};
+ghost use Rattle.version_texts.specs.VersioningRef.{plain_versioning_ref};
 
 use crate::requirement::inexact::inexact_match;
 use crate::requirement::range_ref::RangeRef;
@@ -21,7 +21,7 @@ pub(crate) struct Others<'a> {
 }
 
 impl<'a> Others<'a> {
-    ghost use Rattle.version_texts.specs.requirement.Others.{held_members};
+    ghost use Rattle.version_texts.specs.Requirement.{held_members};
 
     // Parses a text as members, or returns None if it does not parse.
     // Not inlined, like `matches`: lists of few members then have no cost of it.

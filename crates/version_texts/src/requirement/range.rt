@@ -2,9 +2,8 @@
 
 ghost use Rattle.std.specs.Prelude.{◌≡◌, ◌++◌, IfSome, List, ℕ};
 ghost use Rattle.version_rules.specs.requirement.Range.{end_bytes, kept_parts, begun, but_last, through_other};
-ghost use Rattle.version_texts.specs.order.Parts.{parts_behind};
-ghost use Rattle.version_texts.specs.scan.Shape.{Fits};
-ghost use Rattle.version_texts.specs.key.TextKey.{parts_of, text_key};
+ghost use Rattle.version_texts.specs.Key.{parts_behind, parts_of, text_key};
+ghost use Rattle.version_texts.specs.Scan.{Fits};
 
 use crate::key::{body_at, epoch_at, put_begun, put_key};
 use crate::requirement::matching::parts::TextParts;
@@ -28,6 +27,7 @@ fn before_last_dot(text: &[u8]) -> Option<&[u8]>
 }
 
 // The text through its first part that is not a plain zero, or all of it if each part is one.
+#[tactic(auto, using(crate::proofs::lemmas::order::Kept::zeros_alone, crate::proofs::lemmas::order::Kept::zeros_and_other, crate::proofs::lemmas::order::Kept::zeros_more, crate::proofs::lemmas::order::Kept::zeros_none))]
 fn through_other(text: &[u8]) -> &[u8]
     ensures parts { parts_of result.now ≡ through_other (parts_of text.now) }
     ensures front { (rest : List ℕ) × (text.now ≡ result.now ++ rest) }
@@ -46,6 +46,7 @@ fn through_other(text: &[u8]) -> &[u8]
 }
 
 // The kept parts of a body, or None if there are none.
+#[tactic(auto, using(crate::proofs::lemmas::order::Kept::some_before))]
 pub(crate) fn kept_parts(body: &[u8], kept: Kept) -> Option<&[u8]>
     ensures parts { parts_behind result ≡ kept_parts kept (parts_of body.now) }
     ensures front { IfSome result (λ front. (rest : List ℕ) × (body.now ≡ front.now ++ rest)) }
@@ -63,6 +64,7 @@ pub(crate) fn kept_parts(body: &[u8], kept: Kept) -> Option<&[u8]>
 
 // Writes the epoch and the kept parts of a version, by its text and its shape.
 #[inline(always)]
+#[tactic(auto, using(crate::proofs::lemmas::order::Kept::front_passes, version_order::proofs::lemmas::Taking::takes_same))]
 pub(crate) fn put_kept<S: Sink>(sink: &mut S, text: &[u8], shape: Shape, kept: Kept)
     requires shape { Fits text.now shape }
     requires fits { S.fits sink.old (begun (text_key text.now shape).epoch

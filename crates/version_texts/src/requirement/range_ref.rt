@@ -7,11 +7,10 @@ ghost use Rattle.version_rules.specs.requirement.Range.{end_bytes, bytes_of, com
 ghost use Rattle.version_rules.specs.key.Key.{key_of};
 ghost use Rattle.version_order.specs.keys.Lists.{bytes_cmp};
 ghost use Rattle.version_rules.specs.requirement.Requirements.{comma, requirements_of};
-ghost use Rattle.version_texts.specs.requirement.Empty.{IsCrossed};
-ghost use Rattle.version_texts.specs.requirement.RangeRef.{bound_bytes, high_length, low_bytes, plain_range_ref, IsParsed};
-ghost use Rattle.version_texts.specs.requirement.RequirementRef.{plain_requirement_ref};
+ghost use Rattle.version_texts.specs.Range.{IsCrossed, bound_bytes, high_length, low_bytes, plain_range_ref, IsParsed};
+ghost use Rattle.version_texts.specs.Requirement.{plain_requirement_ref};
 ghost use Rattle.version_order.specs.keys.Sinks.{saturated, IsWritten};
-ghost use Rattle.version_texts.specs.versioning_ref.VersioningRef.{plain_versioning_ref};
+ghost use Rattle.version_texts.specs.VersioningRef.{plain_versioning_ref};
 
 use crate::requirement::members::Members;
 use crate::requirement::requirement_ref::RequirementRef;
@@ -80,6 +79,7 @@ impl<'a> RangeRef<'a> {
     ///
     /// A comparison of two bounds passes the zeros of both. So a long list is halved: then a bound meets few others that
     /// are much shorter.
+    #[tactic(auto, using(crate::proofs::lemmas::requirement::RangeRef::behind_fails, crate::proofs::lemmas::requirement::RangeRef::both_parse, crate::proofs::lemmas::requirement::RangeRef::front_fails))]
     pub fn from_bytes(list: &'a [u8]) -> Option<RangeRef<'a>>
         ensures { option_map plain_range_ref result
             ≡ option_map range_of (requirements_of list.now) }
@@ -188,6 +188,7 @@ impl<'a> RangeRef<'a> {
     }
 
     /// Writes its low bound into a buffer, if it fits there. Does not allocate.
+    #[tactic(auto, using(crate::proofs::lemmas::requirement::RangeRef::written))]
     pub fn write_low(&self, room: &mut [u8])
         ensures { length (plain_range_ref self.now).low ≤ length room.old
             → take (length (plain_range_ref self.now).low) room.new
@@ -199,6 +200,7 @@ impl<'a> RangeRef<'a> {
     }
 
     /// Writes its high bound into a buffer, if there is one and it fits there. Does not allocate.
+    #[tactic(auto, using(crate::proofs::lemmas::requirement::RangeRef::written))]
     pub fn write_high(&self, room: &mut [u8])
         ensures { IfSome (plain_range_ref self.now).high (λ bound. length bound ≤ length room.old
             → take (length bound) room.new ≡ bound) }
@@ -252,6 +254,7 @@ pub(crate) fn or_lowest<'a>(low: Option<Bound<'a>>, other: Bound<'a>) -> Bound<'
 }
 
 // Returns the later of two low bounds, of which each may be missing.
+#[tactic(auto, using(crate::proofs::lemmas::requirement::RangeRef::later_none))]
 fn later<'a>(low: Option<Bound<'a>>, other: Option<Bound<'a>>) -> Option<Bound<'a>>
     ensures { low_bytes result ≡ later (low_bytes low.entry) (low_bytes other.entry) }
 {

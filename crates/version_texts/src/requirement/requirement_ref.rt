@@ -2,8 +2,8 @@
 
 ghost use Rattle.std.specs.Prelude.{◌≡◌, ◌↔◌, IsTrue};
 ghost use Rattle.std.specs.Option.{option_map};
-ghost use Rattle.version_texts.specs.requirement.RequirementRef.{plain_requirement_ref};
-ghost use Rattle.version_texts.specs.versioning_ref.VersioningRef.{plain_versioning_ref};
+ghost use Rattle.version_texts.specs.Requirement.{plain_requirement_ref};
+ghost use Rattle.version_texts.specs.VersioningRef.{plain_versioning_ref};
 ghost use Rattle.version_rules.specs.requirement.Matching.{Matches};
 ghost use Rattle.version_rules.specs.requirement.Range.{requirement_range};
 ghost use Rattle.version_rules.specs.requirement.Requirement.{requirement_of};

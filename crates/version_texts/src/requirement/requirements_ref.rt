@@ -3,9 +3,8 @@
 ghost use Rattle.std.specs.Prelude.{◌≡◌, ◌↔◌, nat_eq, IfSome, IsTrue};
 ghost use Rattle.std.specs.List.{starts_with};
 ghost use Rattle.std.specs.Option.{is_none, is_some, IsSomeAnd};
-ghost use Rattle.version_texts.specs.requirement.RequirementRef.{plain_requirement_ref};
-ghost use Rattle.version_texts.specs.requirement.RequirementsRef.{from_second, others_of, wrong_member, IsFront};
-ghost use Rattle.version_texts.specs.versioning_ref.VersioningRef.{plain_versioning_ref};
+ghost use Rattle.version_texts.specs.Requirement.{plain_requirement_ref, from_second, others_of, wrong_member, IsFront};
+ghost use Rattle.version_texts.specs.VersioningRef.{plain_versioning_ref};
 ghost use Rattle.version_rules.specs.requirement.Matching.{MatchesAll};
 ghost use Rattle.version_rules.specs.requirement.Requirements.{requirements_of, Keeps};
 ghost use Rattle.version_rules.specs.grammar.Versioning.{versioning_of};
@@ -35,8 +34,7 @@ pub struct RequirementsRef<'a> {
 
 impl<'a> Model for RequirementsRef<'a> {
     ghost use Rattle.std.specs.Prelude.{List};
-    ghost use Rattle.version_texts.specs.requirement.RequirementRef.{plain_requirement_ref};
-    ghost use Rattle.version_texts.specs.requirement.RequirementsRef.{scanned_requirements, IsFront};
+    ghost use Rattle.version_texts.specs.Requirement.{plain_requirement_ref, scanned_requirements, IsFront};
     ghost use Rattle.version_rules.specs.requirement.Requirement.{PlainRequirement};
 
     ghost Value = { List PlainRequirement };
@@ -93,6 +91,7 @@ impl<'a> RequirementsRef<'a> {
     }
 
     /// Returns whether the bytes parse as a version that each member matches. Does not allocate.
+    #[tactic(auto, using(crate::proofs::lemmas::versioning_ref::VersioningRef::not_kept))]
     pub fn keeps(&self, text: &[u8]) -> bool
         ensures { IsTrue result ↔ Keeps self.now (versioning_of text.now) }
     {
@@ -110,6 +109,7 @@ impl<'a> RequirementsRef<'a> {
 /// Returns whether bytes are a list whose members each match the version, or None if they do not parse as a list. It
 /// stores no member, so it is faster than `from_bytes` and `matches` for one version. Does not allocate.
 #[inline(always)]
+#[tactic(auto, using(version_rules::proofs::lemmas::Requirement::first_decides, version_rules::proofs::lemmas::Requirement::others_decide, crate::proofs::lemmas::requirement::Members::list_split, crate::proofs::lemmas::requirement::Members::more_parse))]
 pub fn list_matches(list: &[u8], version: &VersioningRef<'_>) -> Option<bool>
     ensures parses { is_some result ≡ is_some (requirements_of list.now) }
     ensures matches { IfSome result (λ all. IsTrue all ↔ IsSomeAnd (requirements_of list.now)

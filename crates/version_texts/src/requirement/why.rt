@@ -3,10 +3,10 @@
 ghost use Rattle.std.specs.Prelude.{◌≡◌, ◌↔◌, is_some, length, IfSome, IsNone, IsSomeAnd};
 ghost use Rattle.version_rules.specs.requirement.Matching.{Matches, MatchesAll};
 ghost use Rattle.version_rules.specs.requirement.Requirements.{requirements_of};
-ghost use Rattle.version_texts.specs.requirement.RangeRef.{plain_range_ref};
+ghost use Rattle.version_texts.specs.Range.{plain_range_ref};
 ghost use Rattle.version_order.specs.keys.Sinks.{saturated, IsWritten};
-ghost use Rattle.version_texts.specs.versioning_ref.VersioningRef.{plain_versioning_ref};
-ghost use Rattle.version_texts.specs.requirement.Why.{excluded_text, reason_text, words_after, words_between, IsExcluded, IsWhy};
+ghost use Rattle.version_texts.specs.VersioningRef.{plain_versioning_ref};
+ghost use Rattle.version_texts.specs.Requirement.{excluded_text, reason_text, words_after, words_between, IsExcluded, IsWhy};
 
 use crate::requirement::first_failing::{ListTest, first_failing};
 use crate::requirement::members::text_between;
@@ -76,6 +76,7 @@ impl Excluded {
 
 // Writes the sentence that says why a member does not match a version into a buffer, if it fits there, and returns how
 // many bytes it has.
+#[tactic(auto, using(version_order::proofs::lemmas::Sinks::counted))]
 fn write_reason(why: Why, version: &[u8], member: &[u8], room: &mut [u8]) -> usize
     ensures bytes { IsWritten room.old 0 (reason_text why version.now member.now) room.new }
     ensures length { result ≡ saturated (length (reason_text why version.now member.now)) }

@@ -4,13 +4,14 @@ ghost use Rattle.std.specs.Prelude.{◌≡◌, ◌^◌, None, Some, if◌then◌
 ghost use Rattle.std.specs.Str.Parse.{digits_value};
 ghost use Rattle.version_order.specs.texts.DigitRun.{is_digits};
 ghost use Rattle.version_rules.specs.grammar.MChunk.{value_of_digits};
-ghost use Rattle.version_texts.specs.versioning_ref.Numbers.{numeral_value};
-ghost use Rattle.version_texts.specs.scan.TextKind.{is_numeral};
+ghost use Rattle.version_texts.specs.VersioningRef.{numeral_value};
+ghost use Rattle.version_texts.specs.Scan.{is_numeral};
 
 use version_order::is_digits;
 
 /// Returns whether digits are a numeral.
 #[inline(always)]
+#[tactic(auto, using(crate::proofs::lemmas::scan::Spelled::leading_zero, crate::proofs::lemmas::scan::Spelled::no_leading_zero, crate::proofs::lemmas::scan::Spelled::one_digit, crate::proofs::lemmas::scan::Spelled::some_digits, crate::proofs::lemmas::Library::same_told))]
 pub fn is_numeral(digits: &[u8]) -> bool
     requires { is_digits digits.now ≡ true }
     ensures { result ≡ is_numeral digits.now }
@@ -20,6 +21,7 @@ pub fn is_numeral(digits: &[u8]) -> bool
 
 // Returns whether the value of digits is below 2 ^ 32. That of nine digits is.
 #[inline(always)]
+#[tactic(auto, using(version_rules::proofs::lemmas::Numeral::nine_digits, crate::proofs::lemmas::scan::Spelled::all_digits, crate::proofs::lemmas::Library::less_told))]
 fn is_below_limit(digits: &[u8]) -> bool
     requires { is_digits digits.now ≡ true }
     ensures { result ≡ nat_lt (digits_value 10 digits.now) (2 ^ 32) }
@@ -30,6 +32,7 @@ fn is_below_limit(digits: &[u8]) -> bool
 // Returns the value of digits if it is below 2 ^ 32. Few versions have the ten digits that need this call in a scan,
 // so it is not inlined.
 #[inline(never)]
+#[tactic(auto, using(version_rules::proofs::lemmas::Numeral::next_value, crate::proofs::lemmas::scan::Spelled::all_digits, crate::proofs::lemmas::scan::Spelled::too_large))]
 fn value_below_limit(digits: &[u8]) -> Option<u32>
     requires { is_digits digits.now ≡ true }
     ensures { result
@@ -58,6 +61,7 @@ pub fn small_number(text: &[u8]) -> Option<u32>
 }
 
 /// Returns whether a text is a numeral.
+#[tactic(auto, unfolding(crate::specs::Scan::is_numeral))]
 pub fn spells_numeral(text: &[u8]) -> bool
     ensures { result ≡ is_numeral text.now }
 {
@@ -65,6 +69,7 @@ pub fn spells_numeral(text: &[u8]) -> bool
 }
 
 /// Returns the value of a numeral, and None for any other text.
+#[tactic(auto, using(crate::proofs::lemmas::scan::Spelled::numeral_spells, crate::proofs::lemmas::scan::Spelled::no_numeral, crate::proofs::lemmas::Library::less_told))]
 pub fn numeral_value(text: &[u8]) -> Option<u32>
     ensures { result ≡ numeral_value text.now }
 {

@@ -1,7 +1,7 @@
 //! Where the pieces of a version lie in its text.
 
 ghost use Rattle.std.specs.Prelude.{◌≡◌, List, ℕ};
-ghost use Rattle.version_texts.specs.key.TextKey.{tail_of};
+ghost use Rattle.version_texts.specs.Key.{tail_of};
 ghost use Rattle.version_rules.specs.key.Tail.{tail_rank};
 
 use version_rules::Kind;
@@ -22,6 +22,7 @@ pub enum TailKind {
 impl TailKind {
     /// Returns its place in the order of tails, which is the byte that a tail begins with in a key.
     #[inline(always)]
+    #[tactic(auto, using(crate::proofs::lemmas::order::Piece::rank_of_sections))]
     pub fn rank(self) -> u8
         ensures { (text : List ℕ) → result ≡ tail_rank (tail_of self text) }
     {

@@ -7,10 +7,10 @@ use Rattle.version_rules.proofs.lemmas.Range.{list_in}
 use Rattle.version_rules.specs.requirement.Range.{inexact_members, inexact_text, PlainRange, range_of}
 use Rattle.version_rules.specs.requirement.Requirement.{PlainRequirement}
 use Rattle.version_rules.specs.requirement.Requirements.{requirements_of}
-use Rattle.version_texts.proofs.lemmas.requirement.Inexact.{part_is}
+use Rattle.version_texts.proofs.lemmas.requirement.Members.{part_is}
 use Rattle.version_texts.proofs.lemmas.requirement.RangeRef.{written as first_bytes}
 use Rattle.version_order.proofs.lemmas.Sinks.{put_fits}
-use Rattle.version_texts.specs.requirement.Inexact.{inexact_part}
+use Rattle.version_texts.specs.Requirement.{inexact_part}
 use Rattle.version_order.specs.keys.Sinks.{put_at, saturated}
 use Rattle.versions_c.specs.Inexact.{inexact_status}
 use Rattle.versions_c.specs.Matching.{Decide}

@@ -9,7 +9,7 @@ use Rattle.std.specs.Ordering.{is_lt}
 use Rattle.version_order.specs.keys.Lists.{bytes_cmp}
 use Rattle.version_rules.specs.key.PartKey.{PartKey}
 use Rattle.version_texts.proofs.lemmas.requirement.RangeRef.{narrowed}
-use Rattle.version_texts.specs.requirement.RangeRef.{high_length}
+use Rattle.version_texts.specs.Range.{high_length}
 use Rattle.version_rules.proofs.lemmas.Requirement.{requirements_of-spells}
 use Rattle.version_rules.specs.declared.op.Op.{Op}
 use Rattle.version_rules.specs.declared.op.Op.TheVariants.{Exact, Greater, GreaterEq, Less, LessEq, Tilde, Caret, Wildcard}
@@ -17,9 +17,8 @@ use Rattle.version_rules.specs.requirement.Requirement.{op_text, PlainRequiremen
 use Rattle.version_rules.specs.requirement.Range.{PlainRange, alike_from, but_last, bytes_of, common, earlier_high, everything, later, op_range, range_of, range_without_version, requirement_range, series_range, through_other}
 use Rattle.version_rules.specs.requirement.Requirements.{comma, requirements_of}
 use Rattle.version_rules.specs.grammar.Versioning.{PlainVersioning, Ideal, General, Complex}
-use Rattle.version_texts.proofs.lemmas.key.KeyRoom.{spelled_length}
-use Rattle.version_texts.proofs.lemmas.key.KeyRoom.Ends.{begun_length, below_key, but_last_length, length_of, through_other_length}
-use Rattle.version_texts.specs.key.KeyRoom.{room_for}
+use Rattle.version_texts.proofs.lemmas.key.KeyRoom.{spelled_length, begun_length, below_key, but_last_length, length_of, through_other_length}
+use Rattle.version_texts.specs.Key.{room_for}
 
 -- both bounds of a range have at most so many bytes
 pub record IsShort (n : ℕ) (range : PlainRange) : Type 0 where

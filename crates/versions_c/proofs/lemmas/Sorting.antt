@@ -32,8 +32,8 @@ use Rattle.versions_c.specs.Offsets.{AreOffsets, text_at}
 use Rattle.version_rules.specs.declared.kind.Kind.{Kind}
 use Rattle.version_rules.specs.declared.kind.Kind.TheVariants.{Ideal}
 use Rattle.version_schemes.specs.declared.scheme.Scheme.TheVariants.{Mixed}
-use Rattle.version_texts.specs.key.KeyTies.{marked_number, texts_tie}
-use Rattle.version_texts.proofs.lemmas.key.KeyTies.{texts_alike, texts_tie_total}
+use Rattle.version_texts.specs.Order.{marked_number, texts_tie}
+use Rattle.version_texts.proofs.lemmas.order.Ties.{texts_alike, texts_tie_total}
 use Rattle.versions_c.specs.Sorting.{AreInOrder, IsMarked, keyed_cmp, keys_cmp, marked_tie, place_cmp}
 
 -- numbers that are each its own place

@@ -21,17 +21,13 @@ use Rattle.version_rules.proofs.lemmas.Body.{body_printed}
 use Rattle.version_rules.proofs.lemmas.Chunk.{digit_alphanumeric}
 use Rattle.version_rules.proofs.lemmas.Versioning.{strict_is_general}
 use Rattle.version_rules.proofs.lemmas.Numeral.{numeral_printed}
-use Rattle.version_texts.specs.versioning_ref.Field.{epoch_and_parts, numbers_alone}
-use Rattle.version_texts.specs.versioning_ref.Numbers.{numeral_value}
+use Rattle.version_texts.specs.VersioningRef.{epoch_and_parts, numbers_alone, numeral_value, version_in}
 use Rattle.version_order.specs.texts.Pieces.{behind_piece, first_piece, further_pieces, is_dot, pieces}
-use Rattle.version_texts.specs.scan.TextKind.{is_numeral}
-use Rattle.version_texts.specs.versioning_ref.VersioningRef.{version_in}
+use Rattle.version_texts.specs.Scan.{is_numeral}
 use Rattle.version_texts.proofs.lemmas.order.Piece.{pieces_are}
-use Rattle.version_texts.proofs.lemmas.order.Piece.Spelled.{NonePass, body_pieces, chunk_bytes, none_pass, pieces_give}
+use Rattle.version_texts.proofs.lemmas.scan.Spelled.{NonePass, body_pieces, chunk_bytes, none_pass, numeral_passes, numeral_spells, no_numeral, pieces_give}
 use Rattle.version_order.proofs.lemmas.Bytes.{alphanumeric_no_dot}
-use Rattle.version_texts.proofs.lemmas.scan.TextKind.Chunks.{numeral_passes, numeral_spells}
-use Rattle.version_texts.proofs.lemmas.scan.TextKind.Numeral.{no_numeral}
-use Rattle.version_texts.proofs.lemmas.scan.TextKind.Runs.{digits_not}
+use Rattle.version_texts.proofs.lemmas.scan.Section.{digits_not}
 use Rattle.version_tasks.specs.Next.{IsNext, NoNext, all_of, last_number, last_place, numbers_of}
 use Rattle.version_tasks.specs.NextText.{is_zero, is_zero_number, next_text, zeros_text}
 use Rattle.version_tasks.proofs.lemmas.Next.Order.{are_zeros, fit, is_next, next_at, none_beyond, none_past, none_without, number_at, raised, raised_count, raised_fit, raised_follows, raised_number}

@@ -21,8 +21,8 @@ use Rattle.version_rules.specs.grammar.Versioning.{PlainVersioning, Ideal, Gener
 use Rattle.version_rules.proofs.lemmas.Versioning.{strict_is_general, versioning_ascii, versioning_of-Some, versioning_of-spells, versioning_printed}
 use Rattle.version_rules.proofs.lemmas.Numeral.{decimal-digits, numeral_printed}
 use Rattle.version_rules.proofs.lemmas.Version.{version_unique}
-use Rattle.version_texts.specs.versioning_ref.Field.{epoch_and_parts}
-use Rattle.version_texts.proofs.lemmas.scan.Splits.{dotted_more, dotted_one}
+use Rattle.version_texts.specs.VersioningRef.{epoch_and_parts}
+use Rattle.version_texts.proofs.lemmas.scan.Spelled.{dotted_more, dotted_one}
 use Rattle.version_tasks.specs.Next.{IsOfForm, MayFollow, numbers_of}
 use Rattle.version_tasks.specs.NextText.{next_text, zeros_text}
 use Rattle.version_tasks.proofs.lemmas.Next.Order.{body_is, body_numbers, body_of, fit, number_at, raised}

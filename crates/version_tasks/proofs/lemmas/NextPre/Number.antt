@@ -9,7 +9,7 @@ use Rattle.version_order.specs.keys.OrderLaws.{then_equal}
 use Rattle.version_rules.specs.laws.Release.{chunk_total, chunks_same}
 use Rattle.version_rules.specs.order.Parts.{chunk_cmp, release_cmp}
 use Rattle.version_tasks.specs.NextPre.{AreNamed}
-use Rattle.version_texts.proofs.lemmas.order.Piece.Spelled.{release_chunks}
+use Rattle.version_texts.proofs.lemmas.scan.Spelled.{release_chunks, split-append, split_run, numeral_spells}
 use Rattle.std.proofs.lemmas.List.{drop_at, take-append-drop, take_at}
 use Rattle.std.proofs.lemmas.Slice.Eq.{bytes_eq-Decides}
 use Rattle.std.specs.Borrow.{Bor}
@@ -29,11 +29,9 @@ use Rattle.version_order.specs.texts.Grammar.{SpellsDotted}
 use Rattle.version_rules.specs.grammar.Release.{SpellsRelease, release_text}
 use Rattle.version_tasks.proofs.lemmas.Next.Order.{three_ways}
 use Rattle.version_texts.proofs.lemmas.order.Piece.{pieces_are}
-use Rattle.version_texts.proofs.lemmas.scan.Splits.{split-append, split_run}
-use Rattle.version_texts.proofs.lemmas.scan.TextKind.Chunks.{numeral_spells}
-use Rattle.version_texts.specs.key.TextKey.{chunk_of, chunks_of}
-use Rattle.version_texts.specs.scan.TextKind.{is_chunk, is_numeral}
-use Rattle.version_texts.specs.versioning_ref.Numbers.{numeral_value}
+use Rattle.version_texts.specs.Key.{chunk_of, chunks_of}
+use Rattle.version_texts.specs.Scan.{is_chunk, is_numeral}
+use Rattle.version_texts.specs.VersioningRef.{numeral_value}
 
 -- ---- chunks and a number after them, compared with the chunks of a pre-release
 

@@ -10,7 +10,7 @@ use Rattle.version_tasks.proofs.lemmas.NextPre.Order.{is_next, none_past, none_u
 use Rattle.version_tasks.proofs.lemmas.NextPre.Text.{own_read, release_passes, release_spelled}
 use Rattle.version_tasks.specs.NextPre.{AreNamed, IsNextPre, IsPreRelease, NoNextPre}
 use Rattle.version_tasks.specs.NextPreText.{IsPlace, NonePass, is_own, is_release, own_chunks, pre_text, pre_version, word_chunks}
-use Rattle.version_texts.specs.versioning_ref.Field.{field_text}
+use Rattle.version_texts.specs.VersioningRef.{field_text}
 use Rattle.version_texts.specs.declared.versioning_ref.field.Field.TheVariants.{PreRelease}
 use Rattle.version_rules.specs.declared.kind.Kind.TheVariants as kind
 

@@ -15,13 +15,11 @@ use Rattle.version_rules.specs.grammar.SemVer.{PlainSemVer, SpellsSemVer}
 use Rattle.version_rules.specs.grammar.Versioning.{PlainVersioning, Ideal, versioning_of}
 use Rattle.version_tasks.proofs.lemmas.Next.Text.{ascii_left, ascii_right, decimal_spells}
 use Rattle.version_tasks.specs.NextPreText.{is_own, is_release, is_word, numbers_text, own_chunks, pre_text, pre_version, word_chunks, word_text}
-use Rattle.version_texts.proofs.lemmas.order.Piece.Spelled.{release_chunks}
+use Rattle.version_texts.proofs.lemmas.scan.Spelled.{release_chunks, both_pass, dotted_one, split-append, dotted_passes, dotted_spells}
 use Rattle.version_order.proofs.lemmas.Bytes.{digit_identifier, identifier_no_dot}
-use Rattle.version_texts.proofs.lemmas.scan.Splits.{both_pass, dotted_one, split-append}
-use Rattle.version_texts.proofs.lemmas.scan.TextKind.Chunks.{dotted_passes, dotted_spells}
-use Rattle.version_texts.specs.key.TextKey.{chunk_of, chunks_of}
+use Rattle.version_texts.specs.Key.{chunk_of, chunks_of}
 use Rattle.version_order.specs.texts.Pieces.{is_dot}
-use Rattle.version_texts.specs.scan.TextKind.{is_chunk}
+use Rattle.version_texts.specs.Scan.{is_chunk}
 
 -- a text passes the test exactly if it spells its chunks
 pub release_spelled : (text : List ℕ) → is_release text ≡ true → SpellsRelease text (chunks_of text)

@@ -1,5 +1,5 @@
 use Rattle.std.proofs.Common.{◌∙◌, ap, sym}
-use Rattle.version_texts.specs.versioning_ref.Numbers.{numeral_value}
+use Rattle.version_texts.specs.VersioningRef.{numeral_value}
 use Rattle.version_tasks.proofs.lemmas.NextPre.Number.{first_given, first_none, next_given, next_none, none_before_text}
 use Rattle.version_tasks.proofs.pre.number_after.Goals as goal
 

@@ -1,7 +1,7 @@
 use Rattle.std.proofs.Common.{◌≡◌, ◌==◌, ◌∙◌, ℕ, List, ap, length, sym, ◌∷◌, [], Bool, drop}
 use Rattle.std.specs.Char.{is_ascii_digit}
 use Rattle.std.specs.List.{list_all, prefix_len}
-use Rattle.version_texts.proofs.lemmas.key.TextKey.DotPieces.{number_chunk, text_chunk}
+use Rattle.version_texts.proofs.lemmas.key.Pieces.{number_chunk, text_chunk}
 use Rattle.version_order.proofs.lemmas.Runs.{run_is}
 use Rattle.version_order.proofs.lemmas.Taking.{next_fits, owes_all, owes_rest}
 use Rattle.version_texts.proofs.key.put_chunk.Goals as goal

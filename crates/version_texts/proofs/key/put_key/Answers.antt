@@ -1,8 +1,8 @@
 use Rattle.version_rules.specs.key.Tail.{tail_bytes}
-use Rattle.version_texts.specs.scan.Shape.{tail_in}
-use Rattle.version_texts.specs.key.TextKey.{tail_of, text_key}
+use Rattle.version_texts.specs.Scan.{tail_in}
+use Rattle.version_texts.specs.Key.{tail_of, text_key}
 use Rattle.version_order.proofs.lemmas.Taking.{next_fits, owes_all, owes_rest}
-use Rattle.version_texts.proofs.lemmas.key.TextKey.{key_halves}
+use Rattle.version_texts.proofs.lemmas.versioning_ref.VersioningRef.{key_halves}
 use Rattle.version_texts.proofs.key.put_key.Goals as goal
 
 pub put_front-requires-clause-fits : goal.put_front-requires-clause-fits
@@ -10,13 +10,6 @@ put_front-requires-clause-fits g c =
     let laws = g.met.S.Sink in
     let key = text_key c.args.text.now c.args.shape in
     next_fits _ _ (owes_all laws.fits_first laws.fits_then laws.takes_both (key_halves key) c.requires.fits)
-
-pub put_tail-requires-clause-fits : goal.put_tail-requires-clause-fits
-put_tail-requires-clause-fits g c =
-    let laws = g.met.S.Sink in
-    let key = text_key c.args.text.now c.args.shape in
-    let all = owes_all laws.fits_first laws.fits_then laws.takes_both (key_halves key) c.requires.fits in
-    rw c.tail_at.ensures (owes_rest _ _ all c.put_front.ensures.bytes).room
 
 pub returns-then-put_front : goal.returns-then-put_front
 returns-then-put_front g c =

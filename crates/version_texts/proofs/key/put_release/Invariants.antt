@@ -2,7 +2,7 @@ use Rattle.std.proofs.Common.{◌≡◌, length, true}
 use Rattle.std.specs.List.{list_all}
 use Rattle.version_order.specs.texts.Bytes.{is_metadata_byte}
 use Rattle.version_rules.specs.order.Parts.{release_bytes}
-use Rattle.version_texts.specs.key.TextKey.{chunks_of}
+use Rattle.version_texts.specs.Key.{chunks_of}
 use Rattle.version_order.proofs.lemmas.Taking.{Owes}
 use Rattle.version_texts.proofs.key.put_release.Given as goal
 

@@ -3,8 +3,8 @@ use Rattle.version_rules.specs.order.Parts.{release_bytes}
 use Rattle.version_rules.specs.key.Tail.{held_bytes, tail_bytes, tail_rank}
 use Rattle.version_texts.specs.declared.scan.shape.TailKind.{TailKind}
 use Rattle.version_texts.specs.declared.scan.shape.TailKind.TheVariants.{PreRelease, Release, Sections}
-use Rattle.version_texts.specs.key.TextKey.{chunks_of, tail_of}
-use Rattle.version_texts.proofs.lemmas.key.TextKey.SectionPieces.{sections_held}
+use Rattle.version_texts.specs.Key.{chunks_of, tail_of}
+use Rattle.version_texts.proofs.lemmas.key.Pieces.{sections_held}
 use Rattle.version_order.proofs.lemmas.Taking.{next_fits, owes_all, owes_rest}
 use Rattle.version_texts.proofs.key.put_tail.Goals as goal
 

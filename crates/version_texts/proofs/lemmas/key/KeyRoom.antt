@@ -1,44 +1,166 @@
 -- The length of a version's key: at most three bytes for each byte of its text, and five more.
-use Rattle.std.proofs.Common.{◌≡◌, ◌∙◌, ◌+◌, ◌*◌, ◌<◌, ◌≤◌, ℕ, Bool, true, false, List, [], ◌∷◌, ◌++◌, length, map, Option, Some, None, refl, sym, ap, arith, if◌then◌else◌}
-use Rattle.std.proofs.lemmas.Bool.Decides.{nat_tests}
-use Rattle.std.proofs.lemmas.List.{length-append, map-append}
-use Rattle.std.proofs.lemmas.List.Elements.{All-append, All-cons, All-nil}
-use Rattle.std.specs.Char.{is_ascii_alphanumeric}
-use Rattle.std.specs.Cmp.{first_so, second_so}
-use Rattle.std.specs.List.{list_all}
-use Rattle.std.specs.Option.{option_map_or, unwrap_or}
+use Rattle.version_texts.proofs.lemmas.scan.Spelled.{chunk_some, digits_from, identifier_metadata, some_digits}
+use Rattle.std.proofs.Common.{◌≡◌, ◌∙◌, ◌+◌, ◌*◌, ◌<◌, ◌≤◌, ℕ, suc, Bool, true, false, List, [], ◌∷◌, length, take, drop, Some, None, refl, sym, ap, arith, if◌then◌else◌, ◌++◌, map, Option}
+use Rattle.std.proofs.lemmas.List.{length-append, length-take, take-append-drop, map-append}
+use Rattle.std.proofs.lemmas.List.Elements.{All-drop, All-take, All-append, All-cons, All-nil}
+use Rattle.std.specs.Char.{is_ascii_digit, is_ascii_alphanumeric}
+use Rattle.std.specs.List.{position_or_len, prefix_len, take_while, list_all}
 use Rattle.std.specs.Str.Parse.{digits_value}
+use Rattle.version_order.proofs.lemmas.Front.Runs.{list_all-take_while, all_weaker}
+use Rattle.version_order.specs.texts.DigitRun.{number_front, starts_with_digit, is_digits}
+use Rattle.version_order.specs.keys.NumberBytes.{number_bytes}
+use Rattle.version_rules.specs.key.PartKey.{part_bytes, part_key, suffix_bytes, suffix_of, PartKey, chunk_parts, parts_bytes, section_parts, numbered_bytes, split_bytes, split_of}
+use Rattle.version_order.specs.keys.TextBytes.{text_bytes}
+use Rattle.version_order.proofs.lemmas.Lengths.{IsHigh, text_length, number_length, list_length}
+use Rattle.std.proofs.lemmas.Bool.Decides.{nat_tests}
+use Rattle.std.specs.Cmp.{first_so, second_so}
+use Rattle.std.specs.Option.{option_map_or, unwrap_or}
 use Rattle.version_rules.proofs.lemmas.Chunk.{part_printed}
 use Rattle.version_rules.proofs.lemmas.Last.{last_printed}
 use Rattle.version_rules.proofs.lemmas.MChunk.{mchunk_printed}
-use Rattle.version_order.proofs.lemmas.Front.Runs.{all_weaker}
 use Rattle.version_rules.proofs.lemmas.Grammar.{of_mchunk, of_numeral}
 use Rattle.version_rules.specs.grammar.Body.{PlainBody, SpellsBody}
 use Rattle.version_order.specs.texts.Bytes.{dot, hyphen, is_identifier_byte, is_metadata_byte}
 use Rattle.version_rules.specs.grammar.Chunk.{Numeric, Alphanum, PlainChunk, SpellsChunk, SpellsChunkOf, SpellsPart, chunk_text}
 use Rattle.version_order.specs.keys.Codes.{items_bytes}
-use Rattle.version_order.specs.texts.DigitRun.{is_digits, starts_with_digit}
 use Rattle.version_order.specs.texts.Grammar.{SpellsDotted, SpellsEach, SpellsOptional}
 use Rattle.version_rules.specs.grammar.Last.{last_text}
 use Rattle.version_rules.specs.grammar.MChunk.{Digits, Rev, Plain, PlainMChunk, SpellsMChunk, mchunk_text}
-use Rattle.version_order.specs.keys.NumberBytes.{number_bytes}
 use Rattle.version_rules.specs.grammar.Numeral.{SpellsNumeral}
-use Rattle.version_rules.specs.key.PartKey.{PartKey, chunk_parts, part_bytes, part_key, parts_bytes, section_parts}
 use Rattle.version_rules.specs.grammar.Release.{SpellsRelease}
 use Rattle.version_rules.specs.order.Parts.{chunk_bytes, release_bytes}
 use Rattle.version_order.specs.texts.Sep.{Colon, Hyphen, Plus, Underscore, Tilde}
-use Rattle.version_rules.specs.key.Key.{key_behind_epoch, key_of, key_of_mess, key_of_sections, key_of_semver, key_of_version, plain, section_epoch, sections_tail, key_bytes}
+use Rattle.version_rules.specs.key.Key.{key_behind_epoch, key_of, key_of_mess, key_of_sections, key_of_semver, key_of_version, plain, section_epoch, sections_tail, Key, key_bytes}
 use Rattle.version_rules.specs.grammar.Mess.{Further, PlainMess, Section, SpellsFurther, SpellsMess, SpellsSection}
 use Rattle.version_rules.specs.grammar.SemVer.{PlainSemVer, SpellsSemVer}
 use Rattle.version_rules.specs.key.Tail.{Bare, Released, Tail, section_bytes, tail_bytes}
 use Rattle.version_rules.specs.grammar.Version.{PlainVersion, SpellsEpoch, SpellsVersion}
 use Rattle.version_rules.proofs.lemmas.Versioning.{versioning_of-spells}
 use Rattle.version_rules.specs.grammar.Versioning.{PlainVersioning, Ideal, General, Complex, SpellsVersioning, versioning_of}
-use Rattle.version_texts.specs.key.KeyRoom.{room_for}
-use Rattle.version_texts.proofs.lemmas.key.KeyRoom.Parts.{part_length}
-use Rattle.version_order.proofs.lemmas.Lengths.{IsHigh, list_length, number_length, text_length}
-pub mod Ends
-pub mod Parts
+use Rattle.version_texts.specs.Key.{room_for}
+use Rattle.version_rules.specs.requirement.Range.{end_bytes, kept_parts, begun, but_last, or_others, through_other}
+use Rattle.version_order.specs.keys.Lists.{split_last}
+use Rattle.version_rules.specs.requirement.VersionMatch.{is_plain_zero}
+use Rattle.version_order.specs.declared.ends.End.{End}
+use Rattle.version_order.specs.declared.ends.End.TheVariants.{AboveBegun, AfterKey, Begun}
+use Rattle.version_order.specs.declared.ends.Kept.{Kept}
+use Rattle.version_order.specs.declared.ends.Kept.TheVariants.{All, ButLast, ButLastOrOnly, ThroughOther}
+
+-- ---- the length of a part's bytes: at most three for each byte of its text, and one more
+
+-- ---- splits
+
+-- a prefix and the rest are as long as the whole
+parted : (n : ℕ) (text : List ℕ) → length (take n text) + length (drop n text) ≡ length text
+parted n text =
+    sym (length-append (take n text) (drop n text)) ∙ ap length (take-append-drop n text)
+
+-- the digits that a text begins with, and the rest
+abbrev digits_front : List ℕ → List ℕ
+digits_front text = take_while is_ascii_digit text
+
+abbrev digits_rest : List ℕ → List ℕ
+digits_rest text = drop (prefix_len is_ascii_digit text) text
+
+run_is_some : (text : List ℕ) → starts_with_digit text ≡ true
+    → 0 < length (take_while is_ascii_digit text)
+run_is_some [] e = cc e
+run_is_some (b ∷ text) e =
+    let some : 0 < prefix_len is_ascii_digit (b ∷ text) = rw e (omega arith) in
+    omega (arith, some, length-take (prefix_len is_ascii_digit (b ∷ text)) (b ∷ text))
+
+run_ends : (text : List ℕ) → starts_with_digit (drop (prefix_len is_ascii_digit text) text) ≡ false
+run_ends [] = refl
+run_ends (b ∷ text) = by (is_ascii_digit b) refl (run_ends text)
+  where
+    by : (digit : Bool) → is_ascii_digit b ≡ digit
+        → starts_with_digit (drop (prefix_len is_ascii_digit text) text) ≡ false
+        → starts_with_digit (drop (prefix_len is_ascii_digit (b ∷ text)) (b ∷ text)) ≡ false
+    by true e ends =
+        let one_more : 1 + prefix_len is_ascii_digit text ≡ suc (prefix_len is_ascii_digit text) =
+        omega arith in
+        rw (e, one_more) ends
+    by false e ends = rw e e
+
+numbered_length : (text : List ℕ) → IsHigh text
+    → length (numbered_bytes (number_front text)) ≤ 3 * length text + 1
+numbered_length text high = by (starts_with_digit text) refl
+  where
+    by : (starts : Bool) → starts_with_digit text ≡ starts
+        → length (numbered_bytes
+        (if starts then Some (digits_value 10 (digits_front text), digits_rest text) else None))
+        ≤ 3 * length text + 1
+    by false e = omega arith
+    by true e =
+        let number = number_length (digits_front text) (list_all-take_while is_ascii_digit text)
+        (run_is_some text e) in
+        let behind = text_length (digits_rest text)
+        (All-drop (λ b. 2 ≤ b) (prefix_len is_ascii_digit text) text high) in
+        omega (
+          arith,
+          number,
+          behind,
+          run_is_some text e,
+          parted (prefix_len is_ascii_digit text) text,
+          length-append (number_bytes (digits_value 10 (digits_front text)))
+              (text_bytes (digits_rest text)),
+        )
+
+first_stays : (text : List ℕ) → starts_with_digit text ≡ false → 0 < length text
+    → 0 < length (take (position_or_len is_ascii_digit text) text)
+first_stays [] e some = some
+first_stays (b ∷ text) e some =
+    let one : 0 < position_or_len is_ascii_digit (b ∷ text) = rw e (omega arith) in
+    omega (arith, one, length-take (position_or_len is_ascii_digit (b ∷ text)) (b ∷ text))
+
+pub split_length : (text : List ℕ) → IsHigh text → starts_with_digit text ≡ false → 0 < length text
+    → length (split_bytes (split_of text)) ≤ 3 * length text
+split_length text high word some =
+    let n = position_or_len is_ascii_digit text in
+    let before = text_length (take n text) (All-take (λ b. 2 ≤ b) n text high) in
+    let numbered = numbered_length (drop n text) (All-drop (λ b. 2 ≤ b) n text high) in
+    omega (
+      arith,
+      before,
+      numbered,
+      first_stays text word some,
+      parted n text,
+      length-append (text_bytes (take n text)) (numbered_bytes (number_front (drop n text))),
+    )
+
+-- ---- parts
+
+suffix_length : (text : List ℕ) → IsHigh text → starts_with_digit text ≡ false
+    → length (suffix_bytes (suffix_of text)) ≤ 3 * length text + 1
+suffix_length [] high word = omega arith
+suffix_length (b ∷ text) high word =
+    let split = split_length (b ∷ text) high word (omega arith) in
+    omega (arith, split)
+
+pub part_length : (text : List ℕ) → IsHigh text → 0 < length text
+    → length (part_bytes (Some (part_key text))) ≤ 3 * length text + 1
+part_length text high some = by (starts_with_digit text) refl
+  where
+    by : (starts : Bool) → starts_with_digit text ≡ starts
+        → length (part_bytes (Some (part_key text))) ≤ 3 * length text + 1
+    by false e =
+        let split = split_length text high e some in
+        rw e (omega (arith, split))
+    by true e =
+        let number = number_length (digits_front text) (list_all-take_while is_ascii_digit text)
+        (run_is_some text e) in
+        let suffix = suffix_length (digits_rest text)
+        (All-drop (λ b. 2 ≤ b) (prefix_len is_ascii_digit text) text high) (run_ends text) in
+        let whole = length-append (number_bytes (digits_value 10 (digits_front text)))
+        (suffix_bytes (suffix_of (digits_rest text))) in
+        rw e (omega (
+          arith,
+          number,
+          suffix,
+          whole,
+          run_is_some text e,
+          parted (prefix_len is_ascii_digit text) text,
+        ))
 
 -- ---- versions have no bytes below 2
 
@@ -54,9 +176,6 @@ high_run (b ∷ text) all =
 high_together : (a b : List ℕ) → IsHigh a → IsHigh b → IsHigh (a ++ b)
 high_together = All-append (λ b. 2 ≤ b)
 
-identifier_byte : (b : ℕ) → is_identifier_byte b ≡ true → is_metadata_byte b ≡ true
-identifier_byte b h = rw h refl
-
 alphanumeric_byte : (b : ℕ) → is_ascii_alphanumeric b ≡ true → is_metadata_byte b ≡ true
 alphanumeric_byte b h = rw h refl
 
@@ -70,31 +189,19 @@ chunk_high test passes text (Alphanum run) s =
 -- ---- pieces
 
 numeral_some : (text : List ℕ) (n : ℕ) → SpellsNumeral text n → 0 < length text
-numeral_some [] n s = absurd s.canonical
-numeral_some (b ∷ text) n s = omega arith
+numeral_some text n s = some_digits text (digits_from text n s)
 
 numeral_length : (text : List ℕ) (n : ℕ) → SpellsNumeral text n
     → length (number_bytes n) ≤ 2 * length text
 numeral_length text n s = rw (← s.value) (number_length text s.digits (numeral_some text n s))
 
--- a run that is not all digits is not empty
-run_some : (test : ℕ → Bool) (text : List ℕ) (chunk : PlainChunk) → SpellsChunkOf test text chunk
-    → 0 < length text
-run_some test text (Numeric n) s = numeral_some text n s
-run_some test [] (Alphanum run) s = cc (rw (← s.0) at s.2)
-run_some test (b ∷ text) (Alphanum run) s = omega arith
-
 part_spelled : (text : List ℕ) (part : PlainChunk) → SpellsPart text part
     → length (part_bytes (Some (part_key (chunk_text part)))) ≤ 3 * length text + 1
 part_spelled text part s =
-    grind (arith, chunk_high, alphanumeric_byte, part_printed, part_length, run_some)
-
-digits_some : (text : List ℕ) → is_digits text ≡ true → 0 < length text
-digits_some [] e = cc e
-digits_some (b ∷ text) e = omega arith
+    grind (arith, chunk_high, alphanumeric_byte, part_printed, part_length, chunk_some)
 
 mchunk_some : (text : List ℕ) (chunk : PlainMChunk) → SpellsMChunk text chunk → 0 < length text
-mchunk_some text (Digits value kept) s = digits_some text s.1.digits
+mchunk_some text (Digits value kept) s = some_digits text s.1.digits
 mchunk_some text (Rev value kept) s = rw s.1.1 (omega arith)
 mchunk_some [] (Plain kept) s = absurd (s.1.some refl)
 mchunk_some (b ∷ text) (Plain kept) s = omega arith
@@ -109,8 +216,8 @@ chunk_spelled : (text : List ℕ) (chunk : PlainChunk) → SpellsChunk text chun
     → length (chunk_bytes (Some chunk)) ≤ 3 * length text + 1
 chunk_spelled text (Numeric n) s = omega (arith, numeral_length text n s, numeral_some text n s)
 chunk_spelled text (Alphanum run) s =
-    let high = chunk_high is_identifier_byte identifier_byte text (Alphanum run) s in
-    let some = run_some is_identifier_byte text (Alphanum run) s in
+    let high = chunk_high is_identifier_byte identifier_metadata text (Alphanum run) s in
+    let some = chunk_some is_identifier_byte text (Alphanum run) s in
     rw (← s.0) (omega (arith, text_length text high, some))
 
 -- ---- lists
@@ -276,7 +383,7 @@ section_epoch_length text (chunk ∷ []) epoch s e = by (is_digits (mchunk_text 
         let value : digits_value 10 (mchunk_text chunk) ≡ epoch = cc known in
         let number = number_length (mchunk_text chunk)
         (second_so (starts_with_digit (mchunk_text chunk)) _ is)
-        (digits_some (mchunk_text chunk) is) in
+        (some_digits (mchunk_text chunk) is) in
         let long : length (mchunk_text chunk) ≡ length text =
         ap length (mchunk_printed text chunk s) in
         rw (← value) (omega (arith, number, long))
@@ -342,3 +449,80 @@ spelled_length text (Complex m) s = mess_length text m s.0
 pub enough_room : (text : List ℕ) (v : PlainVersioning) → versioning_of text ≡ Some v
     → length (key_bytes (key_of v)) ≤ room_for (length text)
 enough_room text v e = spelled_length text v (versioning_of-spells text v e)
+
+-- ---- the lengths of the ends of ranges: at most one byte more than the key
+
+-- ---- kept parts
+
+abbrev pub length_of : List PartKey → ℕ
+length_of parts = length (items_bytes part_bytes parts)
+
+-- the bytes of one part more
+pub one_more : (part : PartKey) (parts : List PartKey)
+    → length_of (part ∷ parts) ≡ length (part_bytes (Some part)) + length_of parts
+one_more part parts = length-append (part_bytes (Some part)) (items_bytes part_bytes parts)
+
+-- kept parts have no more bytes than all parts
+pub but_last_length : (parts : List PartKey) → length_of (but_last parts) ≤ length_of parts
+but_last_length [] = omega arith
+but_last_length (part ∷ parts) = by (split_last parts) (but_last_length parts)
+  where
+    whole : Option (List PartKey × PartKey) → List PartKey × PartKey
+    whole split = option_map_or (λ s. (part ∷ s.0, s.1)) split ([], part)
+
+    by : (split : Option (List PartKey × PartKey))
+        → length_of (option_map_or (λ s. s.0) split []) ≤ length_of parts
+        → length_of (whole split).0 ≤ length_of (part ∷ parts)
+    by None fewer = omega arith
+    by (Some s) fewer = omega (arith, fewer, one_more part s.0, one_more part parts)
+
+pub or_others_length : (kept parts : List PartKey) → length_of kept ≤ length_of parts
+    → length_of (or_others kept parts) ≤ length_of parts
+or_others_length [] parts fewer = omega arith
+or_others_length (part ∷ kept) parts fewer = fewer
+
+pub through_other_length : (parts : List PartKey) → length_of (through_other parts) ≤ length_of parts
+through_other_length [] = omega arith
+through_other_length (part ∷ parts) = by (is_plain_zero part) (through_other_length parts)
+  where
+    by : (zero : Bool) → length_of (through_other parts) ≤ length_of parts
+        → length_of (part ∷ (if zero then through_other parts else [])) ≤ length_of (part ∷ parts)
+    by true fewer = omega (arith, fewer, one_more part (through_other parts), one_more part parts)
+    by false fewer = omega (arith, one_more part [], one_more part parts)
+
+-- what the keys of an epoch and of some parts begin with
+pub begun_length : (epoch : ℕ) (parts : List PartKey)
+    → length (begun epoch parts) ≡ length (number_bytes epoch) + length_of parts
+begun_length epoch parts = length-append (number_bytes epoch) (items_bytes part_bytes parts)
+
+-- is shorter than each such key
+pub below_key : (k : Key) → length (number_bytes k.epoch) + length_of k.body < length (key_bytes k)
+below_key k = omega (arith, list_length part_bytes k.body, key_length k.epoch k.body k.tail)
+
+-- ---- ends
+
+kept_length : (kept : Kept) (parts : List PartKey)
+    → length_of (kept_parts kept parts) ≤ length_of parts
+kept_length All parts = omega arith
+kept_length ButLast parts = but_last_length parts
+kept_length ButLastOrOnly parts = or_others_length (but_last parts) parts (but_last_length parts)
+kept_length ThroughOther parts = through_other_length parts
+
+pub end_length : (end : End) (k : Key) → length (end_bytes end k) ≤ length (key_bytes k) + 1
+end_length AfterKey k = omega (arith, length-append (key_bytes k) (0 ∷ []))
+end_length (Begun kept) k =
+    omega (
+      arith,
+      begun_length k.epoch (kept_parts kept k.body),
+      kept_length kept k.body,
+      below_key k,
+    )
+end_length (AboveBegun kept) k =
+    omega (
+      arith,
+      length-append (begun k.epoch (kept_parts kept k.body)) (4 ∷ []),
+      begun_length k.epoch (kept_parts kept k.body),
+      kept_length kept k.body,
+      below_key k,
+    )
+end_length end k = omega arith

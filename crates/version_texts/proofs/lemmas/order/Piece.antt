@@ -1,24 +1,34 @@
 -- The first piece of a text: its digits, and how the other pieces follow.
-use Rattle.std.proofs.Common.{◌≡◌, ◌==◌, ◌∙◌, ℕ, Bool, true, false, List, [], ◌∷◌, length, Some, refl, sym, ap, inl, inr, one-add, arith}
+use Rattle.std.proofs.Math.Bool.{or-false}
+use Rattle.std.proofs.Common.{◌≡◌, ◌==◌, ◌∙◌, ℕ, Bool, true, false, List, [], ◌∷◌, length, Some, refl, sym, ap, inl, inr, one-add, arith, ◌↔◌, map, IsTrue, ◌≢◌, Ordering, ◌||◌, not, ◌&&◌, drop, None, ◌<◌}
 use Rattle.std.proofs.Math.Dec.{eqb-suc-zero}
 use Rattle.std.proofs.lemmas.Bool.{cases_Bool}
 use Rattle.std.specs.Char.{is_ascii_digit}
-use Rattle.std.specs.List.{before_first, list_all, slice_split, take_while}
+use Rattle.std.specs.List.{before_first, list_all, slice_split, take_while, prefix_len}
 use Rattle.std.specs.Str.Parse.{digits_value}
 use Rattle.version_order.proofs.lemmas.Front.Runs.{take_while-all}
 use Rattle.version_rules.specs.grammar.Chunk.{Alphanum, Numeric}
 use Rattle.version_order.specs.texts.DigitRun.{number_front, run_value, starts_with_digit, behind_digits}
-use Rattle.version_rules.specs.key.PartKey.{split_of, Word, Number, part_key, suffix_of}
-use Rattle.version_order.proofs.lemmas.Runs.{run_is, run_cons}
+use Rattle.version_rules.specs.key.PartKey.{split_of, numbered_cmp, split_cmp, Word, Number, part_key, suffix_of, part_cmp}
+use Rattle.version_order.proofs.lemmas.Runs.{run_is, run_cons, not_false, not_true, run_none}
 use Rattle.version_order.proofs.lemmas.Bytes.{digit_no_dot}
 use Rattle.version_order.specs.texts.Pieces.{behind_piece, first_piece, from_first, further_pieces, is_dot}
-use Rattle.version_texts.specs.key.TextKey.{chunk_of}
-pub mod Chunks
-pub mod Delimiters
-pub mod Kept
-pub mod Order
-pub mod Spelled
-pub mod Words
+use Rattle.version_texts.specs.Key.{chunk_of, parts_of, sections_of, tail_of_sections, delimits, sign_of}
+use Rattle.std.proofs.lemmas.Cmp.{nat_cmp_total, tied_itself}
+use Rattle.std.proofs.lemmas.Map.Lookups.{exact_bytes}
+use Rattle.std.specs.Ordering.{nat_cmp, ordering_index, ordering_then}
+use Rattle.std.specs.declared.cmp.Ordering.TheVariants.{Less, Equal, Greater}
+use Rattle.version_order.specs.keys.Lists.{bytes_cmp, none_last_cmp}
+use Rattle.version_rules.specs.order.Parts.{chunk_cmp}
+use Rattle.std.proofs.lemmas.Bool.Decides.{nat_tests}
+use Rattle.version_order.specs.texts.Bytes.{dot}
+use Rattle.version_texts.specs.declared.order.delimiters.Delimiters.{Delimiters}
+use Rattle.version_texts.specs.declared.order.delimiters.Delimiters.TheVariants.{Dots, Marks}
+use Rattle.std.specs.Option.{option_cmp}
+use Rattle.version_order.specs.texts.Front.{begins}
+use Rattle.std.proofs.lemmas.List.{length-drop}
+use Rattle.std.specs.Cmp.Lexicographic.{slice_cmp}
+use Rattle.version_rules.specs.key.Tail.{tail_rank}
 
 -- a first byte that divides pieces stands behind an empty piece; another belongs to the first piece
 pub piece_ends : (test : ℕ → Bool) (b : ℕ) (text : List ℕ) → test b ≡ true
@@ -137,3 +147,271 @@ chunk_of_number text all =
 pub chunk_of_text : (text : List ℕ) → list_all is_ascii_digit (first_piece text) ≡ false
     → chunk_of (first_piece text) ≡ Alphanum (first_piece text)
 chunk_of_text text other = rw other refl
+
+-- ---- the parts of a text, by its first piece and what follows it
+
+-- the parts of a text are that of its first piece, and further ones
+pub parts_begin : (text : List ℕ) → parts_of text
+    ≡ part_key (first_piece text) ∷ map part_key (further_pieces is_dot (behind_piece text))
+parts_begin text = ap (map part_key) (pieces_are is_dot text)
+
+-- a match that holds exactly if another does
+pub chain : {P Q R : Type 0} → (P ↔ Q) → (Q ↔ R) → (P ↔ R)
+chain first second = (λ p. second.0 (first.0 p), λ r. first.1 (second.1 r))
+
+-- no match
+pub refused : {P : Type 0} → (¬ P) → (IsTrue false ↔ P)
+refused none = (λ e. cc e, λ p. absurd (none p))
+
+-- ---- two first chunks of releases, compared by the numbers that they begin with
+
+abbrev first_cmp : List ℕ → List ℕ → Ordering
+first_cmp a b = chunk_cmp (chunk_of (first_piece a)) (chunk_of (first_piece b))
+
+abbrev is_number : List ℕ → Bool
+is_number text = list_all is_ascii_digit (first_piece text)
+
+module _ (a b : List ℕ) where
+  pub both_numbers : is_number a ≡ true → is_number b ≡ true
+      → first_cmp a b ≡ nat_cmp (run_value a) (run_value b)
+  both_numbers e f = rw (chunk_of_number a e, chunk_of_number b f) refl
+
+  pub number_first : is_number a ≡ true → is_number b ≡ false → first_cmp a b ≡ Less
+  number_first e f = rw (chunk_of_number a e, chunk_of_text b f) refl
+
+  pub number_second : is_number a ≡ false → is_number b ≡ true → first_cmp a b ≡ Greater
+  number_second e f = rw (chunk_of_text a e, chunk_of_number b f) refl
+
+  pub both_texts : is_number a ≡ false → is_number b ≡ false
+      → first_cmp a b ≡ bytes_cmp (first_piece a) (first_piece b)
+  both_texts e f = rw (chunk_of_text a e, chunk_of_text b f) refl
+
+  -- chunks that begin with other numbers differ
+  module _ (more : nat_cmp (run_value a) (run_value b) ≡ Greater) where
+    other_texts : bytes_cmp (first_piece a) (first_piece b) ≢ Equal
+    other_texts e =
+        let same : run_value a ≡ run_value b =
+        ap (digits_value 10) (sym (digits_same is_dot digit_no_dot a).0)
+        ∙ ap run_value (exact_bytes (first_piece a) (first_piece b) e)
+        ∙ ap (digits_value 10) (digits_same is_dot digit_no_dot b).0 in
+        cc (sym more ∙ ap (nat_cmp (run_value a)) (sym same)
+        ∙ tied_itself nat_cmp_total (run_value a))
+
+    pub not_tied : first_cmp a b ≢ Equal
+    not_tied e = elim (cases_Bool (is_number a)) [
+      | inl n ↦ elim (cases_Bool (is_number b)) [
+        | inl m ↦ cc (sym more ∙ sym (both_numbers n m) ∙ e)
+        | inr t ↦ cc (sym (number_first n t) ∙ e)
+      ]
+      | inr t ↦ elim (cases_Bool (is_number b)) [
+        | inl m ↦ cc (sym (number_second t m) ∙ e)
+        | inr s ↦ other_texts (sym (both_texts t s) ∙ e)
+      ]
+    ]
+
+    -- a number is above each chunk that begins with a smaller number
+    pub above_number : is_number b ≡ true → first_cmp a b ≡ Greater
+    above_number m = elim (cases_Bool (is_number a)) [
+      | inl n ↦ both_numbers n m ∙ more
+      | inr t ↦ number_second t m
+    ]
+
+-- ---- what ends a part: no digit does, and a sign or a dot
+
+pub digit_no_end : (ends : Delimiters) (b : ℕ) → is_ascii_digit b ≡ true → delimits ends b ≡ false
+digit_no_end Dots b digit = digit_no_dot b digit
+digit_no_end Marks b digit = grind (arith, nat_tests)
+
+-- a dot or a sign ends a part
+pub dot_or_sign : (ends : Delimiters) (b : ℕ) → delimits ends b ≡ (is_dot b || sign_of ends b)
+dot_or_sign Dots b = sym (or-false (is_dot b))
+dot_or_sign Marks b = refl
+
+pub dot_no_sign : (ends : Delimiters) → sign_of ends dot ≡ false
+dot_no_sign Dots = refl
+dot_no_sign Marks = refl
+
+-- ---- two first pieces, compared as parts by their digits and what follows these
+
+-- the code's test for Equal; what is not Equal decides
+pub tied : (o : Ordering) → false ≡ not (ordering_index o == 1) → o ≡ Equal
+tied Equal e = refl
+tied o e = cc e
+
+pub decided : (o more : Ordering) → true ≡ not (ordering_index o == 1) → ordering_then o more ≡ o
+decided Equal more e = cc e
+decided o more e = refl
+
+-- of two orders in turn, the first one decides, or leaves it to the second
+pub decides : (o first second whole : Ordering) → o ≡ first → whole ≡ ordering_then first second
+    → true ≡ not (ordering_index o == 1) → o ≡ whole
+decides o first second whole e is other =
+    sym (is ∙ ap (λ p. ordering_then p second) (sym e) ∙ decided o second other)
+
+pub leaves : (o first second whole : Ordering) → o ≡ first → whole ≡ ordering_then first second
+    → o ≡ Equal → second ≡ whole
+leaves o first second whole e is same =
+    sym (is ∙ ap (λ p. ordering_then p second) (sym e ∙ same))
+
+module _ (ends : ℕ → Bool) (apart : (b : ℕ) → is_ascii_digit b ≡ true → ends b ≡ false)
+    (a b : List ℕ) where
+  abbrev parts_cmp : Ordering
+  parts_cmp =
+      part_cmp (Some (part_key (before_first ends a))) (Some (part_key (before_first ends b)))
+
+  -- two numbers, and the texts after them as suffixes, or as they are
+  pub numbers_compared : starts_with_digit a ≡ true → starts_with_digit b ≡ true
+      → parts_cmp
+      ≡ ordering_then (nat_cmp (run_value a) (run_value b))
+      (none_last_cmp split_cmp (suffix_of (before_first ends (behind_digits a)))
+      (suffix_of (before_first ends (behind_digits b))))
+  numbers_compared is_number is_too =
+      rw (part_of_number ends apart a is_number, part_of_number ends apart b is_too) refl
+
+  pub numbered_compared : starts_with_digit a ≡ true → starts_with_digit b ≡ true
+      → option_cmp numbered_cmp (number_front (before_first ends a))
+      (number_front (before_first ends b))
+      ≡ ordering_then (nat_cmp (run_value a) (run_value b))
+      (bytes_cmp (before_first ends (behind_digits a)) (before_first ends (behind_digits b)))
+  numbered_compared is_number is_too =
+      rw (front_of_number ends apart a is_number, front_of_number ends apart b is_too) refl
+
+  pub number_above_word : starts_with_digit a ≡ true → starts_with_digit b ≡ false
+      → parts_cmp ≡ Greater
+  number_above_word is_number is_word =
+      rw (part_of_number ends apart a is_number, part_of_word ends apart b is_word) refl
+
+  pub word_below_number : starts_with_digit a ≡ false → starts_with_digit b ≡ true
+      → parts_cmp ≡ Less
+  word_below_number is_word is_number =
+      rw (part_of_word ends apart a is_word, part_of_number ends apart b is_number) refl
+
+  pub words_compared : starts_with_digit a ≡ false → starts_with_digit b ≡ false
+      → parts_cmp ≡ split_cmp (split_of (before_first ends a)) (split_of (before_first ends b))
+  words_compared is_word is_too =
+      rw (part_of_word ends apart a is_word, part_of_word ends apart b is_too) refl
+
+-- ---- A piece that is read up to its end, and up to its first digit
+
+module _ (ends : ℕ → Bool) where
+  abbrev pub inside : ℕ → Bool
+  inside b = not (ends b)
+
+  abbrev pub in_word : ℕ → Bool
+  in_word b = not (ends b) && not (is_ascii_digit b)
+
+  -- the bytes before the first end are a run
+  pub run_is_piece : (text : List ℕ)
+      → (take_while inside text ≡ before_first ends text)
+      × (drop (prefix_len inside text) text ≡ from_first ends text)
+  run_is_piece [] = (refl, refl)
+  run_is_piece (b ∷ text) = elim (cases_Bool (ends b)) [
+    | inl at_end ↦
+        let here = piece_ends ends b text at_end in
+        let none = run_none inside b text (ap not at_end) in
+        (none.0 ∙ sym here.0, none.1 ∙ sym here.1)
+    | inr within ↦
+        let here = piece_grows ends b text within in
+        let more = run_is_piece text in
+        let step = run_cons inside b text (ap not within) in
+        (step.0 ∙ ap (λ (l : List ℕ). b ∷ l) more.0 ∙ sym here.0, step.1 ∙ more.1 ∙ sym here.1)
+  ]
+
+  -- the bytes of a piece before its first digit are a run, and what follows them is the rest of the
+  -- piece
+  pub run_is_word : (text : List ℕ)
+      → (take_while in_word text ≡ before_first is_ascii_digit (before_first ends text))
+      × (from_first is_ascii_digit (before_first ends text)
+      ≡ before_first ends (drop (prefix_len in_word text) text))
+      × (from_first ends (drop (prefix_len in_word text) text) ≡ from_first ends text)
+  run_is_word [] = (refl, refl, refl)
+  run_is_word (b ∷ text) = elim (cases_Bool (ends b)) [
+    | inl at_end ↦
+        let here = piece_ends ends b text at_end in
+        let none = run_none in_word b text (rw at_end refl) in
+        rw (none.0, none.1, here.0) (refl, refl, refl)
+    | inr within ↦ elim (cases_Bool (is_ascii_digit b)) [
+      | inl digit ↦
+          let here = piece_grows ends b text within in
+          let none = run_none in_word b text (rw (within, digit) refl) in
+          let first = piece_ends is_ascii_digit b (before_first ends text) digit in
+          rw (none.0, none.1, here.0, first.0, first.1) (refl, refl, refl)
+      | inr other ↦
+          let here = piece_grows ends b text within in
+          let step = run_cons in_word b text (rw (within, other) refl) in
+          let first = piece_grows is_ascii_digit b (before_first ends text) other in
+          let more = run_is_word text in
+          rw (step.0, step.1, here.0, here.1, first.0, first.1, more.0, more.1, more.2)
+          (refl, refl, refl)
+    ]
+  ]
+
+  -- whether a part has bytes is told by its first one
+  pub no_bytes : (text : List ℕ) → begins inside text ≡ false
+      → (before_first ends text ≡ []) × (from_first ends text ≡ text)
+  no_bytes [] none = (refl, refl)
+  no_bytes (b ∷ text) none = piece_ends ends b text (not_false (ends b) none)
+
+  pub some_suffix : (text : List ℕ) → begins inside text ≡ true
+      → suffix_of (before_first ends text) ≡ Some (split_of (before_first ends text))
+  some_suffix [] some = cc some
+  some_suffix (b ∷ text) some = rw (piece_grows ends b text (not_true (ends b) some)).0 refl
+
+  pub no_suffix : (text : List ℕ) → begins inside text ≡ false
+      → suffix_of (before_first ends text) ≡ None
+  no_suffix text none = rw (no_bytes text none).0 refl
+
+-- ---- lists of parts, of chunks and of sections, compared by their first pieces and what follows these
+
+-- what follows the byte that divides two pieces, and that nothing does
+pub further_of_more : (test : ℕ → Bool) (rest more : List ℕ) → (b : ℕ) × (rest ≡ b ∷ more)
+    → further_pieces test rest ≡ slice_split test more
+further_of_more test rest more p = ap (further_pieces test) p.1
+
+pub further_of_none : (test : ℕ → Bool) (rest : List ℕ) → rest ≡ [] → further_pieces test rest ≡ []
+further_of_none test rest e = ap (further_pieces test) e
+
+-- what follows a run, and the byte behind it, is shorter than the text
+pub behind_shorter : (test : ℕ → Bool) (text rest more : List ℕ) (b : ℕ)
+    → rest ≡ drop (prefix_len test text) text → rest ≡ b ∷ more → length more < length text
+behind_shorter test text rest more b run byte =
+    omega (arith, ap length run, ap length byte, length-drop (prefix_len test text) text)
+
+-- two lists, by their first items and what follows these
+module _ {X : Type 0} (test : ℕ → Bool) (item : List ℕ → X) (first_cmp : X → X → Ordering)
+    (cmp : List X → List X → Ordering) (step : (x y : X) (xs ys : List X)
+    → cmp (x ∷ xs) (y ∷ ys) ≡ ordering_then (first_cmp x y) (cmp xs ys)) where
+  abbrev further : List ℕ → List X
+  further text = map item (further_pieces test text)
+
+  pub compared : (a b rest other : List ℕ) (o : Ordering)
+      → o ≡ first_cmp (item (before_first test a)) (item (before_first test b))
+      → rest ≡ from_first test a → other ≡ from_first test b
+      → cmp (map item (slice_split test a)) (map item (slice_split test b))
+      ≡ ordering_then o (cmp (further rest) (further other))
+  compared a b rest other o e left left_too = grind (arith, pieces_are)
+
+  -- two lists that begin alike compare as what follows
+  pub left : (a b rest other : List ℕ) (o : Ordering)
+      → o ≡ first_cmp (item (before_first test a)) (item (before_first test b)) → o ≡ Equal
+      → rest ≡ from_first test a → other ≡ from_first test b
+      → cmp (map item (slice_split test a)) (map item (slice_split test b))
+      ≡ cmp (further rest) (further other)
+  left a b rest other o e same = compared a b rest other Equal (sym same ∙ e)
+
+-- a list that goes on comes after one that has ended
+module _ {X : Type 0} (test : ℕ → Bool) (item : List ℕ → X) (cmp : X → X → Ordering)
+    (rest other more : List ℕ) where
+  abbrev of_rest : Ordering
+  of_rest =
+      slice_cmp cmp (map item (further_pieces test rest)) (map item (further_pieces test other))
+
+  pub above : (b : ℕ) × (rest ≡ b ∷ more) → other ≡ [] → of_rest ≡ Greater
+  above p none = grind (arith, further_of_more, further_of_none, pieces_are)
+
+  pub below : rest ≡ [] → (b : ℕ) × (other ≡ b ∷ more) → of_rest ≡ Less
+  below none p = grind (arith, further_of_none, further_of_more, pieces_are)
+
+-- the rank of a tail that has sections
+pub rank_of_sections : (text : List ℕ) → 4 ≡ tail_rank (tail_of_sections (sections_of text))
+rank_of_sections text = grind (arith, pieces_are)

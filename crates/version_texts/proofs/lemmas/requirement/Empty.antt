@@ -15,14 +15,12 @@ use Rattle.version_rules.specs.requirement.Matching.{Matches, MatchesAll}
 use Rattle.version_rules.specs.requirement.Range.{IsIn, PlainRange, bytes_of, common, earlier, earlier_high, everything, has_kind, later, no_kinds, range_of, requirement_range}
 use Rattle.version_rules.specs.requirement.Requirement.{PlainRequirement, requirement_of}
 use Rattle.version_rules.specs.requirement.Requirements.{requirements_of, before_others}
-use Rattle.version_texts.proofs.lemmas.requirement.FirstFailing.{first_and_others, some_pieces}
-use Rattle.version_texts.proofs.lemmas.requirement.RangeRef.{narrowed}
-use Rattle.version_texts.specs.requirement.Conflict.{ExcludeEachOther, IsAt, IsByEnds}
+use Rattle.version_texts.proofs.lemmas.requirement.Members.{first_and_others, some_pieces}
+use Rattle.version_texts.proofs.lemmas.requirement.RangeRef.{ReadList, read_list, narrowed}
+use Rattle.version_texts.specs.Requirement.{ExcludeEachOther, IsAt, IsByEnds, NotEach, cut_at_commas, list_of}
 use Rattle.version_texts.specs.declared.requirement.conflict.Conflict.{Conflict}
 use Rattle.version_texts.specs.declared.requirement.conflict.Span.{Span}
-use Rattle.version_texts.specs.requirement.Empty.{IsCrossed, IsEmpty}
-use Rattle.version_texts.specs.requirement.MemberPlace.{NotEach}
-use Rattle.version_texts.specs.requirement.Members.{cut_at_commas, list_of}
+use Rattle.version_texts.specs.Range.{IsCrossed, IsEmpty}
 use Rattle.version_rules.specs.declared.kind.Kind.TheVariants as kind
 
 -- ---- comparisons of bytes
@@ -46,6 +44,12 @@ not_below_itself bytes less =
     cc (sym less ∙ nat_list_cmp_total.antisymm bytes bytes ∙ ap ordering_reverse less)
 
 -- ---- what is so of a common range exactly if it is so of both
+
+-- it is so of a range exactly if it is so of each member of its list
+pub record IsOfEach (Is : PlainRange → Type 0) (spelled : Option (List PlainRequirement))
+    (range : PlainRange) : Type 0 where
+  pub told : Is range ↔ IsSomeAnd spelled (All (λ r. Is (requirement_range r)))
+  pub fails : ¬ (Is range) → NotEach (λ r. Is (requirement_range r)) spelled
 
 module _ (Is : PlainRange → Type 0)
     (is_both : (a b : PlainRange) → Is (common a b) ↔ (Is a × Is b)) where
@@ -72,97 +76,63 @@ module _ (Is : PlainRange → Type 0)
   of_each : Is everything → (list : List PlainRequirement) → Is (range_of list) ↔ All OfMember list
   of_each all list = grind (arith, narrowed_each)
 
-  module _ (spelled : Option (List PlainRequirement)) (range : PlainRange)
-      (read : option_map range_of spelled ≡ Some range)
-      (each : (list : List PlainRequirement) → spelled ≡ Some list
-      → Is (range_of list) ↔ All OfMember list) where
-    told : Is range ↔ IsSomeAnd spelled (All OfMember)
-    told = by spelled read each
-      where
-        by : (o : Option (List PlainRequirement)) → option_map range_of o ≡ Some range
-            → ((list : List PlainRequirement) → o ≡ Some list
-            → Is (range_of list) ↔ All OfMember list)
-            → Is range ↔ IsSomeAnd o (All OfMember)
-        by None e each = cc e
-        by (Some list) e each =
-            let same : range_of list ≡ range = cc e in (
-              λ is. (each list refl).0 (subst Is (sym same) is),
-              λ all. subst Is same ((each list refl).1 all),
-            )
-
-    not_each : ¬ (Is range) → NotEach OfMember spelled
-    not_each is_not = by spelled read each
-      where
-        by : (o : Option (List PlainRequirement)) → option_map range_of o ≡ Some range
-            → ((list : List PlainRequirement) → o ≡ Some list
-            → Is (range_of list) ↔ All OfMember list)
-            → NotEach OfMember o
-        by None e each = cc e
-        by (Some list) e each =
-            let same : range_of list ≡ range = cc e in
-            λ all. is_not (subst Is same ((each list refl).1 all))
+  is_of_each : (spelled : Option (List PlainRequirement)) (range : PlainRange)
+      → option_map range_of spelled ≡ Some range
+      → ((list : List PlainRequirement) → spelled ≡ Some list
+      → Is (range_of list) ↔ All OfMember list) → IsOfEach Is spelled range
+  is_of_each spelled range read each =
+      let held = read_list spelled range read in
+      let of_held : Is range ↔ All OfMember held.list =
+      subst (λ q. Is q ↔ All OfMember held.list) held.range_is (each held.list held.spelled_is) in
+      record {
+        told = rw held.spelled_is of_held;
+        fails = λ other. rw held.spelled_is (λ all. other (of_held.1 all));
+      }
 
 -- ---- high ends above some bytes
 
-abbrev EndsAfter : List ℕ → PlainRange → Type 0
+abbrev pub EndsAfter : List ℕ → PlainRange → Type 0
 EndsAfter bytes range = IsBelowHigh range.high bytes
 
 module _ (bytes : List ℕ) (spelled : Option (List PlainRequirement)) (range : PlainRange)
     (read : option_map range_of spelled ≡ Some range) where
-  both_end : (a b : PlainRange)
-      → EndsAfter bytes (common a b) ↔ (EndsAfter bytes a × EndsAfter bytes b)
-  both_end a b = below_earlier_high a.high b.high bytes
-
-  each_ends : (list : List PlainRequirement) → spelled ≡ Some list
-      → EndsAfter bytes (range_of list) ↔ All (λ r. EndsAfter bytes (requirement_range r)) list
-  each_ends list e = of_each (EndsAfter bytes) both_end tt list
-
-  pub ends_told : EndsAfter bytes range
-      ↔ IsSomeAnd spelled (All (λ r. EndsAfter bytes (requirement_range r)))
-  ends_told = told (EndsAfter bytes) both_end spelled range read each_ends
+  pub each_ends : IsOfEach (EndsAfter bytes) spelled range
+  each_ends =
+      let both = λ (a b : PlainRange). below_earlier_high a.high b.high bytes in
+      is_of_each (EndsAfter bytes) both spelled range read
+      (λ list e. of_each (EndsAfter bytes) both tt list)
 
   pub not_each_ends : range.high ≡ Some bytes
       → NotEach (λ r. EndsAfter bytes (requirement_range r)) spelled
-  not_each_ends high = not_each (EndsAfter bytes) both_end spelled range read each_ends
-      (λ is. not_below_itself bytes (subst (λ h. IsBelowHigh h bytes) high is))
+  not_each_ends high =
+      each_ends.fails (λ is. not_below_itself bytes (subst (λ h. IsBelowHigh h bytes) high is))
 
 -- ---- kinds
 
-abbrev HasKind : Kind → PlainRange → Type 0
+abbrev pub HasKind : Kind → PlainRange → Type 0
 HasKind k range = IsTrue (has_kind range.kinds k)
 
 none_of : (k : Kind) → ¬ (IsTrue (has_kind no_kinds k))
 none_of kind.Ideal has = cc has
-none_of kind.General has = cc has
-none_of kind.Complex has = cc has
+none_of k has = cc has
 
-module _ (k : Kind) (spelled : Option (List PlainRequirement)) (range : PlainRange)
-    (read : option_map range_of spelled ≡ Some range) where
-  both_have : (a b : PlainRange) → HasKind k (common a b) ↔ (HasKind k a × HasKind k b)
-  both_have a b = of_common_kinds a.kinds b.kinds k
-
-  each_has : (list : List PlainRequirement) → spelled ≡ Some list
-      → HasKind k (range_of list) ↔ All (λ r. HasKind k (requirement_range r)) list
-  each_has list e = of_each (HasKind k) both_have (of_all_kinds k) list
-
-  pub kinds_told : HasKind k range
-      ↔ IsSomeAnd spelled (All (λ r. HasKind k (requirement_range r)))
-  kinds_told = told (HasKind k) both_have spelled range read each_has
-
-  pub not_each_has : range.kinds ≡ no_kinds
-      → NotEach (λ r. HasKind k (requirement_range r)) spelled
-  not_each_has none = not_each (HasKind k) both_have spelled range read each_has
-      (λ has. none_of k (subst (λ kinds. IsTrue (has_kind kinds k)) none has))
+pub each_has : (k : Kind) (spelled : Option (List PlainRequirement)) (range : PlainRange)
+    → option_map range_of spelled ≡ Some range → IsOfEach (HasKind k) spelled range
+each_has k spelled range read =
+    let both = λ (a b : PlainRange). of_common_kinds a.kinds b.kinds k in
+    is_of_each (HasKind k) both spelled range read
+    (λ list e. of_each (HasKind k) both (of_all_kinds k) list)
 
 pub no_kind_left : (k : Kind) (spelled : Option (List PlainRequirement))
     → IsSomeAnd spelled (λ wanted. (range_of wanted).kinds ≡ no_kinds)
     → NotEach (λ r. HasKind k (requirement_range r)) spelled
 no_kind_left k None none = absurd none
-no_kind_left k (Some list) none = not_each_has k (Some list) (range_of list) refl none
+no_kind_left k (Some list) none = (each_has k (Some list) (range_of list) refl).fails
+    (λ has. none_of k (subst (λ kinds. IsTrue (has_kind kinds k)) none has))
 
 -- ---- low ends below some bytes
 
-abbrev BeginsBefore : List ℕ → PlainRange → Type 0
+abbrev pub BeginsBefore : List ℕ → PlainRange → Type 0
 BeginsBefore bytes range = IsBelow bytes range.low
 
 both_begin : (bytes : List ℕ) (a b : PlainRange)
@@ -201,21 +171,16 @@ each_begins (b ∷ bytes) (r ∷ list) some =
 
 module _ (bytes text : List ℕ) (range : PlainRange)
     (read : option_map range_of (requirements_of text) ≡ Some range) where
-  each_begins_of : (list : List PlainRequirement) → requirements_of text ≡ Some list
-      → BeginsBefore bytes (range_of list)
-      ↔ All (λ r. BeginsBefore bytes (requirement_range r)) list
-  each_begins_of list e = each_begins bytes list (some_members text list e)
-
-  pub begins_told : BeginsBefore bytes range
-      ↔ IsSomeAnd (requirements_of text) (All (λ r. BeginsBefore bytes (requirement_range r)))
-  begins_told =
-      told (BeginsBefore bytes) (both_begin bytes) (requirements_of text) range read each_begins_of
+  pub each_begins_before : IsOfEach (BeginsBefore bytes) (requirements_of text) range
+  each_begins_before =
+      is_of_each (BeginsBefore bytes) (both_begin bytes) (requirements_of text) range read
+      (λ list e. each_begins bytes list (some_members text list e))
 
   pub not_each_begins : range.low ≡ bytes
       → NotEach (λ r. BeginsBefore bytes (requirement_range r)) (requirements_of text)
   not_each_begins low =
-      not_each (BeginsBefore bytes) (both_begin bytes) (requirements_of text) range read
-      each_begins_of (λ is. not_below_itself bytes (subst (λ l. IsBelow bytes l) low is))
+      each_begins_before.fails
+      (λ is. not_below_itself bytes (subst (λ l. IsBelow bytes l) low is))
 
 -- ---- two ranges that have nothing in common
 
@@ -270,49 +235,27 @@ ends_no_later (Some h) (Some least) high e ends =
 
 module _ (spelled : Option (List PlainRequirement)) (range : PlainRange)
     (read : Some range ≡ option_map range_of spelled) where
+  abbrev parsed : ReadList spelled range
+  parsed = read_list spelled range (sym read)
+
   pub is_parsed : true ≡ is_some spelled
-  is_parsed = by spelled read
-    where
-      by : (o : Option (List PlainRequirement)) → Some range ≡ option_map range_of o
-          → true ≡ is_some o
-      by None e = cc e
-      by (Some list) e = refl
+  is_parsed = rw parsed.spelled_is refl
 
   pub is_empty : IsEmpty range → IsSomeAnd spelled (λ wanted. IsEmpty (range_of wanted))
-  is_empty empty = by spelled read
-    where
-      by : (o : Option (List PlainRequirement)) → Some range ≡ option_map range_of o
-          → IsSomeAnd o (λ wanted. IsEmpty (range_of wanted))
-      by None e = cc e
-      by (Some list) e =
-          let same : range ≡ range_of list = cc e in
-          subst IsEmpty same empty
+  is_empty empty = rw parsed.spelled_is (subst IsEmpty (sym parsed.range_is) empty)
 
   pub is_by_ends : (text : List ℕ) (conflict : Conflict) → IsByEnds text range conflict
       → IfSome spelled (λ wanted. IsCrossed (range_of wanted)
       → IsByEnds text (range_of wanted) conflict)
-  is_by_ends text conflict ends = by spelled read
-    where
-      by : (o : Option (List PlainRequirement)) → Some range ≡ option_map range_of o
-          → IfSome o (λ wanted. IsCrossed (range_of wanted)
-          → IsByEnds text (range_of wanted) conflict)
-      by None e = tt
-      by (Some list) e =
-          let same : range ≡ range_of list = cc e in
-          λ crossed. subst (λ q. IsByEnds text q conflict) same ends
+  is_by_ends text conflict ends =
+      rw parsed.spelled_is
+      (λ crossed. subst (λ q. IsByEnds text q conflict) (sym parsed.range_is) ends)
 
   pub is_not_by_ends : (text : List ℕ) (conflict : Conflict) → ¬ (IsCrossed range)
       → IfSome spelled (λ wanted. IsCrossed (range_of wanted)
       → IsByEnds text (range_of wanted) conflict)
-  is_not_by_ends text conflict whole = by spelled read
-    where
-      by : (o : Option (List PlainRequirement)) → Some range ≡ option_map range_of o
-          → IfSome o (λ wanted. IsCrossed (range_of wanted)
-          → IsByEnds text (range_of wanted) conflict)
-      by None e = tt
-      by (Some list) e =
-          let same : range ≡ range_of list = cc e in
-          λ crossed. absurd (whole (subst IsCrossed (sym same) crossed))
+  is_not_by_ends text conflict whole =
+      rw parsed.spelled_is (λ crossed. absurd (whole (subst IsCrossed parsed.range_is crossed)))
 
 -- ---- laws
 

@@ -1,10 +1,10 @@
 -- The ends of ranges, compared by their epochs, their parts and what follows these.
-use Rattle.std.proofs.Common.{◌≡◌, ◌∙◌, ◌<◌, ℕ, true, List, [], ◌∷◌, ◌++◌, Option, Some, None, IsTrue, IfNone, IfSome, IsSome, suc, length, length-drop, ap, append_assoc, append-nil, arith, map, nat_cmp, refl, subst, sym, not, ◌==◌}
+use Rattle.std.proofs.Common.{◌≡◌, ◌∙◌, ◌<◌, ℕ, true, List, [], ◌∷◌, ◌++◌, Option, Some, None, IsTrue, IfNone, IfSome, IsSome, suc, length, length-drop, ap, append_assoc, append-nil, arith, map, nat_cmp, refl, subst, sym, not, ◌==◌, inl, inr}
 use Rattle.std.specs.Borrow.{Bor}
 use Rattle.std.proofs.lemmas.Cmp.{nat_list_cmp_total, tied_itself}
 use Rattle.std.specs.Cmp.{ranks}
 use Rattle.std.specs.List.{position_or_len}
-use Rattle.std.specs.Option.{option_map_or}
+use Rattle.std.specs.Option.{option_map_or, option_map}
 use Rattle.std.specs.Ordering.{MatchOrdering, ordering_index, ordering_then}
 use Rattle.std.specs.declared.cmp.Ordering.{Ordering}
 use Rattle.std.specs.declared.cmp.Ordering.TheVariants.{Less, Equal, Greater}
@@ -14,20 +14,22 @@ use Rattle.version_order.proofs.lemmas.NumberBytes.{above, below, number_writes}
 use Rattle.version_rules.proofs.lemmas.Key.{part_writes}
 use Rattle.version_order.specs.keys.Codes.{items_bytes}
 use Rattle.version_rules.specs.requirement.Range.{end_bytes, kept_parts}
-use Rattle.version_rules.specs.key.Key.{Key, precedence, key_bytes}
+use Rattle.version_rules.specs.key.Key.{Key, precedence, key_of, key_bytes}
 use Rattle.version_order.specs.keys.Lists.{bytes_cmp}
 use Rattle.version_order.specs.keys.NumberBytes.{number_bytes}
 use Rattle.version_rules.specs.key.PartKey.{PartKey, part_bytes, part_cmp, part_key, parts_bytes}
 use Rattle.version_rules.specs.key.Tail.{tail_bytes}
 use Rattle.version_order.specs.declared.ends.End.{End}
-use Rattle.version_texts.proofs.lemmas.order.Piece.{pieces_are}
-use Rattle.version_texts.proofs.lemmas.order.Piece.Order.{decided}
-use Rattle.version_texts.proofs.lemmas.key.TextKey.Lists.{further_of_more, further_of_none}
-use Rattle.version_texts.specs.requirement.EndOrder.{Begins, IsOfPart, after_key, behind_parts, fixed_bytes, is_key, kept_of, mark_of}
-use Rattle.version_texts.specs.order.Parts.{parts_behind}
+use Rattle.version_texts.proofs.lemmas.order.Piece.{pieces_are, decided, further_of_more, further_of_none}
+use Rattle.version_texts.specs.Range.{Begins, IsOfPart, after_key, behind_parts, fixed_bytes, is_key, kept_of, mark_of}
+use Rattle.version_texts.specs.Key.{parts_behind, parts_of, room_for}
 use Rattle.version_order.specs.texts.Pieces.{first_piece, behind_piece, further_pieces, is_dot}
-use Rattle.version_texts.specs.key.TextKey.{parts_of}
 use Rattle.version_order.specs.declared.ends.End.TheVariants as end
+use Rattle.version_order.proofs.lemmas.Front.Repeated.{cases_Option}
+use Rattle.version_rules.specs.grammar.Versioning.{PlainVersioning, versioning_of}
+use Rattle.version_order.specs.Keyed.{AreWithin, end_of}
+use Rattle.version_texts.specs.Mixed.{mixed}
+use Rattle.version_texts.proofs.lemmas.key.KeyRoom.{enough_room, end_length}
 
 -- the bytes of some parts, and those after them
 abbrev pub front : List PartKey → List ℕ → List ℕ
@@ -113,8 +115,6 @@ key_front k x =
 pub end_parts : (end : End) (k : Key) → fixed_bytes end ≡ None
     → end_bytes end k
     ≡ number_bytes k.epoch ++ front (kept_parts (kept_of end) k.body) (behind_parts end k)
-end_parts end.Lowest k e = cc e
-end_parts end.Zero k e = cc e
 end_parts end.Key k e =
     ap (λ (l : List ℕ). number_bytes k.epoch ++ l) (key_front k (tail_bytes k.tail))
 end_parts end.AfterKey k e =
@@ -127,6 +127,7 @@ end_parts (end.Begun kept) k e =
     (sym (append-nil (items_bytes part_bytes (kept_parts kept k.body))))
 end_parts (end.AboveBegun kept) k e =
     append_assoc (number_bytes k.epoch) (items_bytes part_bytes (kept_parts kept k.body)) (4 ∷ [])
+end_parts end k e = cc e
 
 -- two such ends compare by their epochs, then by what follows these
 by_epochs : (a b : End) (k l : Key) → fixed_bytes a ≡ None → fixed_bytes b ≡ None
@@ -164,12 +165,8 @@ by_keys a b k l whole whole_too = grind (arith, key_end, key_writes)
 
 -- what follows the parts of an end begins with its mark, which no part begins with
 pub begins_with_mark : (end : End) (k : Key) → Begins (mark_of end) (behind_parts end k)
-begins_with_mark end.Lowest k = (refl, λ e. cc e)
-begins_with_mark end.Zero k = (refl, λ e. cc e)
-begins_with_mark end.Key k = (refl, λ e. cc e)
-begins_with_mark end.AfterKey k = (refl, λ e. cc e)
 begins_with_mark (end.Begun kept) k = refl
-begins_with_mark (end.AboveBegun kept) k = (refl, λ e. cc e)
+begins_with_mark end k = (refl, λ e. cc e)
 
 -- the marks of two ends are the same only if the same bytes follow, unless both are whole keys
 pub same_marks : (a b : End) (k l : Key) → fixed_bytes a ≡ None → fixed_bytes b ≡ None
@@ -177,15 +174,31 @@ pub same_marks : (a b : End) (k l : Key) → fixed_bytes a ≡ None → fixed_by
     → behind_parts a k ≡ behind_parts b l
 same_marks end.Lowest b k l e f keys same = cc e
 same_marks end.Zero b k l e f keys same = cc e
-same_marks a end.Lowest k l e f keys same = cc f
-same_marks a end.Zero k l e f keys same = cc f
 same_marks (end.Begun kept) (end.Begun other) k l e f keys same = refl
 same_marks (end.AboveBegun kept) (end.AboveBegun other) k l e f keys same = refl
-same_marks (end.Begun kept) _ k l e f keys same = cc same
-same_marks (end.AboveBegun kept) _ k l e f keys same = cc same
-same_marks _ (end.Begun kept) k l e f keys same = cc same
-same_marks _ (end.AboveBegun kept) k l e f keys same = cc same
 same_marks end.Key end.Key k l e f keys same = absurd (keys (refl, refl))
 same_marks end.Key end.AfterKey k l e f keys same = absurd (keys (refl, refl))
 same_marks end.AfterKey end.Key k l e f keys same = absurd (keys (refl, refl))
 same_marks end.AfterKey end.AfterKey k l e f keys same = absurd (keys (refl, refl))
+same_marks a b k l e f keys same = cc (e, f, same)
+
+-- ---- how long the ends of ranges may be
+
+end-is : (end : End) (v : PlainVersioning) → end_of end (mixed v) ≡ end_bytes end (key_of v)
+end-is end.Lowest v = refl
+end-is end v = refl
+
+pub mixed_within : AreWithin (λ text. option_map mixed (versioning_of text)) room_for
+mixed_within text version end n read short = elim (cases_Option (versioning_of text)) [
+  | inl none ↦ cc (ap (option_map mixed) none, read)
+  | inr some ↦
+      let is : mixed some.0 ≡ version = cc (ap (option_map mixed) some.1, read) in
+      omega (
+        arith,
+        short,
+        ap (λ v. length (end_of end v)) is,
+        ap (λ (l : List ℕ). length l) (end-is end some.0),
+        end_length end (key_of some.0),
+        enough_room text some.0 some.1,
+      )
+]

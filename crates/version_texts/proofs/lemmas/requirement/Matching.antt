@@ -1,21 +1,157 @@
 -- What `~` and `^` ask of two versions, by their texts and shapes.
-use Rattle.std.proofs.Common.{◌≡◌, ◌↔◌, ◌∙◌, ℕ, Bool, List, Some, IsTrue, ap, refl, subst, sym, arith}
-use Rattle.version_rules.specs.key.PartKey.{PartKey}
+use Rattle.std.proofs.Common.{◌≡◌, ◌↔◌, ◌⊎◌, ◌∙◌, ◌<◌, ◌≤◌, ◌==◌, ℕ, suc, zero, true, false, List, [], ◌∷◌, Some, IsTrue, ap, arith, inl, inr, refl, sym, Bool, subst}
+use Rattle.std.proofs.Math.Dec.{eqb-suc-zero}
+use Rattle.std.proofs.lemmas.Bool.Decides.{Decides-and, Decides-like}
+use Rattle.std.specs.Bool.{Decides, MatchBool, ⊤}
+use Rattle.std.specs.Cmp.{Equal-is}
+use Rattle.std.specs.Ordering.{is_eq, is_ge, nat_cmp, ordering_then}
+use Rattle.std.specs.declared.cmp.Ordering.TheVariants.{Equal}
+use Rattle.version_order.proofs.lemmas.NumberBytes.{above, below}
+use Rattle.version_order.specs.keys.OrderLaws.{then_equal}
+use Rattle.version_rules.specs.key.PartKey.{PartKey, list_cmp, part_cmp}
+use Rattle.version_rules.proofs.lemmas.Matching.{not_less, same_decides, tilde_decides}
+use Rattle.version_rules.specs.key.Key.{plain, strict_body, Key, key_of}
+use Rattle.version_rules.specs.requirement.SemVerMatch.{MatchesMinor, Numbers, numbers}
+use Rattle.version_rules.specs.requirement.SemVerMatch as strict
+use Rattle.version_rules.specs.requirement.VersionMatch.{IsNotBelow, PartsMatchCaret, PartsMatchTilde, is_plain_zero}
 use Rattle.version_rules.specs.declared.kind.Kind.{Kind}
-use Rattle.version_rules.specs.key.Key.{Key, key_of, strict_body}
 use Rattle.version_rules.specs.grammar.Versioning.{versioning_kind, PlainVersioning, Ideal, General, Complex, versioning_of}
 use Rattle.version_rules.specs.requirement.Matching.{MatchesCaret, MatchesTilde}
-use Rattle.version_rules.specs.requirement.SemVerMatch.{Numbers, numbers}
-use Rattle.version_rules.specs.requirement.VersionMatch.{PartsMatchTilde}
-use Rattle.version_texts.proofs.lemmas.order.Parts.Strict.{tilde_of_numbers}
-use Rattle.version_texts.proofs.lemmas.key.TextKey.{versioning_key}
+use Rattle.version_texts.proofs.lemmas.versioning_ref.VersioningRef.{versioning_key}
 use Rattle.version_texts.specs.declared.scan.shape.Shape.{Shape}
-use Rattle.version_texts.specs.requirement.Matching.{epoch_and_parts_of}
-use Rattle.version_texts.specs.scan.Shape.{body_in, shape_at, shape_of}
-use Rattle.version_texts.specs.key.TextKey.{parts_of, text_key}
+use Rattle.version_texts.specs.Range.{epoch_and_parts_of}
+use Rattle.version_texts.specs.Scan.{body_in, shape_at, shape_of}
+use Rattle.version_texts.specs.Key.{parts_of, text_key}
 use Rattle.version_rules.specs.declared.kind.Kind.TheVariants as kind
-use Rattle.version_rules.specs.requirement.SemVerMatch as strict
 use Rattle.version_rules.specs.requirement.VersionMatch as general
+
+-- ---- whether three plain numbers match, as numbers and as lists of parts
+
+-- plain numbers compare by value
+plain_cmp : (m n : ℕ) → part_cmp (Some (plain m)) (Some (plain n)) ≡ nat_cmp m n
+plain_cmp m n = then_equal (nat_cmp m n)
+
+plain_same : (m n : ℕ) → plain m ≡ plain n → m ≡ n
+plain_same m n e = cc e
+
+-- how two numbers lie
+three_ways : (m n : ℕ) → (m < n) ⊎ ((m ≡ n) ⊎ (n < m))
+three_ways m n = grind arith
+
+-- a number is not before another exactly if it is not less
+not_below : (m n : ℕ) → IsNotBelow (plain m) (plain n) ↔ (m ≤ n)
+not_below m n = grind (arith, three_ways, plain_cmp, below)
+
+-- ---- a tilde
+
+pub tilde_of_numbers : (a b c x y z : ℕ)
+    → PartsMatchTilde (strict_body a b c) (strict_body x y z) ↔ strict.MatchesTilde (a, b, c) (x, y, z)
+tilde_of_numbers a b c x y z =
+    let tested = tilde_decides (strict_body a b c) (strict_body x y z) in
+    let numbers = Decides-and _ _ (same a x) (Decides-and _ _ (same b y) (at_least c z)) in (
+      λ match. let known = numbers.0 (tested.1 match) in (known.0, known.1.0, known.1.1),
+      λ match. tested.0 (numbers.1 (match.0, (match.1, match.2))),
+    )
+  where
+    same : (m n : ℕ) → Decides (is_eq (part_cmp (Some (plain n)) (Some (plain m)))) (m ≡ n)
+    same m n = Decides-like _ (plain_same m n) (ap plain) (same_decides (plain m) (plain n))
+
+    at_least : (m n : ℕ) → Decides (is_ge (part_cmp (Some (plain n)) (Some (plain m)))) (m ≤ n)
+    at_least m n = Decides-like _ (not_below m n).0 (not_below m n).1 (not_less _)
+
+-- ---- a caret
+
+no_zero : (n : ℕ) → ¬ (plain 0 ≡ plain (suc n))
+no_zero n e = absurd (omega (arith, plain_same 0 (suc n) e))
+
+last_free : (n : ℕ) → MatchBool (is_plain_zero (plain n)) ⊤ ⊤
+last_free zero = tt
+last_free (suc n) = tt
+
+-- behind a major of 0: equal patches if both minors are 0, else equal minors and a patch that is
+-- not less
+minors_caret : (b c y z : ℕ) → PartsMatchCaret (plain b ∷ plain c ∷ []) (plain y ∷ plain z ∷ [])
+    ↔ strict.MatchesCaret (0, b, c) (0, y, z)
+minors_caret zero c zero z =
+    (λ match. plain_same c z match.1.0, λ e. (refl, (ap plain e, last_free c)))
+minors_caret zero c (suc y) z =
+    rw (eqb-suc-zero y)
+    (λ match. absurd (no_zero y match.0), λ match. absurd (omega (arith, match.0)))
+minors_caret (suc b) c y z = rw (eqb-suc-zero b) (
+  λ match. (plain_same (suc b) y match.0, (not_below c z).0 match.1.0),
+  λ match. (ap plain match.0, ((not_below c z).1 match.1, tt)),
+)
+
+majors_caret : (b c x y z : ℕ)
+    → PartsMatchCaret (strict_body 0 b c) (strict_body x y z) ↔ strict.MatchesCaret (0, b, c) (x, y, z)
+majors_caret b c zero y z =
+    let minors = minors_caret b c y z in
+    (λ match. minors.0 match.1, λ match. (refl, minors.1 match))
+majors_caret b c (suc x) y z =
+    rw (eqb-suc-zero x)
+    (λ match. absurd (no_zero x match.0), λ match. absurd (omega (arith, match.0)))
+
+-- a minor and patch are not less
+pairs_not_less : (b c y z : ℕ)
+    → IsTrue (is_ge (ordering_then (nat_cmp y b) (nat_cmp z c)))
+    ↔ ((b < y) ⊎ MatchesMinor (0, b, c) (0, y, z))
+pairs_not_less b c y z = grind (arith, three_ways, below, above)
+
+bodies_cmp : (a b c x y z : ℕ) → list_cmp (strict_body x y z) (strict_body a b c)
+    ≡ ordering_then (nat_cmp x a) (ordering_then (nat_cmp y b) (nat_cmp z c))
+bodies_cmp a b c x y z = simp then_equal
+
+is_zero : (n : ℕ) → is_plain_zero (plain n) ≡ true → n ≡ 0
+is_zero zero e = refl
+is_zero (suc n) e = cc e
+
+no_plain_zero : (n : ℕ) → is_plain_zero (plain n) ≡ false → (n == 0) ≡ false
+no_plain_zero zero e = cc e
+no_plain_zero (suc n) e = eqb-suc-zero n
+
+-- two bodies of three plain numbers, by their first parts
+module _ (w p : PartKey) (wanted_more more : List PartKey) (wanted v : Numbers)
+    (wanted_numbers : w ∷ wanted_more ≡ strict_body wanted.0 wanted.1 wanted.2)
+    (numbers : p ∷ more ≡ strict_body v.0 v.1 v.2) where
+  first_wanted : w ≡ plain wanted.0
+  first_wanted = cc wanted_numbers
+
+  first : p ≡ plain v.0
+  first = cc numbers
+
+  -- the wanted major is 0
+  pub caret_of_zero : is_plain_zero w ≡ true
+      → PartsMatchCaret (w ∷ wanted_more) (p ∷ more) ↔ strict.MatchesCaret wanted v
+  caret_of_zero is_none = grind (arith, is_zero, first_wanted, majors_caret)
+
+  -- the majors differ
+  pub caret_differs : is_plain_zero w ≡ false → is_eq (part_cmp (Some p) (Some w)) ≡ false
+      → ¬ strict.MatchesCaret wanted v
+  caret_differs other differ = grind (arith, no_plain_zero, first_wanted, first, plain_cmp)
+
+  -- they are equal
+  pub caret_of_major : is_plain_zero w ≡ false → is_eq (part_cmp (Some p) (Some w)) ≡ true
+      → IsTrue (is_ge (list_cmp (p ∷ more) (w ∷ wanted_more))) ↔ strict.MatchesCaret wanted v
+  caret_of_major other same =
+      let tied : nat_cmp v.0 wanted.0 ≡ Equal =
+      sym (plain_cmp v.0 wanted.0)
+      ∙ (λ i. part_cmp (Some (sym first i)) (Some (sym first_wanted i))) ∙ (Equal-is _).0 same in
+      let order : list_cmp (p ∷ more) (w ∷ wanted_more)
+      ≡ ordering_then (nat_cmp v.1 wanted.1) (nat_cmp v.2 wanted.2) =
+      (λ i. list_cmp (numbers i) (wanted_numbers i))
+      ∙ bodies_cmp wanted.0 wanted.1 wanted.2 v.0 v.1 v.2
+      ∙ ap (λ o. ordering_then o (ordering_then (nat_cmp v.1 wanted.1) (nat_cmp v.2 wanted.2)))
+      tied in
+      let both = pairs_not_less wanted.1 wanted.2 v.1 v.2 in
+      rw (order, no_plain_zero wanted.0 (rw first_wanted at other))
+      (λ e. (sym (cmp_same v.0 wanted.0 tied), both.0 e), λ match. both.1 match.1)
+    where
+      cmp_same : (m n : ℕ) → nat_cmp m n ≡ Equal → m ≡ n
+      cmp_same m n e = elim (three_ways m n) [
+        | inl less ↦ cc (below m n less, e)
+        | inr (inl same) ↦ same
+        | inr (inr more) ↦ cc (above m n more, e)
+      ]
 
 -- ---- the shape of a version
 
@@ -42,20 +178,18 @@ GeneralMatch k l w v =
 general_match : (w v : PlainVersioning) → kind.General ≡ versioning_kind w
     → kind.General ≡ versioning_kind v → GeneralMatch (key_of w) (key_of v) w v
 general_match (General w) (General v) e f = ((λ m. m, λ m. m), (λ m. m, λ m. m))
-general_match (General w) (Ideal v) e f = cc f
-general_match (General w) (Complex v) e f = cc f
 general_match (Ideal w) v e f = cc e
 general_match (Complex w) v e f = cc e
+general_match w v e f = cc (f, e)
 
 strict_tilde : (w v : PlainVersioning) → kind.Ideal ≡ versioning_kind w
     → kind.Ideal ≡ versioning_kind v
     → PartsMatchTilde (key_of w).body (key_of v).body ↔ MatchesTilde w v
 strict_tilde (Ideal w) (Ideal v) e f =
     tilde_of_numbers w.major w.minor w.patch v.major v.minor v.patch
-strict_tilde (Ideal w) (General v) e f = cc f
-strict_tilde (Ideal w) (Complex v) e f = cc f
 strict_tilde (General w) v e f = cc e
 strict_tilde (Complex w) v e f = cc e
+strict_tilde w v e f = cc (f, e)
 
 strict_caret : (answer : Bool) (w v : PlainVersioning) → kind.Ideal ≡ versioning_kind w
     → kind.Ideal ≡ versioning_kind v
@@ -63,10 +197,9 @@ strict_caret : (answer : Bool) (w v : PlainVersioning) → kind.Ideal ≡ versio
     → (key_of v).body ≡ strict_body n.0 n.1 n.2 → (IsTrue answer ↔ strict.MatchesCaret m n))
     → IsTrue answer ↔ MatchesCaret w v
 strict_caret answer (Ideal w) (Ideal v) e f known = known (numbers w) (numbers v) refl refl
-strict_caret answer (Ideal w) (General v) e f known = cc f
-strict_caret answer (Ideal w) (Complex v) e f known = cc f
 strict_caret answer (General w) v e f known = cc e
 strict_caret answer (Complex w) v e f known = cc e
+strict_caret answer w v e f known = cc (f, e)
 
 -- ---- the same by texts
 

@@ -1,5 +1,6 @@
 -- The bounds of a range, as it is narrowed member by member.
-use Rattle.std.proofs.Common.{◌≡◌, ◌↔◌, ◌∙◌, ◌++◌, ◌≤◌, ◌&&◌, Bool, true, false, if◌then◌else◌, ℕ, List, [], ◌∷◌, Option, Some, None, IfSome, IsTrue, length, take, drop, fold, refl, subst, sym, ap, arith}
+use Rattle.std.proofs.Math.Bool.{and_assoc, and-true}
+use Rattle.std.proofs.Common.{◌≡◌, ◌↔◌, ◌∙◌, ◌++◌, ◌≤◌, Bool, true, false, if◌then◌else◌, ℕ, List, [], ◌∷◌, Option, Some, None, IfSome, IsTrue, length, take, drop, fold, refl, subst, sym, ap, arith}
 use Rattle.std.proofs.Math.Seq.{take-append_seam}
 use Rattle.std.proofs.lemmas.List.Elements.{All-cons, All-head, All-nil, All-tail}
 use Rattle.std.specs.List.{All}
@@ -18,8 +19,8 @@ use Rattle.version_rules.specs.requirement.Range.{IsIn, PlainRange, common, earl
 use Rattle.version_rules.specs.requirement.Requirement.{PlainRequirement, requirement_of}
 use Rattle.version_rules.specs.grammar.Versioning.{PlainVersioning}
 use Rattle.version_order.proofs.lemmas.Sinks.{put_fits}
-use Rattle.version_texts.proofs.lemmas.scan.Splits.{split-append}
-use Rattle.version_texts.specs.requirement.Members.{list_of}
+use Rattle.version_texts.proofs.lemmas.scan.Spelled.{split-append}
+use Rattle.version_texts.specs.Requirement.{list_of}
 use Rattle.version_order.specs.keys.Sinks.{put_at}
 
 -- bytes that fit are the first bytes of the buffer that they are written into
@@ -76,20 +77,15 @@ later_in_turn =
 high_in_turn : (a b c : Option (List ℕ))
     → earlier_high (earlier_high a b) c ≡ earlier_high a (earlier_high b c)
 high_in_turn None b c = refl
-high_in_turn (Some a) None c = refl
-high_in_turn (Some a) (Some b) None = refl
 high_in_turn (Some a) (Some b) (Some c) =
     ap Some (choose_in_turn (λ a b. is_lt (bytes_cmp b a))
     (λ a b c first second. less_in_turn c b a second first)
     (λ a b c first second. not_less_in_turn c b a second first) a b c)
-
-and_in_turn : (a b c : Bool) → ((a && b) && c) ≡ (a && (b && c))
-and_in_turn true b c = refl
-and_in_turn false b c = refl
+high_in_turn a b c = refl
 
 -- of three ranges either two may be taken first
 common_in_turn : (a b c : PlainRange) → common (common a b) c ≡ common a (common b c)
-common_in_turn a b c = grind (arith, later_in_turn, high_in_turn, and_in_turn)
+common_in_turn a b c = grind (arith, later_in_turn, high_in_turn, and_assoc)
 
 -- the range of every version narrows nothing
 pub later_none : (a : List ℕ) → later a [] ≡ a
@@ -104,12 +100,8 @@ high_none : (high : Option (List ℕ)) → earlier_high high None ≡ high
 high_none None = refl
 high_none (Some bound) = refl
 
-and_all : (holds : Bool) → (holds && true) ≡ holds
-and_all true = refl
-and_all false = refl
-
 common_everything : (range : PlainRange) → common range everything ≡ range
-common_everything range = grind (arith, later_none, high_none, and_all)
+common_everything range = grind (arith, later_none, high_none, and-true)
 
 everything_common : (range : PlainRange) → common everything range ≡ range
 everything_common range = grind (arith, none_later)
@@ -242,48 +234,41 @@ next_decides v r (Some list) inside told =
 
 -- ---- the members of a text, by their range
 
-whole : {range : PlainRange} (list : List PlainRequirement)
-    → option_map range_of (Some list) ≡ Some range → range_of list ≡ range
-whole list e = cc e
+-- what is read as a list with a range is a list
+pub record ReadList (spelled : Option (List PlainRequirement)) (range : PlainRange) : Type 0 where
+  pub list : List PlainRequirement
+  pub spelled_is : spelled ≡ Some list
+  pub range_is : range_of list ≡ range
+
+pub read_list : (spelled : Option (List PlainRequirement)) (range : PlainRange)
+    → option_map range_of spelled ≡ Some range → ReadList spelled range
+read_list None range e = cc e
+read_list (Some list) range e = record { list = list; spelled_is = refl; range_is = cc e }
 
 module _ (spelled : Option (List PlainRequirement)) (range : PlainRange) (v : PlainVersioning)
     (read : option_map range_of spelled ≡ Some range) where
+  abbrev held : ReadList spelled range
+  held = read_list spelled range read
+
   -- a version in the range is in the range of each member
   pub inside_each : IsIn range v → IfSome spelled (All (λ r. IsIn (requirement_range r) v))
-  inside_each inside = by spelled read
-    where
-      by : (o : Option (List PlainRequirement)) → option_map range_of o ≡ Some range
-          → IfSome o (All (λ r. IsIn (requirement_range r) v))
-      by None e = tt
-      by (Some list) e =
-          (in_each list everything v (subst (λ q. IsIn q v) (sym (whole list e)) inside)).1
+  inside_each inside =
+      rw held.spelled_is
+      (in_each held.list everything v (subst (λ q. IsIn q v) (sym held.range_is) inside)).1
 
   -- if the range is exact, each member matches what is in it
   pub exact_decides : IsTrue range.is_exact → IsIn range v → MatchesAll (unwrap_or spelled []) v
-  exact_decides exact inside = by spelled read
-    where
-      by : (o : Option (List PlainRequirement)) → option_map range_of o ≡ Some range
-          → MatchesAll (unwrap_or o []) v
-      by None e = cc e
-      by (Some list) e =
-          let same = sym (whole list e) in
-          list_exact list v (subst (λ q. IsTrue q.is_exact) same exact)
-          (subst (λ q. IsIn q v) same inside)
+  exact_decides exact inside =
+      rw held.spelled_is
+      (list_exact held.list v (subst (λ q. IsTrue q.is_exact) (sym held.range_is) exact)
+      (subst (λ q. IsIn q v) (sym held.range_is) inside))
 
   -- what is outside is matched by no list
   pub outside_decides : ¬ (IsIn range v) → ¬ (MatchesAll (unwrap_or spelled []) v)
-  outside_decides outside = by spelled read
-    where
-      by : (o : Option (List PlainRequirement)) → option_map range_of o ≡ Some range
-          → ¬ (MatchesAll (unwrap_or o []) v)
-      by None e all = cc e
-      by (Some list) e all = outside (subst (λ q. IsIn q v) (whole list e) (list_in list v all))
+  outside_decides outside =
+      rw held.spelled_is
+      (λ all. outside (subst (λ q. IsIn q v) held.range_is (list_in held.list v all)))
 
   -- the members are there
   pub asked_is : Asked v spelled ↔ MatchesAll (unwrap_or spelled []) v
-  asked_is = by spelled read
-    where
-      by : (o : Option (List PlainRequirement)) → option_map range_of o ≡ Some range
-          → Asked v o ↔ MatchesAll (unwrap_or o []) v
-      by None e = cc e
-      by (Some list) e = (λ all. all, λ all. all)
+  asked_is = rw held.spelled_is (λ all. all, λ all. all)

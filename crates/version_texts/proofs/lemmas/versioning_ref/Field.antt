@@ -1,11 +1,11 @@
 -- Where the fields of a version lie in its text, by its shape.
-use Rattle.std.proofs.Common.{◌≡◌, ◌==◌, ◌+◌, ◌-◌, ◌≤◌, ◌∙◌, if◌then◌else◌, ℕ, Bool, true, false, List, [], ◌∷◌, ◌++◌, drop, length, take, Option, Some, None, refl, sym, ap, subst, arith, append-nil, length-append}
+use Rattle.std.proofs.Common.{◌≡◌, ◌==◌, ◌+◌, ◌-◌, ◌≤◌, ◌∙◌, if◌then◌else◌, ℕ, Bool, true, false, List, [], ◌∷◌, ◌++◌, drop, length, take, Option, Some, None, refl, sym, ap, subst, arith, append-nil, length-append, ◌&&◌, append_assoc}
 use Rattle.std.proofs.lemmas.Bool.{ne_eqb}
 use Rattle.std.proofs.lemmas.Bool.Decides.{nat_tests}
-use Rattle.std.proofs.lemmas.List.{length-drop, length-take-le}
+use Rattle.std.proofs.lemmas.List.{length-drop, length-take-le, drop_at, take_at}
 use Rattle.std.specs.Fmt.{decimal}
 use Rattle.std.specs.List.{list_all, prefix_len}
-use Rattle.std.specs.Option.{option_map}
+use Rattle.std.specs.Option.{option_map, is_none}
 use Rattle.std.specs.Prelude.{nat_lt}
 use Rattle.std.specs.Str.Parse.{digits_value}
 use Rattle.version_order.specs.texts.Bytes.{colon, hyphen, plus}
@@ -21,36 +21,32 @@ use Rattle.version_rules.specs.key.Key.{versioning_epoch}
 use Rattle.version_rules.specs.grammar.Versioning.{versioning_kind, PlainVersioning, Ideal, General, Complex, SpellsVersioning}
 use Rattle.version_rules.specs.grammar.Mess.{PlainMess, SpellsMess}
 use Rattle.version_rules.specs.grammar.SemVer.{PlainSemVer, SpellsSemVer}
-use Rattle.version_rules.specs.grammar.Version.{PlainVersion, SpellsEpoch, SpellsVersion, version_text}
+use Rattle.version_rules.specs.grammar.Version.{PlainVersion, SpellsEpoch, SpellsVersion, version_text, epoch_text}
 use Rattle.version_rules.proofs.lemmas.Versioning.{version_of_semver_printed, strict_is_general}
 use Rattle.version_rules.proofs.lemmas.Version.{version_printed}
 use Rattle.version_texts.specs.declared.scan.shape.Shape.{Shape}
 use Rattle.version_texts.specs.declared.scan.shape.TailKind.{TailKind}
-use Rattle.version_texts.specs.versioning_ref.Field.{bare_semver, bare_version, body_alone, field_span, numbers_alone, span_behind}
-use Rattle.version_texts.specs.scan.Shape.{behind_body, body_end, body_start, shape_at, shape_of}
-use Rattle.version_texts.specs.scan.TextKind.{is_not_plus}
-use Rattle.version_texts.specs.versioning_ref.VersioningRef.{version_in}
-use Rattle.version_texts.proofs.lemmas.versioning_ref.VersioningRef.{is_prerelease_tail, spelled, spells-is}
-use Rattle.version_texts.proofs.lemmas.scan.Shape.Complex.{mess_cut}
-use Rattle.version_texts.proofs.lemmas.scan.Shape.Positions.{IsCut, behind_body-is, body_end-is}
-use Rattle.version_texts.proofs.lemmas.scan.Shape.{IsCounted, IsDashed, dashed_end, dashed_within, epoch_taken, is_hyphen, length_cut, no_meta, release_not_plus, version_cut, version_dashed}
+use Rattle.version_texts.specs.VersioningRef.{bare_semver, bare_version, body_alone, field_span, numbers_alone, span_behind, text_before, epoch_and_parts, version_in}
+use Rattle.version_texts.specs.Scan.{behind_body, body_end, body_start, shape_at, shape_of, TailFits, is_not_plus}
+use Rattle.version_texts.proofs.lemmas.versioning_ref.VersioningRef.{is_prerelease_tail, spelled, spells-is, kind-is, shape_fits}
+use Rattle.version_texts.proofs.lemmas.scan.Complex.{mess_cut}
+use Rattle.version_texts.proofs.lemmas.scan.Shape.{IsCut, behind_body-is, body_end-is, IsCounted, IsDashed, dashed_end, dashed_within, epoch_taken, is_hyphen, length_cut, no_meta, release_not_plus, version_cut, version_dashed, printed_epoch}
 use Rattle.version_rules.specs.declared.kind.Kind.TheVariants as kind
 use Rattle.version_texts.specs.declared.versioning_ref.field.Field.TheVariants as field
 use Rattle.version_texts.specs.declared.scan.shape.TailKind.TheVariants as tail
+use Rattle.version_texts.specs.Mixed.{is_bare}
+use Rattle.version_rules.specs.grammar.Body.{body_text}
+use Rattle.version_rules.proofs.lemmas.Body.{body_printed}
 
 -- whether a tail is a release
 abbrev pub is_release_tail : TailKind → Bool
-is_release_tail tail.PreRelease = false
-is_release_tail tail.Nothing = false
 is_release_tail tail.Release = true
-is_release_tail tail.Sections = false
+is_release_tail _ = false
 
 -- a tail of another kind is none
 pub no_release_tail : (t : TailKind) → ¬ (t ≡ tail.Release) → is_release_tail t ≡ false
-no_release_tail tail.PreRelease other = refl
-no_release_tail tail.Nothing other = refl
 no_release_tail tail.Release other = absurd (other refl)
-no_release_tail tail.Sections other = refl
+no_release_tail t other = refl
 
 -- ---- the epoch
 
@@ -66,8 +62,6 @@ module _ (text epoch body rest : List ℕ) (cut : IsCut text epoch body rest) wh
   pub counted : (digits : Option (List ℕ)) (n : Option ℕ) → IsCounted epoch digits n
       → (option_map (span_behind []) digits ≡ epoch_place text) × (n ≡ epoch_value text)
   counted None None s = rw (cut.starts, s) (refl, refl)
-  counted None (Some n) s = absurd s
-  counted (Some digits) None s = absurd s
   counted (Some digits) (Some n) s =
       let starts : body_start text ≡ length digits + 1 =
       omega (
@@ -84,6 +78,7 @@ module _ (text epoch body rest : List ℕ) (cut : IsCut text epoch body rest) wh
         rw (starts, some) (ap (λ n. Some (0, n)) (omega arith)),
         rw (ap (λ n. n == 0) starts ∙ some) (ap (λ n. Some n) (sym value)),
       )
+  counted digits n s = absurd s
 
 -- a spelled epoch counts
 pub spelled_counts : (epoch : List ℕ) (o : Option ℕ) → SpellsEpoch epoch o
@@ -316,3 +311,101 @@ pub field_spans : (text : List ℕ) (s : Shape) → shape_of text ≡ Some s
     → ArePlaced text s (version_in text)
 field_spans text s e =
     rw (spelled text s e).1 (placed_by_kind text (version_in text) (spells-is text s e))
+
+-- ---- whether a version has parts alone
+
+none_mapped : {A B : Type 0} (f : A → B) (o : Option A) → is_none (option_map f o) ≡ is_none o
+none_mapped f None = refl
+none_mapped f (Some a) = refl
+
+-- no place of two fields that are missing
+neither : (before other_before : List ℕ) (one other : Option (List ℕ))
+    → (is_none (option_map (span_behind before) one) && is_none (option_map (span_behind other_before) other))
+    ≡ (is_none one && is_none other)
+neither before other_before one other =
+    λ i. none_mapped (span_behind before) one i && none_mapped (span_behind other_before) other i
+
+pub bare_strict : (v : PlainVersioning) → versioning_kind v ≡ kind.Ideal
+    → (is_none (field_span field.PreRelease v) && is_none (field_span field.Metadata v)) ≡ is_bare v
+bare_strict (Ideal v) is =
+    neither (text_before field.PreRelease (Ideal v)) (text_before field.Metadata (Ideal v))
+    (option_map release_text v.pre_rel) v.meta
+    ∙ ap (λ b. b && is_none v.meta) (none_mapped release_text v.pre_rel)
+bare_strict v is = cc is
+
+pub bare_general : (v : PlainVersioning) → versioning_kind v ≡ kind.General
+    → (is_none (field_span field.Release v) && is_none (field_span field.Metadata v)) ≡ is_bare v
+bare_general (General v) is =
+    neither (text_before field.Release (General v)) (text_before field.Metadata (General v))
+    (option_map release_text v.release) v.meta
+    ∙ ap (λ b. b && is_none v.meta) (none_mapped release_text v.release)
+bare_general v is = cc is
+
+pub messy_not_bare : (v : PlainVersioning) → versioning_kind v ≡ kind.Complex → false ≡ is_bare v
+messy_not_bare (Complex m) is = refl
+messy_not_bare v is = cc is
+
+-- ---- the texts of the epoch and of the parts of a version, by the shape of its text
+
+-- the text before the end of the body, cut where the body begins
+abbrev cut_texts : List ℕ → List ℕ × List ℕ
+cut_texts text = (
+  take (body_start text) (take (body_end text) text),
+  drop (body_start text) (take (body_end text) text),
+)
+
+cut_at_body : (text epoch body rest : List ℕ) → IsCut text epoch body rest
+    → cut_texts text ≡ (epoch, body)
+cut_at_body text epoch body rest cut =
+    let whole : text ≡ (epoch ++ body) ++ rest = cut.whole ∙ sym (append_assoc epoch body rest) in
+    let front : take (body_end text) text ≡ epoch ++ body =
+    ap (take (body_end text)) whole
+    ∙ take_at (epoch ++ body) rest (body_end text)
+    (length-append epoch body ∙ sym (body_end-is text epoch body rest cut)) in
+    λ i. (
+      (ap (take (body_start text)) front ∙ take_at epoch body (body_start text) (sym cut.starts)) i,
+      (ap (drop (body_start text)) front ∙ drop_at epoch body (body_start text) (sym cut.starts)) i,
+    )
+
+general_texts : (text : List ℕ) (v : PlainVersion) → SpellsVersion text v
+    → cut_texts text ≡ (epoch_text v.epoch, body_text (v.chunks, v.last))
+general_texts text v s =
+    cut_at_body text s.epoch s.body (s.release ++ s.meta) (version_cut text v s)
+    ∙ λ i. (
+      printed_epoch s.epoch v.epoch s.epoch_is i,
+      sym (body_printed s.body (v.chunks, v.last) s.body_is) i,
+    )
+
+texts_by_kind : (text : List ℕ) (v : PlainVersioning) → SpellsVersioning text v
+    → ¬ (versioning_kind v ≡ kind.Complex) → Some (cut_texts text) ≡ epoch_and_parts v
+texts_by_kind text (Ideal v) s other =
+    ap Some (general_texts text (version_of_semver v) (strict_is_general text v s))
+    ∙ ap (λ (l : List ℕ). Some ([], l)) (simp (append_assoc, append-nil))
+texts_by_kind text (General v) s other = ap Some (general_texts text v s.0)
+texts_by_kind text (Complex m) s other = absurd (other refl)
+
+no_texts_by_kind : (v : PlainVersioning) → versioning_kind v ≡ kind.Complex
+    → epoch_and_parts v ≡ None
+no_texts_by_kind (Complex m) is = refl
+no_texts_by_kind v is = cc is
+
+module _ (text : List ℕ) (s : Shape) (e : shape_of text ≡ Some s) where
+  -- the two texts of a strict or general version, and none of a messy one
+  pub texts_are : ¬ (s.kind ≡ kind.Complex)
+      → Some (take s.body (take s.end text), drop s.body (take s.end text))
+      ≡ epoch_and_parts (version_in text)
+  texts_are other = grind (arith, spelled, texts_by_kind, spells-is, kind-is)
+
+  -- the body ends within the text
+  pub body_within : s.end ≤ length text
+  body_within =
+      let fits = shape_fits text s e in
+      within s.tail s.end s.tail_end fits.tail_fits fits.within
+    where
+      within : (tail : TailKind) (end tail_end : ℕ) → TailFits tail end tail_end
+          → tail_end ≤ length text → end ≤ length text
+      within tail.PreRelease end tail_end fits below = omega (arith, fits)
+      within t end tail_end fits below = omega (arith, fits)
+
+  pub no_texts : s.kind ≡ kind.Complex → None ≡ epoch_and_parts (version_in text)
+  no_texts is = sym (no_texts_by_kind (version_in text) (sym (kind-is text s e) ∙ is))

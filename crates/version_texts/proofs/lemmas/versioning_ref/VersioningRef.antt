@@ -1,29 +1,148 @@
 -- What the text and the shape of a borrowed version say of the version that it is.
-use Rattle.std.proofs.Common.{if◌then◌else◌, ◌≡◌, ◌==◌, ◌≤◌, ◌∙◌, ℕ, Bool, true, false, List, length, Option, Some, None, refl, sym, ap, inl, inr, arith}
+use Rattle.std.proofs.Common.{◌≡◌, ◌++◌, ℕ, List, append_assoc, sym, ◌∙◌, [], ◌∷◌, Option, Some, None, refl, ap, arith, if◌then◌else◌, ◌==◌, Bool, true, false, length, inl, inr, ◌⊎◌, ◌+◌, suc, take, nat_eq, one-add, length-append}
+use Rattle.version_order.specs.keys.NumberBytes.{number_bytes}
+use Rattle.version_rules.specs.key.PartKey.{parts_bytes, chunk_parts, part_key}
+use Rattle.version_rules.specs.key.Key.{key_tie_cmp, Key, key_of, key_of_mess, key_of_semver, key_of_version, strict_body, precedence, key_bytes}
+use Rattle.version_rules.specs.key.Tail.{tail_bytes, Tail}
+use Rattle.version_texts.specs.Key.{front_bytes, chunks_of, parts_of, tail_of, text_key}
+use Rattle.std.specs.Option.{option_map_or, is_some, option_map}
+use Rattle.version_rules.specs.grammar.Chunk.{PlainChunk}
+use Rattle.version_rules.specs.grammar.Last.{last_text}
+use Rattle.version_rules.proofs.lemmas.Key.{plain_number, precedence_of_semvers}
+use Rattle.version_rules.specs.declared.kind.Kind.{Kind}
+use Rattle.version_rules.specs.grammar.Conversions.{version_of_semver}
+use Rattle.version_rules.specs.grammar.Versioning.{versioning_kind, PlainVersioning, Ideal, General, Complex, SpellsVersioning, versioning_of, is_prerelease, versioning_plain_cmp, versioning_text}
+use Rattle.version_rules.specs.grammar.Mess.{PlainMess, SpellsMess}
+use Rattle.version_rules.specs.grammar.SemVer.{PlainSemVer, SpellsSemVer}
+use Rattle.version_rules.specs.grammar.Version.{PlainVersion, SpellsVersion}
+use Rattle.version_rules.proofs.lemmas.Versioning.{versioning_of-spells, versioning_ascii, versioning_printed, strict_is_general}
+use Rattle.version_texts.specs.declared.scan.shape.TailKind.{TailKind}
+use Rattle.version_texts.specs.declared.scan.shape.TailKind.TheVariants.{PreRelease, Release, Nothing, Sections}
+use Rattle.version_texts.specs.Scan.{Fits, body_in, shape_at, tail_in, behind_body, shape_of, tail_kind}
+use Rattle.version_texts.proofs.lemmas.scan.Complex.{mess_cut, mess_fits, mess_tail-is}
+use Rattle.version_texts.proofs.lemmas.scan.Spelled.{body_parts, release_chunks, section_parts-is}
+use Rattle.version_texts.proofs.lemmas.scan.Shape.{IsDashed, body_taken, dashed_shape, general_fits, strict_fits, version_cut, version_dashed, version_epoch, is_hyphen}
+use Rattle.version_rules.specs.declared.kind.Kind.TheVariants as kind
+use Rattle.version_rules.specs.key.Tail as tail
 use Rattle.std.proofs.lemmas.Str.{IsUtf8-from_ascii}
-use Rattle.std.specs.Cmp.{tied_itself}
-use Rattle.std.specs.Option.{is_some, option_map}
+use Rattle.std.specs.Cmp.{first_so, second_so}
 use Rattle.std.specs.Str.{IsUtf8}
 use Rattle.std.specs.declared.cmp.Ordering.TheVariants.{Equal}
-use Rattle.version_rules.specs.grammar.Chunk.{PlainChunk}
 use Rattle.version_order.specs.texts.Front.{begins}
 use Rattle.version_order.proofs.lemmas.Front.Repeated.{cases_Option}
-use Rattle.version_rules.specs.grammar.Conversions.{version_of_semver}
-use Rattle.version_rules.specs.key.Key.{key_of}
-use Rattle.version_rules.specs.grammar.Versioning.{versioning_kind, PlainVersioning, Ideal, General, Complex, SpellsVersioning, is_prerelease, versioning_of, versioning_plain_cmp, versioning_text}
-use Rattle.version_rules.specs.laws.Versioning.{versioning_plain_total}
-use Rattle.version_rules.proofs.lemmas.Versioning.{versioning_ascii, versioning_of-spells, versioning_printed, strict_is_general}
 use Rattle.version_texts.specs.declared.scan.shape.Shape.{Shape}
-use Rattle.version_texts.specs.declared.scan.shape.TailKind.{TailKind}
-use Rattle.version_texts.specs.declared.scan.shape.TailKind.TheVariants.{Nothing, PreRelease, Release, Sections}
-use Rattle.version_texts.specs.scan.Shape.{Fits, behind_body, shape_at, shape_of, tail_kind}
-use Rattle.version_texts.specs.key.TextKey.{text_key}
-use Rattle.version_texts.specs.versioning_ref.VersioningRef.{version_in}
-use Rattle.version_texts.proofs.lemmas.key.TextKey.{versioning_fits, versioning_key}
-use Rattle.version_texts.proofs.lemmas.scan.Shape.{IsDashed, is_hyphen, version_dashed}
-use Rattle.version_rules.specs.declared.kind.Kind.TheVariants as kind
-pub mod PlainOrder
-pub mod SameText
+use Rattle.version_texts.specs.VersioningRef.{version_in, major_text}
+use Rattle.std.proofs.lemmas.Bool.{cases_Bool, eqb-true}
+use Rattle.std.proofs.lemmas.List.{take_at}
+use Rattle.std.proofs.lemmas.List.Elements.{All-head}
+use Rattle.std.specs.Char.{is_ascii_digit}
+use Rattle.std.specs.Cmp.Lexicographic.{other_text}
+use Rattle.std.specs.Fmt.{decimal}
+use Rattle.std.specs.List.{list_all, position_or_len, starts_with}
+use Rattle.version_order.specs.texts.Bytes.{dot}
+use Rattle.version_rules.proofs.lemmas.Numeral.{numeral_printed}
+use Rattle.version_rules.specs.requirement.Matching.{Matches, MatchesCaret, MatchesTilde}
+use Rattle.version_rules.specs.requirement.Requirement.{PlainRequirement}
+use Rattle.version_rules.specs.requirement.Requirements.{Keeps}
+use Rattle.version_rules.specs.requirement.SemVerMatch.{Numbers, numbers}
+use Rattle.version_order.proofs.lemmas.Bytes.{digit_no_dot}
+use Rattle.version_order.specs.texts.Pieces.{is_dot}
+use Rattle.version_texts.specs.Requirement.{IsFront}
+use Rattle.version_rules.specs.declared.op.Op.TheVariants as op
+use Rattle.version_rules.specs.requirement.SemVerMatch as strict
+
+-- ---- the key of a version is the one that is read off its text by its shape
+
+-- ---- strict and general versions
+
+-- the tail of a version that may have a release, whatever its kind
+dashed_tail : (k : Kind) (some : TailKind) (make : List PlainChunk → Tail)
+    → ((text : List ℕ) → tail_of some text ≡ make (chunks_of text))
+    → (text : List ℕ) (o : Option (List PlainChunk)) → IsDashed text o
+    → tail_of (dashed_shape k some text).tail (tail_in text (dashed_shape k some text))
+    ≡ option_map_or make o tail.Bare
+dashed_tail k some make is text None d = rw d.0 refl
+dashed_tail k some make is text (Some chunks) d =
+    rw d.0 (is _ ∙ ap make (release_chunks _ chunks d.2))
+
+module _ (text : List ℕ) (v : PlainVersion) (s : SpellsVersion text v) where
+  version_body : (k : Kind) (some : TailKind)
+      → parts_of (body_in text (dashed_shape k some text))
+      ≡ chunk_parts v.chunks ++ part_key (last_text v.last) ∷ []
+  version_body k some =
+      ap parts_of (body_taken text s.epoch s.body (s.release ++ s.meta) (version_cut text v s))
+      ∙ body_parts s.body (v.chunks, v.last) s.body_is
+
+  version_tail : (k : Kind) (some : TailKind) (make : List PlainChunk → Tail)
+      → ((text : List ℕ) → tail_of some text ≡ make (chunks_of text))
+      → tail_of (dashed_shape k some text).tail (tail_in text (dashed_shape k some text))
+      ≡ option_map_or make v.release tail.Bare
+  version_tail k some make is = dashed_tail k some make is text v.release (version_dashed text v s)
+
+-- the key of a general version
+pub general_key : (text : List ℕ) (v : PlainVersion) → SpellsVersion text v
+    → key_of_version v ≡ text_key text (shape_at kind.General text)
+general_key text v s =
+    sym (λ i. record {
+      epoch = (version_epoch text v s).1 i;
+      body = version_body text v s kind.General Release i;
+      tail = version_tail text v s kind.General Release tail.Released (λ t. refl) i;
+    })
+
+-- the parts of a strict version are its three numbers
+three_parts : (v : PlainSemVer) (text : List ℕ) → SpellsSemVer text v
+    → chunk_parts (version_of_semver v).chunks
+    ++ part_key (last_text (version_of_semver v).last) ∷ []
+    ≡ strict_body v.major v.minor v.patch
+three_parts v text s = grind (arith, plain_number)
+
+-- the key of a strict version
+pub strict_key : (text : List ℕ) (v : PlainSemVer) → SpellsSemVer text v
+    → key_of_semver v ≡ text_key text (shape_at kind.Ideal text)
+strict_key text v s =
+    let general = strict_is_general text v s in
+    let body =
+    version_body text (version_of_semver v) general kind.Ideal PreRelease ∙ three_parts v text s in
+    sym (λ i. record {
+      epoch = (version_epoch text (version_of_semver v) general).1 i;
+      body = body i;
+      tail = version_tail text (version_of_semver v) general kind.Ideal PreRelease tail.PreReleased
+          (λ t. refl) i;
+    })
+
+-- ---- messy versions
+
+-- the key of a messy version
+pub mess_key : (text : List ℕ) (m : PlainMess) → SpellsMess text m
+    → key_of_mess m ≡ text_key text (shape_at kind.Complex text)
+mess_key text m s =
+    let c = mess_cut text m s in
+    let body =
+    ap parts_of (body_taken text c.epoch c.body c.rest c.cut)
+    ∙ section_parts-is c.body c.chunks c.body_is in
+    let tail = (mess_tail-is text m s).0 in
+    c.key_is ∙ sym (λ i. record { epoch = c.epoch_is.1 i; body = body i; tail = tail i })
+
+-- ---- versions of any kind
+
+key_and_shape : (text : List ℕ) (v : PlainVersioning) → SpellsVersioning text v
+    → (key_of v ≡ text_key text (shape_at (versioning_kind v) text))
+    × Fits text (shape_at (versioning_kind v) text)
+key_and_shape text (Ideal v) s = (strict_key text v s, strict_fits text v s)
+key_and_shape text (General v) s = (general_key text v s.0, general_fits text v s.0)
+key_and_shape text (Complex m) s = (mess_key text m s.0, mess_fits text m s.0)
+
+pub versioning_key : (text : List ℕ) (v : PlainVersioning) → versioning_of text ≡ Some v
+    → key_of v ≡ text_key text (shape_at (versioning_kind v) text)
+versioning_key text v e = (key_and_shape text v (versioning_of-spells text v e)).0
+
+pub versioning_fits : (text : List ℕ) (v : PlainVersioning) → versioning_of text ≡ Some v
+    → Fits text (shape_at (versioning_kind v) text)
+versioning_fits text v e = (key_and_shape text v (versioning_of-spells text v e)).1
+
+-- a key is what stands before its tail, and its tail
+pub key_halves : (k : Key) → key_bytes k ≡ front_bytes k ++ tail_bytes k.tail
+key_halves k = sym (append_assoc (number_bytes k.epoch) (parts_bytes k.body) (tail_bytes k.tail))
 
 -- a text of a shape spells a version, and its shape is the one at the kind of that version
 pub spelled : (text : List ℕ) (s : Shape) → shape_of text ≡ Some s
@@ -57,11 +176,6 @@ pub utf8-is : (text : List ℕ) (s : Shape) → shape_of text ≡ Some s → IsU
 utf8-is text s e =
     IsUtf8-from_ascii text (versioning_ascii text (version_in text) (spells-is text s e))
 
--- versions of one text tie
-pub same_text-ties : (a b : List ℕ) → a ≡ b
-    → versioning_plain_cmp (version_in a) (version_in b) ≡ Equal
-same_text-ties a b same = rw same (tied_itself versioning_plain_total (version_in b))
-
 -- the kind is that of the shape
 pub kind-is : (text : List ℕ) (s : Shape) → shape_of text ≡ Some s
     → s.kind ≡ versioning_kind (version_in text)
@@ -80,26 +194,17 @@ shape_fits text s e =
     let here = spelled text s e in
     rw here.1 (versioning_fits text (version_in text) here.0)
 
--- the tail ends in the text
-pub tail_within : (text : List ℕ) (s : Shape) → shape_of text ≡ Some s
-    → s.tail_end ≤ length text
-tail_within text s e = (shape_fits text s e).within
-
 -- ---- pre-releases
 
 -- whether a tail is a pre-release
 abbrev pub is_prerelease_tail : TailKind → Bool
 is_prerelease_tail PreRelease = true
-is_prerelease_tail Nothing = false
-is_prerelease_tail Release = false
-is_prerelease_tail Sections = false
+is_prerelease_tail _ = false
 
 -- a tail of another kind is none
 pub other_tail : (t : TailKind) → ¬ (t ≡ PreRelease) → is_prerelease_tail t ≡ false
 other_tail PreRelease other = absurd (other refl)
-other_tail Nothing other = refl
-other_tail Release other = refl
-other_tail Sections other = refl
+other_tail t other = refl
 
 dashed_prerelease : (text : List ℕ) (o : Option (List PlainChunk)) → IsDashed text o
     → is_some o ≡ is_prerelease_tail (tail_kind kind.Ideal text)
@@ -125,3 +230,121 @@ tail_prerelease text (Complex m) s =
 pub prerelease-is : (text : List ℕ) (s : Shape) → shape_of text ≡ Some s
     → is_prerelease (version_in text) ≡ is_prerelease_tail s.tail
 prerelease-is text s e = grind (arith, spelled, tail_prerelease, spells-is)
+
+-- ---- the plain order of two versions whose keys tie
+
+pub tied_plain : (a b : PlainVersioning) → precedence (key_of a) (key_of b) ≡ Equal
+    → key_tie_cmp a b ≡ versioning_plain_cmp a b
+tied_plain (Ideal a) (Ideal b) tied = sym tied ∙ precedence_of_semvers a b
+tied_plain (Ideal a) (General b) tied = refl
+tied_plain (Ideal a) (Complex b) tied = refl
+tied_plain a b tied = refl
+
+-- ---- the versions that `~` or `^` matches begin as the wanted version does, if that is strict
+
+-- the text of a strict version begins with its major number and a dot
+abbrev Begins : List ℕ → List ℕ → Type 0
+Begins front text = (rest : List ℕ) × (text ≡ front ++ rest)
+
+strict_begins : (text : List ℕ) (v : PlainSemVer) → SpellsSemVer text v
+    → Begins (decimal v.major ++ dot ∷ []) text
+strict_begins text v s =
+    let rest = s.minor ++ dot ∷ (s.patch ++ (s.pre_rel ++ s.meta)) in (
+      rest,
+      s.whole ∙ ap (λ (l : List ℕ). l ++ dot ∷ rest)
+          (sym (numeral_printed s.major v.major s.major_is))
+          ∙ sym (append_assoc (decimal v.major) (dot ∷ []) rest),
+    )
+
+-- the first dot stands behind the digits
+dot_behind : (digits rest : List ℕ) → list_all is_ascii_digit digits ≡ true
+    → position_or_len is_dot (digits ++ dot ∷ rest) ≡ length digits
+dot_behind [] rest all = refl
+dot_behind (b ∷ digits) rest all =
+    rw (digit_no_dot b (first_so _ _ all))
+    (ap (λ n. 1 + n) (dot_behind digits rest (second_so _ _ all)) ∙ one-add (length digits))
+
+-- what stands in the text of a strict version up to the first dot
+pub through_dot-is : (text : List ℕ) (v : PlainSemVer) → SpellsSemVer text v
+    → take (suc (position_or_len is_dot text)) text ≡ decimal v.major ++ dot ∷ []
+through_dot-is text v s =
+    let rest = s.minor ++ dot ∷ (s.patch ++ (s.pre_rel ++ s.meta)) in
+    let place : position_or_len is_dot text ≡ length s.major =
+    ap (position_or_len is_dot) s.whole ∙ dot_behind s.major rest s.major_is.digits in
+    let whole : text ≡ (s.major ++ dot ∷ []) ++ rest =
+    s.whole ∙ sym (append_assoc s.major (dot ∷ []) rest) in
+    ap (take (suc (position_or_len is_dot text))) whole
+    ∙ take_at (s.major ++ dot ∷ []) rest (suc (position_or_len is_dot text))
+    (omega (arith, place, length-append s.major (dot ∷ [])))
+    ∙ ap (λ (l : List ℕ). l ++ dot ∷ []) (sym (numeral_printed s.major v.major s.major_is))
+
+strict_text : (text : List ℕ) (v : PlainVersioning) → SpellsVersioning text v
+    → kind.Ideal ≡ versioning_kind v
+    → take (suc (position_or_len is_dot text)) text ≡ major_text v
+strict_text text (Ideal v) s e = through_dot-is text v s
+strict_text text v s e = cc e
+
+no_major : (v : PlainVersioning) → ¬ (kind.Ideal ≡ versioning_kind v) → [] ≡ major_text v
+no_major (Ideal v) e = absurd (e refl)
+no_major v e = refl
+
+-- the same by the shape of the text
+module _ (text : List ℕ) (s : Shape) (shaped : shape_of text ≡ Some s) where
+  pub strict_major : s.kind ≡ kind.Ideal
+      → take (suc (position_or_len is_dot text)) text ≡ major_text (version_in text)
+  strict_major e = grind (arith, strict_text, spells-is, kind-is)
+
+  pub other_major : ¬ (s.kind ≡ kind.Ideal) → [] ≡ major_text (version_in text)
+  other_major e =
+      no_major (version_in text) (λ ideal. e (kind-is text s shaped ∙ sym ideal))
+
+-- a caret matches versions with the wanted major number
+caret_major : (w v : Numbers) → strict.MatchesCaret w v → w.0 ≡ v.0
+caret_major w v match = grind (arith, cases_Bool, eqb-true)
+
+-- a version with the wanted major number begins as the wanted one does
+same_major : (w v : PlainSemVer) (text : List ℕ) → w.major ≡ v.major
+    → versioning_of text ≡ Some (Ideal v) → Begins (major_text (Ideal w)) text
+same_major w v text same e =
+    rw same (strict_begins text v (versioning_of-spells text (Ideal v) e))
+
+pub tilde_begins : (w v : PlainVersioning) (text : List ℕ) → versioning_of text ≡ Some v
+    → MatchesTilde w v → Begins (major_text w) text
+tilde_begins (Ideal w) (Ideal v) text e match = same_major w v text match.0 e
+tilde_begins (General w) v text e match = (text, refl)
+tilde_begins (Complex w) v text e match = (text, refl)
+tilde_begins (Ideal w) v text e match = absurd match
+
+pub caret_begins : (w v : PlainVersioning) (text : List ℕ) → versioning_of text ≡ Some v
+    → MatchesCaret w v → Begins (major_text w) text
+caret_begins (Ideal w) (Ideal v) text e match =
+    same_major w v text (caret_major (numbers w) (numbers v) match) e
+caret_begins (General w) v text e match = (text, refl)
+caret_begins (Complex w) v text e match = (text, refl)
+caret_begins (Ideal w) v text e match = absurd match
+
+pub front_begins : (r : PlainRequirement) (w v : PlainVersioning) (text : List ℕ)
+    → r.version ≡ Some w → (r.op ≡ op.Tilde) ⊎ (r.op ≡ op.Caret) → versioning_of text ≡ Some v
+    → Matches r v → Begins (major_text w) text
+front_begins r w v text some asks e match = grind (arith, tilde_begins, caret_begins)
+
+-- a list keeps no text that does not begin as its first member asks
+unbegun : (front text : List ℕ) → starts_with nat_eq text front ≡ false → ¬ (Begins front text)
+unbegun front text differ begun =
+    other_text front (take (length front) text) (sym differ)
+    (sym (ap (take (length front)) begun.1 ∙ take_at front begun.0 (length front) refl))
+
+pub not_kept : (r : PlainRequirement) (more : List PlainRequirement) (front text : List ℕ)
+    → IsFront r front → starts_with nat_eq text front ≡ false
+    → ¬ (Keeps (r ∷ more) (versioning_of text))
+not_kept r more front text begins differ = grind (arith, cases_Option, unbegun, All-head)
+
+-- ---- by names that an attribute can write
+
+pub ruleset kind_read = (kind-is)
+
+pub ruleset printed_read = (printed-is)
+
+pub ruleset utf8_read = (utf8-is)
+
+pub ruleset key_read = (key-is)

@@ -1,5 +1,5 @@
 use Rattle.std.proofs.Common.{◌≡◌, ◌-◌, ◌≤◌, drop, length}
-use Rattle.version_texts.specs.scan.TextKind.{are_marked_runs}
+use Rattle.version_texts.specs.Scan.{are_marked_runs}
 use Rattle.version_texts.proofs.scan.are_marked_runs.Given as goal
 
 -- what follows the place decides

@@ -4,11 +4,10 @@ use Rattle.std.specs.Char.{is_ascii_alphanumeric}
 use Rattle.std.specs.List.{list_all}
 use Rattle.version_order.specs.texts.DigitRun.{is_digits}
 use Rattle.version_order.specs.texts.Class.{first_rank}
-use Rattle.version_texts.specs.scan.Shape.{body_start, has_epoch}
-use Rattle.version_texts.specs.scan.TextKind.{is_chunk, section_end, section_pieces}
+use Rattle.version_texts.specs.Scan.{body_start, has_epoch, is_chunk, section_end, section_pieces}
 use Rattle.version_order.specs.texts.Front.{is_run}
-use Rattle.version_texts.proofs.lemmas.scan.Class.{next_colon}
-use Rattle.version_texts.proofs.lemmas.scan.Shape.Scanned.{bad_first, behind_colon, body_end-section, epoch_chunk, epoch_end, first_chunks, first_end, first_numbers, first_runs, no_epoch, not_three, numeral_epoch, one_by_dots, section_is_epoch, three_by_dots}
+use Rattle.version_texts.proofs.lemmas.scan.Section.{next_colon}
+use Rattle.version_texts.proofs.lemmas.scan.Scanned.{bad_first, behind_colon, body_end-section, epoch_chunk, epoch_end, first_chunks, first_end, first_numbers, first_runs, no_epoch, not_three, numeral_epoch, one_by_dots, section_is_epoch, three_by_dots}
 use Rattle.version_texts.proofs.scan.scan_body.Goals as goal
 
 -- whether a text has an epoch, as its first section tells

@@ -1,9 +1,8 @@
 use Rattle.std.proofs.Common.{◌==◌, ◌∙◌, drop, sym, arith}
 use Rattle.version_order.specs.texts.Bytes.{dot, is_identifier_byte}
-use Rattle.version_texts.proofs.lemmas.scan.Class.{is_dot, no_dot}
-use Rattle.version_texts.proofs.lemmas.scan.TextKind.Release.{bad_chunk, from_last, from_next, place_last, place_next}
+use Rattle.version_texts.proofs.lemmas.scan.Section.{is_dot, no_dot, chunk_empty}
+use Rattle.version_texts.proofs.lemmas.scan.Tail.{bad_chunk, from_last, from_next, place_last, place_next}
 use Rattle.version_order.proofs.lemmas.Runs.{not_false, not_true, begins_within}
-use Rattle.version_texts.proofs.lemmas.scan.TextKind.Runs.{chunk_empty}
 use Rattle.version_texts.proofs.scan.scan_release.Goals as goal
 
 pub returns-in_err-run-clause-whole : goal.returns-in_err-run-clause-whole

@@ -1,6 +1,6 @@
 use Rattle.std.proofs.Common.{◌≡◌, ◌+◌, ◌-◌, ◌≤◌, drop, length}
 use Rattle.std.specs.List.{prefix_len}
-use Rattle.version_texts.specs.scan.TextKind.{is_not_plus, is_released}
+use Rattle.version_texts.specs.Scan.{is_not_plus, is_released}
 use Rattle.version_texts.proofs.scan.scan_release.Given as goal
 
 -- what follows the place decides

@@ -1,13 +1,11 @@
-use Rattle.std.proofs.Common.{◌==◌, ◌+◌, ◌∙◌, List, ℕ, drop, length, sym, ap, arith}
+use Rattle.std.proofs.Common.{◌==◌, ◌+◌, ◌∙◌, List, ℕ, drop, length, sym, ap, arith, true}
 use Rattle.std.specs.Char.{is_ascii_alphanumeric}
 use Rattle.version_order.specs.texts.Bytes.{dot}
 use Rattle.version_order.specs.texts.DigitRun.{is_digits}
-use Rattle.version_texts.specs.scan.TextKind.{is_chunk, section_pieces}
+use Rattle.version_texts.specs.Scan.{is_chunk, section_pieces}
 use Rattle.version_order.specs.texts.Front.{is_run}
-use Rattle.version_texts.proofs.lemmas.scan.Class.{is_dot, no_dot}
-use Rattle.version_texts.proofs.lemmas.scan.Shape.Section.{all_last, all_next, empty_piece, end_last, end_next, pieces_last, pieces_next, runs_last, runs_next}
+use Rattle.version_texts.proofs.lemmas.scan.Section.{is_dot, no_dot, all_last, all_next, empty_piece, end_last, end_next, pieces_last, pieces_next, run_some}
 use Rattle.version_order.proofs.lemmas.Runs.{begins_within}
-use Rattle.version_texts.proofs.lemmas.scan.TextKind.Runs.{run_some}
 use Rattle.version_texts.proofs.scan.scan_section.Goals as goal
 
 pub returns-in_err-run-clause-runs : goal.returns-in_err-run-clause-runs
@@ -35,7 +33,7 @@ returns-then-section-ne-DOT c =
       digits = c.both.ensures ∙ all_last is_digits pieces others _ _ _ before.digits run.digits last;
       chunks = c.both-in-parts.ensures
           ∙ all_last (is_chunk is_ascii_alphanumeric) pieces others _ _ _ before.chunks run.chunk last;
-      runs = runs_last (is_run is_ascii_alphanumeric) pieces others _ before.runs some last;
+      runs = all_last (is_run is_ascii_alphanumeric) pieces others _ true true before.runs (sym some) last;
     }
 
 pub parts-preserved : goal.parts-preserved
@@ -57,7 +55,7 @@ parts-preserved c =
           (all_next is_digits pieces others _ _ _ before.digits run.digits _ next);
       chunks = rw c.both-in-parts.ensures
           (all_next (is_chunk is_ascii_alphanumeric) pieces others _ _ _ before.chunks run.chunk _ next);
-      runs = runs_next (is_run is_ascii_alphanumeric) pieces others _ _ before.runs some next;
+      runs = all_next (is_run is_ascii_alphanumeric) pieces others _ true true before.runs (sym some) _ next;
       counted = omega (arith, run.some, before.counted);
       within = omega
           (arith, begins_within (λ b. b == dot) text c.in_ok-run.run'.end goes_on);

@@ -1,6 +1,6 @@
 use Rattle.std.proofs.Common.{◌∙◌, drop, sym}
-use Rattle.version_texts.proofs.lemmas.scan.Class.{is_hyphen}
-use Rattle.version_texts.proofs.lemmas.scan.TextKind.Release.{hyphen_end, hyphen_tail}
+use Rattle.version_texts.proofs.lemmas.scan.Section.{is_hyphen}
+use Rattle.version_texts.proofs.lemmas.scan.Tail.{hyphen_end, hyphen_tail}
 use Rattle.version_texts.proofs.scan.scan_tail.Goals as goal
 
 pub returns-then-next-eq-HYPHEN : goal.returns-then-next-eq-HYPHEN

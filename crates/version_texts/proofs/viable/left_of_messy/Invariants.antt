@@ -1,5 +1,5 @@
 use Rattle.std.proofs.Common.{ℕ, List, length}
-use Rattle.version_texts.specs.scan.TextKind.{is_messy}
+use Rattle.version_texts.specs.Scan.{is_messy}
 use Rattle.version_order.specs.Viable.{IsLeft}
 use Rattle.version_texts.proofs.viable.left_of_messy.Given as goal
 

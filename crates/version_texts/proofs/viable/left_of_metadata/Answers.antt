@@ -1,4 +1,4 @@
-use Rattle.version_texts.proofs.lemmas.Viable.Parts.{some_metadata}
+use Rattle.version_texts.proofs.lemmas.Viable.{some_metadata}
 use Rattle.version_texts.proofs.viable.left_of_metadata.Goals as goal
 
 pub returns-in-Some : goal.returns-in-Some

@@ -1,8 +1,8 @@
 use Rattle.std.proofs.Common.{arith}
 use Rattle.std.specs.Option.{is_some}
 use Rattle.version_rules.specs.grammar.Versioning.{versioning_of}
-use Rattle.version_texts.specs.scan.TextKind.{is_general, is_messy}
-use Rattle.version_texts.proofs.lemmas.Viable.General.{any_kind}
+use Rattle.version_texts.specs.Scan.{is_general, is_messy}
+use Rattle.version_texts.proofs.lemmas.Viable.{any_kind}
 use Rattle.version_order.proofs.lemmas.Viable.Left.{further, further_other, longest}
 use Rattle.version_texts.proofs.viable.mixed_length.Goals as goal
 

@@ -3,7 +3,7 @@
 ghost use Rattle.std.specs.Prelude.{◌≡◌, ◌∷◌, ◌↔◌, IsTrue};
 ghost use Rattle.version_rules.specs.key.Key.{strict_body};
 ghost use Rattle.version_rules.specs.requirement.SemVerMatch.{MatchesCaret, Numbers};
-ghost use Rattle.version_texts.specs.order.Parts.{first_part, more_parts};
+ghost use Rattle.version_texts.specs.Key.{first_part, more_parts};
 
 use crate::order::delimiters::Delimiters;
 use crate::order::list::compare_parts;
@@ -34,6 +34,7 @@ impl<'a> Parts for TextParts<'a> {
     }
 
     #[inline(always)]
+    #[tactic(auto, using(crate::proofs::lemmas::order::Piece::parts_begin))]
     fn rest(self) -> Option<TextParts<'a>> {
         Some(TextParts(behind_first(split_piece(self.0).1)?))
     }
@@ -41,6 +42,7 @@ impl<'a> Parts for TextParts<'a> {
 
 // Whether `^wanted` matches, of three plain numbers each: the same major, and then a minor and patch that are not less;
 // but as lists of parts if the wanted major is 0.
+#[tactic(auto, using(crate::proofs::lemmas::order::Piece::chain, crate::proofs::lemmas::order::Piece::parts_begin, crate::proofs::lemmas::order::Piece::refused, crate::proofs::lemmas::requirement::Matching::caret_differs, crate::proofs::lemmas::requirement::Matching::caret_of_major, crate::proofs::lemmas::requirement::Matching::caret_of_zero))]
 pub(crate) fn numbers_match_caret(wanted: TextParts<'_>, numbers: TextParts<'_>) -> bool
     ensures { (w v : Numbers)
         → first_part wanted.entry.0.now ∷ more_parts wanted.entry.0.now ≡ strict_body w.0 w.1 w.2

@@ -1,6 +1,6 @@
 use Rattle.std.proofs.Common.{ap, arith}
 use Rattle.version_texts.specs.Mixed.{mixed}
-use Rattle.version_texts.specs.versioning_ref.VersioningRef.{plain_versioning_ref}
+use Rattle.version_texts.specs.VersioningRef.{plain_versioning_ref}
 use Rattle.versions_c.specs.Keys.{spelled_key}
 use Rattle.versions_c.proofs.lemmas.Keys.{key_of_read}
 use Rattle.versions_c.proofs.lemmas.Keys.Putting.{fitting_key}

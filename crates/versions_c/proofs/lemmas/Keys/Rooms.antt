@@ -3,7 +3,7 @@ use Rattle.std.proofs.Common.{◌≡◌, ◌+◌, ◌-◌, ◌*◌, ◌≤◌, �
 use Rattle.std.proofs.lemmas.List.{length-take}
 use Rattle.std.specs.Option.{unwrap_or}
 use Rattle.version_rules.specs.grammar.Versioning.{PlainVersioning, versioning_of}
-use Rattle.version_texts.specs.key.KeyRoom.{room_for}
+use Rattle.version_texts.specs.Key.{room_for}
 use Rattle.versions_c.proofs.lemmas.Keys.{key_of_read}
 use Rattle.versions_c.specs.Keys.{keys_before, spelled_key}
 use Rattle.versions_c.specs.Offsets.{AreOffsets, text_at}

@@ -5,12 +5,12 @@ use Rattle.std.specs.Option.{is_some, option_map, option_map_or}
 use Rattle.version_rules.specs.requirement.Range.{PlainRange, range_of}
 use Rattle.version_rules.specs.requirement.Requirement.{PlainRequirement}
 use Rattle.version_rules.specs.requirement.Requirements.{requirements_of}
-use Rattle.version_texts.specs.requirement.RangeRef.{bound_bytes, high_length, plain_range_ref}
+use Rattle.version_texts.specs.Range.{bound_bytes, high_length, plain_range_ref}
 use Rattle.version_texts.specs.declared.requirement.range_ref.Bound.{Bound}
 use Rattle.version_texts.specs.declared.requirement.range_ref.RangeRef.{RangeRef}
 use Rattle.version_order.specs.keys.Sinks.{saturated}
 use Rattle.versions_c.proofs.lemmas.Ranges.{list_short}
-use Rattle.version_texts.specs.key.KeyRoom.{room_for}
+use Rattle.version_texts.specs.Key.{room_for}
 use Rattle.versions_c.specs.Ranges.{range_status, range_with}
 use Rattle.versions_c.specs.declared.status.TheConstants.{OK}
 

@@ -1,6 +1,6 @@
 use Rattle.std.proofs.Common.{arith, take}
-use Rattle.version_texts.specs.requirement.Inexact.{inexact_part}
-use Rattle.version_texts.specs.requirement.RangeRef.{plain_range_ref}
+use Rattle.version_texts.specs.Requirement.{inexact_part}
+use Rattle.version_texts.specs.Range.{plain_range_ref}
 use Rattle.versions_c.proofs.lemmas.Inexact.{decide, part_in}
 use Rattle.versions_c.proofs.matching.narrow.Goals as goal
 

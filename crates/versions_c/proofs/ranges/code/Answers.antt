@@ -1,5 +1,5 @@
 use Rattle.std.proofs.Common.{sym}
-use Rattle.version_texts.specs.versioning_ref.VersioningRef.{plain_versioning_ref}
+use Rattle.version_texts.specs.VersioningRef.{plain_versioning_ref}
 use Rattle.versions_c.proofs.lemmas.Matching.{bit_fails, bit_holds}
 use Rattle.versions_c.specs.Ranges.{is_in_or_not, range_with}
 use Rattle.versions_c.proofs.ranges.code.Goals as goal

@@ -1,6 +1,6 @@
 -- The marks of the numbers before the place are removed, and the other numbers are unchanged.
 use Rattle.std.proofs.Common.{◌≡◌, ◌<◌, ◌≤◌, ℕ, slice_index}
-use Rattle.version_texts.specs.key.KeyTies.{marked_number}
+use Rattle.version_texts.specs.Order.{marked_number}
 use Rattle.versions_c.proofs.sorting.remove_marks.Given as goal
 
 abbrev pub invariant-loop-marked : goal.invariant-loop-marked

@@ -2,8 +2,8 @@ use Rattle.std.proofs.Common.{◌≡◌, ◌<◌, ◌≤◌, ◌^◌, ℕ, List,
 use Rattle.std.proofs.lemmas.Bool.Decides.{nat_tests}
 use Rattle.version_rules.specs.grammar.Versioning.{PlainVersioning}
 use Rattle.version_order.specs.keys.Sinks.{put_at, saturated}
-use Rattle.version_texts.specs.versioning_ref.VersioningRef.{plain_versioning_ref}
-use Rattle.version_texts.specs.requirement.Why.{IsExcluded, excluded_text}
+use Rattle.version_texts.specs.VersioningRef.{plain_versioning_ref}
+use Rattle.version_texts.specs.Requirement.{IsExcluded, excluded_text}
 use Rattle.version_texts.specs.declared.requirement.why.Excluded.{Excluded}
 use Rattle.version_order.proofs.lemmas.Sinks.{put_fits}
 use Rattle.versions_c.specs.Why.{IsToldWhy}

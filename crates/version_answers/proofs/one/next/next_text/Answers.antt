@@ -1,6 +1,6 @@
 use Rattle.std.proofs.Common.{List, ℕ, Option, rules, subst}
 use Rattle.version_tasks.specs.NextPre.{IsNextPre, plain_next_pre}
-use Rattle.version_texts.specs.versioning_ref.VersioningRef.{plain_versioning_ref}
+use Rattle.version_texts.specs.VersioningRef.{plain_versioning_ref}
 use Rattle.version_answers.proofs.one.next.next_text.Goals as goal
 
 pub returns-in_ok-to_string-in-Some-next_pre : goal.returns-in_ok-to_string-in-Some-next_pre

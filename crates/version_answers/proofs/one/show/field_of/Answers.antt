@@ -4,7 +4,7 @@ use Rattle.std.specs.Str.{IsAscii}
 use Rattle.version_rules.proofs.lemmas.Grammar.{is_read, same_bytes}
 use Rattle.version_rules.proofs.lemmas.Versioning.{versioning_ascii, versioning_of-spells}
 use Rattle.version_answers.proofs.lemmas.Fields.{field_taken}
-use Rattle.version_texts.specs.versioning_ref.VersioningRef.{plain_versioning_ref}
+use Rattle.version_texts.specs.VersioningRef.{plain_versioning_ref}
 use Rattle.version_answers.proofs.one.show.field_of.Goals as goal
 
 pub unwrap-requires : goal.unwrap-requires

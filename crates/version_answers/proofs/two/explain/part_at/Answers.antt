@@ -5,7 +5,7 @@ use Rattle.version_answers.specs.two.Explain.{parts_text}
 use Rattle.version_lines.proofs.lemmas.Column.{or-false}
 use Rattle.version_lines.specs.Column.{is_among}
 use Rattle.version_order.specs.texts.Bytes.{dot}
-use Rattle.version_texts.specs.versioning_ref.VersioningRef.{plain_versioning_ref}
+use Rattle.version_texts.specs.VersioningRef.{plain_versioning_ref}
 use Rattle.version_answers.proofs.two.explain.part_at.Goals as goal
 
 -- the columns of a text between dots are its pieces

@@ -4,7 +4,7 @@ use Rattle.version_rules.proofs.lemmas.Order.{key_writes}
 use Rattle.version_rules.specs.key.Key.{key_of}
 use Rattle.version_schemes.proofs.lemmas.Any.{by_code}
 use Rattle.version_schemes.specs.any.AnyVersion.{plain_any}
-use Rattle.version_texts.specs.versioning_ref.VersioningRef.{plain_versioning_ref}
+use Rattle.version_texts.specs.VersioningRef.{plain_versioning_ref}
 use Rattle.version_schemes.proofs.any.AnyVersion.precedence.Goals as goal
 
 pub returns-in-Mixed-Mixed : goal.returns-in-Mixed-Mixed

@@ -1,7 +1,7 @@
 use Rattle.std.proofs.Common.{◌≡◌, Some, rules, sym}
 use Rattle.version_rules.specs.grammar.Versioning.{versioning_of}
 use Rattle.version_schemes.proofs.lemmas.Any.{mixed_is}
-use Rattle.version_texts.specs.versioning_ref.VersioningRef.{plain_versioning_ref}
+use Rattle.version_texts.specs.VersioningRef.{plain_versioning_ref}
 use Rattle.version_schemes.proofs.any.AnyVersion.read.Goals as goal
 
 pub returns-in_ok-from_bytes-in-Mixed : goal.returns-in_ok-from_bytes-in-Mixed

@@ -1,7 +1,7 @@
 use Rattle.std.proofs.Common.{◌∙◌, [], ℕ, List, ap, append-nil}
 use Rattle.version_order.specs.keys.Lists.{bytes_cmp}
 use Rattle.version_rules.specs.requirement.Range.{end_bytes}
-use Rattle.version_texts.specs.key.TextKey.{text_key}
+use Rattle.version_texts.specs.Key.{text_key}
 use Rattle.version_texts.proofs.key.whole.compare_end.Goals as goal
 
 pub returns : goal.returns

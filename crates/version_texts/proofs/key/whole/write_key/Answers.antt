@@ -3,8 +3,8 @@ use Rattle.std.proofs.lemmas.List.{length-append}
 use Rattle.version_rules.specs.key.Key.{key_bytes}
 use Rattle.version_rules.specs.key.Tail.{tail_bytes}
 use Rattle.version_order.specs.keys.Sinks.{length-put, put_at, put_both}
-use Rattle.version_texts.specs.key.TextKey.{front_bytes, text_key}
-use Rattle.version_texts.proofs.lemmas.key.TextKey.{key_halves}
+use Rattle.version_texts.specs.Key.{front_bytes, text_key}
+use Rattle.version_texts.proofs.lemmas.versioning_ref.VersioningRef.{key_halves}
 use Rattle.version_texts.proofs.key.whole.write_key.Goals as goal
 
 pub put_front-requires-clause-fits : goal.put_front-requires-clause-fits

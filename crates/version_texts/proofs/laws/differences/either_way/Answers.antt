@@ -1,4 +1,4 @@
-use Rattle.version_texts.proofs.lemmas.order.Difference.Laws.{either_way_law}
+use Rattle.version_texts.proofs.lemmas.order.Difference.{either_way_law}
 use Rattle.version_texts.proofs.laws.differences.either_way.Goals as goal
 
 pub returns : goal.returns

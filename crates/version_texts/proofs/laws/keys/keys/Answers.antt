@@ -1,4 +1,4 @@
-use Rattle.version_texts.proofs.lemmas.key.TextKey.{versioning_fits, versioning_key}
+use Rattle.version_texts.proofs.lemmas.versioning_ref.VersioningRef.{versioning_fits, versioning_key}
 use Rattle.version_texts.proofs.laws.keys.keys.Goals as goal
 
 pub returns : goal.returns

@@ -2,11 +2,10 @@ use Rattle.std.proofs.Common.{◌≡◌, ◌∙◌, ◌==◌, ℕ, List, true, O
 use Rattle.std.specs.Ordering.{nat_cmp, ordering_index, ordering_then}
 use Rattle.version_order.specs.texts.DigitRun.{run_value, starts_with_digit}
 use Rattle.version_rules.specs.key.PartKey.{list_cmp}
-use Rattle.version_texts.proofs.lemmas.order.Piece.{pieces_are}
-use Rattle.version_texts.proofs.lemmas.order.Piece.Order.{decided, numbers_compared}
+use Rattle.version_texts.proofs.lemmas.order.Piece.{pieces_are, decided, numbers_compared}
 use Rattle.version_order.proofs.lemmas.Bytes.{digit_no_dot}
 use Rattle.version_order.specs.texts.Pieces.{is_dot}
-use Rattle.version_texts.specs.key.TextKey.{parts_of}
+use Rattle.version_texts.specs.Key.{parts_of}
 use Rattle.version_texts.proofs.order.list.compare_first_numbers.Goals as goal
 
 first_decides : (o more others : Ordering) → true ≡ not (ordering_index o == 1)

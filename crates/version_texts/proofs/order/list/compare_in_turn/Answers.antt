@@ -1,11 +1,11 @@
 use Rattle.std.proofs.Common.{◌≡◌, ◌∙◌, ℕ, List, [], ◌∷◌, Ordering, map, ap, refl, false}
 use Rattle.std.specs.List.{onto_first, slice_split}
 use Rattle.std.specs.Ordering.{ordering_then}
-use Rattle.std.specs.declared.cmp.Ordering.TheVariants.{Less, Equal, Greater}
+use Rattle.std.specs.declared.cmp.Ordering.TheVariants.{Less, Equal}
 use Rattle.version_rules.specs.key.PartKey.{list_cmp}
 use Rattle.version_rules.specs.key.Tail.{sections_cmp}
 use Rattle.version_texts.specs.declared.order.delimiters.Delimiters.TheVariants.{Dots}
-use Rattle.version_texts.specs.key.TextKey.{lists_of, parts_of}
+use Rattle.version_texts.specs.Key.{lists_of, parts_of}
 use Rattle.version_texts.proofs.order.list.compare_in_turn.Goals as goal
 
 one_piece : (text : List ℕ) → slice_split (λ (b : ℕ). false) text ≡ text ∷ []
@@ -17,8 +17,7 @@ one_list text = ap (map parts_of) (one_piece text)
 
 then_no_more : (o : Ordering) → ordering_then o Equal ≡ o
 then_no_more Less = refl
-then_no_more Equal = refl
-then_no_more Greater = refl
+then_no_more o = refl
 
 pub returns : goal.returns
 returns c =

@@ -1,6 +1,6 @@
 use Rattle.std.proofs.Common.{◌∙◌, ap, sym}
 use Rattle.std.specs.Ordering.{ordering_reverse}
-use Rattle.version_texts.proofs.lemmas.order.Piece.Order.{decides}
+use Rattle.version_texts.proofs.lemmas.order.Piece.{decides}
 use Rattle.version_texts.proofs.order.list.compare_lists.Answers.Tails.{compared, first_equal, others_cmp, part_and_end, parts_follow, section_above_end, sections_follow, signed}
 use Rattle.version_texts.proofs.order.list.compare_lists.Goals as goal
 mod Tails

@@ -1,6 +1,6 @@
 use Rattle.std.proofs.Common.{◌≡◌, ◌≤◌, ◌-◌, drop, length, take}
 use Rattle.version_rules.specs.key.PartKey.{list_cmp}
-use Rattle.version_texts.specs.key.TextKey.{parts_of}
+use Rattle.version_texts.specs.Key.{parts_of}
 use Rattle.version_texts.proofs.order.list.pass_common.Given as goal
 
 -- the texts are the same so far, and compare as what follows the last dot

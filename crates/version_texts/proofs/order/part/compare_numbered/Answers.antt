@@ -1,10 +1,8 @@
 use Rattle.std.proofs.Common.{◌∙◌, ap, sym}
 use Rattle.std.specs.List.{before_first}
 use Rattle.version_order.specs.keys.Lists.{bytes_cmp}
-use Rattle.version_texts.proofs.lemmas.order.Piece.{digits_same}
-use Rattle.version_texts.proofs.lemmas.order.Piece.Delimiters.{digit_no_end}
-use Rattle.version_texts.proofs.lemmas.order.Piece.Order.{decides, leaves, numbered_compared, tied}
-use Rattle.version_texts.specs.order.Piece.{delimits}
+use Rattle.version_texts.proofs.lemmas.order.Piece.{digits_same, digit_no_end, decides, leaves, numbered_compared, tied}
+use Rattle.version_texts.specs.Key.{delimits}
 use Rattle.version_order.specs.texts.Pieces.{from_first}
 use Rattle.version_texts.proofs.order.part.compare_numbered.Goals as goal
 

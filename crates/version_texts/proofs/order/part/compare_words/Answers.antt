@@ -9,9 +9,8 @@ use Rattle.version_order.specs.keys.Lists.{bytes_cmp}
 use Rattle.version_rules.specs.key.PartKey.{numbered_cmp, split_cmp, split_of}
 use Rattle.version_texts.specs.declared.order.delimiters.Delimiters.{Delimiters}
 use Rattle.version_texts.specs.declared.order.delimiters.Run.TheVariants.{Word}
-use Rattle.version_texts.proofs.lemmas.order.Piece.Order.{decides, leaves, tied}
-use Rattle.version_texts.proofs.lemmas.order.Piece.Words.{run_is_word}
-use Rattle.version_texts.specs.order.Piece.{delimits, in_run}
+use Rattle.version_texts.proofs.lemmas.order.Piece.{decides, leaves, tied, run_is_word}
+use Rattle.version_texts.specs.Key.{delimits, in_run}
 use Rattle.version_order.specs.texts.Pieces.{from_first}
 use Rattle.version_texts.proofs.order.part.compare_words.Goals as goal
 

@@ -4,16 +4,14 @@ use Rattle.std.specs.Ordering.{nat_cmp, ordering_reverse}
 use Rattle.std.specs.declared.cmp.Ordering.TheVariants.{Less, Equal, Greater}
 use Rattle.version_order.specs.texts.DigitRun.{run_value}
 use Rattle.version_rules.specs.laws.Release.{chunk_total}
-use Rattle.version_texts.proofs.lemmas.order.Piece.{behind_number, digits_alone}
-use Rattle.version_texts.proofs.lemmas.order.Piece.Chunks.{both_numbers, both_texts, not_tied, number_first, number_second}
+use Rattle.version_texts.proofs.lemmas.order.Piece.{behind_number, digits_alone, both_numbers, both_texts, not_tied, number_first, number_second}
 use Rattle.version_order.specs.texts.Pieces.{first_piece}
-use Rattle.version_texts.specs.key.TextKey.{chunk_of}
+use Rattle.version_texts.specs.Key.{chunk_of}
 use Rattle.version_texts.proofs.order.release.compare_first_chunks.Goals as goal
 
 tie_reversed : (o : Ordering) → ordering_reverse o ≡ Equal → o ≡ Equal
-tie_reversed Less e = cc e
 tie_reversed Equal e = refl
-tie_reversed Greater e = cc e
+tie_reversed o e = cc e
 
 less_turned : (a b : List ℕ) → nat_cmp (run_value a) (run_value b) ≡ Less
     → nat_cmp (run_value b) (run_value a) ≡ Greater

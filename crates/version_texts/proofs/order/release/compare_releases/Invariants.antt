@@ -1,6 +1,6 @@
 use Rattle.std.proofs.Common.{◌≡◌, length}
 use Rattle.version_rules.specs.order.Parts.{release_cmp}
-use Rattle.version_texts.specs.key.TextKey.{chunks_of}
+use Rattle.version_texts.specs.Key.{chunks_of}
 use Rattle.version_texts.proofs.order.release.compare_releases.Given as goal
 
 -- the chunks so far are equal, and what is left decides

@@ -1,5 +1,5 @@
 use Rattle.std.proofs.Common.{◌≢◌, ◌∙◌, arith, get_or, sym}
-use Rattle.version_texts.specs.order.Piece.{in_run}
+use Rattle.version_texts.specs.Key.{in_run}
 use Rattle.version_order.proofs.lemmas.Runs.{begins_within}
 use Rattle.version_texts.proofs.order.run.compare_runs.Answers.Steps.{behind_byte, begins_at, longer, other_byte, same_byte, slice_from}
 use Rattle.version_texts.proofs.order.run.compare_runs.Goals.{then-bytes-test+then-place-y+then-x-place+else-contains, then-bytes-test+then-place-y+else-x-place, then-bytes-test+else-place-y, else-bytes-test}

@@ -1,7 +1,7 @@
 use Rattle.std.proofs.Common.{◌≡◌, ◌≤◌, ◌-◌, drop, length}
 use Rattle.std.specs.List.{prefix_len, take_while}
 use Rattle.version_order.specs.keys.Lists.{bytes_cmp}
-use Rattle.version_texts.specs.order.Piece.{in_run}
+use Rattle.version_texts.specs.Key.{in_run}
 use Rattle.version_texts.proofs.order.run.compare_runs.Given as goal
 
 -- the bytes so far are the same, and what is left decides

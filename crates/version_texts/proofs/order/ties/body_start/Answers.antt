@@ -6,9 +6,9 @@ use Rattle.version_order.specs.texts.Bytes.{colon}
 use Rattle.version_order.specs.texts.DigitRun.{starts_with_digit}
 use Rattle.version_order.specs.texts.Front.{begins}
 use Rattle.version_order.specs.texts.Class.{first_rank}
-use Rattle.version_texts.specs.scan.Shape.{digits_len, has_epoch}
-use Rattle.version_texts.proofs.lemmas.scan.Class.{next_colon}
-use Rattle.version_texts.proofs.lemmas.scan.Shape.Scanned.{behind_colon, no_epoch}
+use Rattle.version_texts.specs.Scan.{digits_len, has_epoch}
+use Rattle.version_texts.proofs.lemmas.scan.Section.{next_colon}
+use Rattle.version_texts.proofs.lemmas.scan.Scanned.{behind_colon, no_epoch}
 use Rattle.version_texts.proofs.order.ties.body_start.Goals.{else-begins_with-via-then-begins_with+else-rank_at-eq-COLON, else-begins_with-via-else-begins_with}
 use Rattle.version_texts.proofs.order.ties.body_start.Goals as goal
 

@@ -2,8 +2,8 @@ use Rattle.std.proofs.Common.{◌∙◌, ℕ, List, ap, arith, length, sym}
 use Rattle.std.proofs.lemmas.List.{length-drop}
 use Rattle.std.specs.Char.{is_ascii_alphanumeric}
 use Rattle.std.specs.List.{prefix_len}
-use Rattle.version_texts.proofs.lemmas.order.Piece.Order.{decides, leaves, tied}
-use Rattle.version_texts.proofs.lemmas.order.Ties.Walks.{bodies_above, bodies_below, bodies_end, bodies_go_on}
+use Rattle.version_texts.proofs.lemmas.order.Piece.{decides, leaves, tied}
+use Rattle.version_texts.proofs.lemmas.order.Lasts.{bodies_above, bodies_below, bodies_end, bodies_go_on}
 use Rattle.version_texts.proofs.order.ties.compare_bodies.Goals as goal
 
 pub returns-then-ne : goal.returns-then-ne

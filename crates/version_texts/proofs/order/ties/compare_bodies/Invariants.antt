@@ -1,5 +1,5 @@
 use Rattle.std.proofs.Common.{◌≡◌, length}
-use Rattle.version_texts.specs.order.Ties.{bodies_tie}
+use Rattle.version_texts.specs.Order.{bodies_tie}
 use Rattle.version_texts.proofs.order.ties.compare_bodies.Given as goal
 
 -- the parts so far are equal, and what is left decides

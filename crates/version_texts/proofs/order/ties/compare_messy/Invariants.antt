@@ -1,5 +1,5 @@
 use Rattle.std.proofs.Common.{◌≡◌, ◌≤◌, ◌-◌, drop, length}
-use Rattle.version_texts.specs.order.Ties.{messy_tie}
+use Rattle.version_texts.specs.Order.{messy_tie}
 use Rattle.version_texts.proofs.order.ties.compare_messy.Given as goal
 
 -- the bytes so far have the same places, and what is left decides

@@ -1,7 +1,7 @@
 use Rattle.std.proofs.Common.{inl, inr, refl, rules}
 use Rattle.version_rules.specs.requirement.Requirements.{requirements_of}
 use Rattle.version_texts.proofs.lemmas.requirement.Empty.{is_by_ends, is_empty, is_not_by_ends, is_parsed}
-use Rattle.version_texts.specs.requirement.RangeRef.{plain_range_ref}
+use Rattle.version_texts.specs.Range.{plain_range_ref}
 use Rattle.version_texts.proofs.requirement.conflict.conflict_in.Goals as goal
 
 pub returns-then-is_crossed : goal.returns-then-is_crossed

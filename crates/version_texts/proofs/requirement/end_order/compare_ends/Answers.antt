@@ -2,9 +2,9 @@ use Rattle.std.proofs.Common.{◌∙◌, IsTrue, ap, rules, sym}
 use Rattle.std.specs.Option.{option_map}
 use Rattle.version_rules.specs.requirement.Range.{kept_parts}
 use Rattle.version_texts.proofs.lemmas.requirement.EndOrder.{begins_with_mark, by_keys, epochs_decide, fronts_decide, same_marks}
-use Rattle.version_texts.proofs.lemmas.order.Piece.Order.{tied}
-use Rattle.version_texts.specs.requirement.EndOrder.{behind_parts, is_key}
-use Rattle.version_texts.specs.key.TextKey.{parts_of, text_key}
+use Rattle.version_texts.proofs.lemmas.order.Piece.{tied}
+use Rattle.version_texts.specs.Range.{behind_parts, is_key}
+use Rattle.version_texts.specs.Key.{parts_of, text_key}
 use Rattle.version_texts.proofs.requirement.end_order.compare_ends.Goals.{else-is_key-via-else-is_key, else-is_key-via-then-is_key+else-is_key-2}
 use Rattle.version_texts.proofs.requirement.end_order.compare_ends.Goals as goal
 

@@ -2,7 +2,7 @@ use Rattle.std.proofs.Common.{◌≡◌, ℕ, List, length, suc}
 use Rattle.std.specs.Option.{option_map_or}
 use Rattle.version_order.specs.keys.Lists.{bytes_cmp}
 use Rattle.version_texts.proofs.lemmas.requirement.EndOrder.{front}
-use Rattle.version_texts.specs.order.Parts.{parts_behind}
+use Rattle.version_texts.specs.Key.{parts_behind}
 use Rattle.version_texts.proofs.requirement.end_order.compare_fronts.Given as goal
 
 -- the parts so far are equal, and what is left decides

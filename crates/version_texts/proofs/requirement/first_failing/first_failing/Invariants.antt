@@ -1,5 +1,5 @@
 use Rattle.std.proofs.Common.{◌+◌, ◌≤◌, length}
-use Rattle.version_texts.proofs.lemmas.requirement.FirstFailing.{Left}
+use Rattle.version_texts.proofs.lemmas.requirement.Members.{Left}
 use Rattle.version_texts.proofs.requirement.first_failing.first_failing.Given as goal
 
 -- the members before what is left pass, and one in it fails

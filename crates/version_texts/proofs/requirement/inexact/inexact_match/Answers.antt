@@ -2,10 +2,9 @@ use Rattle.std.proofs.Common.{◌∙◌, refl, sym}
 use Rattle.version_rules.proofs.lemmas.Range.{requirement_exact}
 use Rattle.version_rules.proofs.lemmas.Requirement.{first_decides}
 use Rattle.version_texts.proofs.lemmas.requirement.RangeRef.{next_decides}
-use Rattle.version_texts.proofs.lemmas.requirement.RequirementsRef.Members.{list_split}
-use Rattle.version_texts.specs.requirement.Members.{list_of, pieces_of}
-use Rattle.version_texts.specs.requirement.RequirementRef.{plain_requirement_ref}
-use Rattle.version_texts.specs.versioning_ref.VersioningRef.{plain_versioning_ref}
+use Rattle.version_texts.proofs.lemmas.requirement.Members.{list_split}
+use Rattle.version_texts.specs.Requirement.{list_of, pieces_of, plain_requirement_ref}
+use Rattle.version_texts.specs.VersioningRef.{plain_versioning_ref}
 use Rattle.version_texts.proofs.requirement.inexact.inexact_match.Goals.{else-not-is_exact-via-else-not-is_exact, else-not-is_exact-via-then-not-is_exact+else-not-matches}
 use Rattle.version_texts.proofs.requirement.inexact.inexact_match.Goals as goal
 

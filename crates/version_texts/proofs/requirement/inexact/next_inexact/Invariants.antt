@@ -1,6 +1,5 @@
 use Rattle.std.proofs.Common.{◌≡◌, length}
-use Rattle.version_texts.specs.requirement.Inexact.{inexact_pieces}
-use Rattle.version_texts.specs.requirement.Members.{pieces_of}
+use Rattle.version_texts.specs.Requirement.{inexact_pieces, pieces_of}
 use Rattle.version_texts.proofs.requirement.inexact.next_inexact.Given as goal
 
 -- none of the pieces so far is one

@@ -1,5 +1,5 @@
 use Rattle.std.proofs.Common.{arith, eq-eqb}
-use Rattle.version_texts.proofs.lemmas.order.Piece.Kept.{before_last, front_and_last, no_last}
+use Rattle.version_texts.proofs.lemmas.order.Kept.{before_last, front_and_last, no_last}
 use Rattle.version_texts.proofs.requirement.range.before_last_dot.Goals as goal
 
 pub returns-then-last-eq46-clause-parts : goal.returns-then-last-eq46-clause-parts

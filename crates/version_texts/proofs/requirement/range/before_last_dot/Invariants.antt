@@ -1,5 +1,5 @@
 use Rattle.std.proofs.Common.{length}
-use Rattle.version_texts.proofs.lemmas.order.Piece.Kept.{Undotted}
+use Rattle.version_texts.proofs.lemmas.order.Kept.{Undotted}
 use Rattle.version_texts.proofs.requirement.range.before_last_dot.Given as goal
 
 -- no byte behind what is left is a dot

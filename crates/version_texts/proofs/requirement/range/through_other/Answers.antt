@@ -1,9 +1,6 @@
 use Rattle.std.proofs.Common.{refl, sym}
-use Rattle.version_texts.proofs.lemmas.order.Piece.Kept.{zeros_alone, zeros_and_other, zeros_more, zeros_none}
+use Rattle.version_texts.proofs.lemmas.order.Kept.{zeros_alone, zeros_and_other, zeros_more}
 use Rattle.version_texts.proofs.requirement.range.through_other.Goals as goal
-
-pub parts-init : goal.parts-init
-parts-init c = zeros_none c.args.text.now
 
 pub returns-then-not-begins_with_zero : goal.returns-then-not-begins_with_zero
 returns-then-not-begins_with_zero c =

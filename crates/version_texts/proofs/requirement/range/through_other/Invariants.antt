@@ -1,5 +1,5 @@
 use Rattle.std.proofs.Common.{length}
-use Rattle.version_texts.proofs.lemmas.order.Piece.Kept.{Zeros}
+use Rattle.version_texts.proofs.lemmas.order.Kept.{Zeros}
 use Rattle.version_texts.proofs.requirement.range.through_other.Given as goal
 
 -- the parts before what is left are plain zeros

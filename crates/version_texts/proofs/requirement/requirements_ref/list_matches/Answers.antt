@@ -1,9 +1,8 @@
 use Rattle.std.proofs.Common.{◌∙◌, refl}
 use Rattle.version_rules.proofs.lemmas.Requirement.{first_decides, others_decide}
-use Rattle.version_texts.proofs.lemmas.requirement.RequirementsRef.Members.{list_split, more_parse}
-use Rattle.version_texts.specs.requirement.Members.{list_of, pieces_of}
-use Rattle.version_texts.specs.requirement.RequirementRef.{plain_requirement_ref}
-use Rattle.version_texts.specs.versioning_ref.VersioningRef.{plain_versioning_ref}
+use Rattle.version_texts.proofs.lemmas.requirement.Members.{list_split, more_parse}
+use Rattle.version_texts.specs.Requirement.{list_of, pieces_of, plain_requirement_ref}
+use Rattle.version_texts.specs.VersioningRef.{plain_versioning_ref}
 use Rattle.version_texts.proofs.requirement.requirements_ref.list_matches.Goals as goal
 
 pub returns-then-parse-clause-matches : goal.returns-then-parse-clause-matches
@@ -15,17 +14,3 @@ returns-then-parse-clause-matches c =
     c.in-Some.ensures.some c.in_ok-member.ensures in
     let fails = first_decides v r (list_of next) (λ asks. cc (c.if-not-matches.ensures.1 asks)) in
     (λ yes. cc yes, λ asked. absurd (fails (rw split at c.loop-member.invariant.asks.1 asked)))
-
-pub loop-member-preserved : goal.loop-member-preserved
-loop-member-preserved c =
-    let v = plain_versioning_ref c.args.version.now in
-    let r = plain_requirement_ref c.in_ok-member.member in
-    let next = pieces_of c.next.new.self.left in
-    let split = list_split (pieces_of c.loop-member.members.left) next c.in-Some.member.now r
-    c.in-Some.ensures.some c.in_ok-member.ensures in
-    let before = rw split at c.loop-member.invariant in
-    let step = others_decide v r (list_of next) (c.if-not-matches.ensures.0 refl) in
-    record {
-      parses = more_parse r (list_of next) ∙ before.parses;
-      asks = (λ asked. before.asks.0 (step.1 asked), λ asked. step.0 (before.asks.1 asked));
-    }

@@ -1,6 +1,5 @@
-use Rattle.version_texts.specs.requirement.RequirementRef.{plain_requirement_ref}
-use Rattle.version_texts.specs.requirement.RequirementsRef.{others_of}
-use Rattle.version_texts.specs.versioning_ref.VersioningRef.{plain_versioning_ref}
+use Rattle.version_texts.specs.Requirement.{plain_requirement_ref, others_of}
+use Rattle.version_texts.specs.VersioningRef.{plain_versioning_ref}
 use Rattle.version_rules.proofs.lemmas.Requirement.{first_asks, first_asks_not}
 use Rattle.version_texts.proofs.requirement.requirements_ref.second_and_others_match.Goals as goal
 

@@ -1,7 +1,7 @@
 use Rattle.std.proofs.Common.{rules, ◌∙◌, ap}
 use Rattle.std.specs.Option.{is_none}
-use Rattle.version_texts.proofs.lemmas.requirement.RequirementsRef.Members.{none_wrong}
-use Rattle.version_texts.specs.requirement.Members.{cut_at_commas}
+use Rattle.version_texts.proofs.lemmas.requirement.Members.{none_wrong}
+use Rattle.version_texts.specs.Requirement.{cut_at_commas}
 use Rattle.version_texts.proofs.requirement.requirements_ref.wrong_member.Goals as goal
 
 pub returns-then-is_none-clause-place : goal.returns-then-is_none-clause-place

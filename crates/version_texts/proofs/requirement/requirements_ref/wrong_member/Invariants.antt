@@ -1,6 +1,5 @@
 use Rattle.std.proofs.Common.{◌≡◌, ◌≤◌, ◌+◌, length}
-use Rattle.version_texts.specs.requirement.Members.{cut_at_commas}
-use Rattle.version_texts.specs.requirement.RequirementsRef.{first_wrong, wrong_member}
+use Rattle.version_texts.specs.Requirement.{cut_at_commas, first_wrong, wrong_member}
 use Rattle.version_texts.proofs.requirement.requirements_ref.wrong_member.Given as goal
 
 -- the first wrong member lies in what is left, which begins at the start

@@ -1,8 +1,7 @@
 use Rattle.std.proofs.Common.{◌≡◌, ◌∙◌, ap, refl, subst}
 use Rattle.version_rules.specs.requirement.Range.{requirement_range}
-use Rattle.version_texts.specs.requirement.RequirementRef.{plain_requirement_ref}
-use Rattle.version_texts.specs.versioning_ref.VersioningRef.{plain_versioning_ref}
-use Rattle.version_texts.specs.requirement.Why.{IsWhy}
+use Rattle.version_texts.specs.Requirement.{plain_requirement_ref, IsWhy}
+use Rattle.version_texts.specs.VersioningRef.{plain_versioning_ref}
 use Rattle.version_texts.proofs.requirement.why.why_not.Goals as goal
 
 pub returns-clause-why : goal.returns-clause-why

@@ -1,5 +1,5 @@
 -- A run that begins at a place of a text, by where its digits end.
-use Rattle.std.proofs.Common.{◌≡◌, ◌+◌, ◌-◌, ◌<◌, ◌≤◌, ℕ, Bool, true, false, List, drop, take, refl, sym, ap, ◌∙◌, [], ◌∷◌, arith}
+use Rattle.std.proofs.Common.{◌≡◌, ◌+◌, ◌-◌, ◌<◌, ◌≤◌, ℕ, Bool, true, false, List, drop, take, refl, sym, ap, ◌∙◌, arith}
 use Rattle.std.proofs.lemmas.List.{drop-drop}
 use Rattle.std.proofs.lemmas.List.Folds.{length-prefix_len}
 use Rattle.std.specs.Char.{is_ascii_digit}
@@ -8,21 +8,12 @@ use Rattle.version_order.specs.texts.Bytes.{HasDigits}
 use Rattle.version_order.specs.texts.DigitRun.{is_digits}
 use Rattle.version_order.specs.texts.Front.{begins}
 use Rattle.version_order.specs.texts.Class.{contains}
-use Rattle.version_texts.specs.scan.Shape.{digits_len}
-use Rattle.version_texts.specs.scan.TextKind.{is_chunk, is_numeral}
+use Rattle.version_texts.specs.Scan.{digits_len, is_chunk, is_numeral}
 use Rattle.version_order.specs.declared.class.Class.{Class}
 use Rattle.version_order.proofs.lemmas.Runs.{all_smaller, larger_run, some_larger}
-use Rattle.version_texts.proofs.lemmas.scan.TextKind.Runs.{chunk_digits, chunk_word, digits_not, digits_some}
+use Rattle.version_texts.proofs.lemmas.scan.Section.{chunk_digits, chunk_word, digits_not, digits_some, begun_none, begun_some}
 
 -- whether a run goes on behind a place
-begun_some : (test : ℕ → Bool) (text : List ℕ) → begins test text ≡ true → 0 < prefix_len test text
-begun_some test [] e = cc e
-begun_some test (b ∷ text) e = rw e (omega arith)
-
-begun_none : (test : ℕ → Bool) (text : List ℕ) → begins test text ≡ false → prefix_len test text ≡ 0
-begun_none test [] e = refl
-begun_none test (b ∷ text) e = rw e refl
-
 pub goes_on : (test : ℕ → Bool) (text : List ℕ) (place end : ℕ)
     → begins test (drop place text) ≡ true
     → end ≡ place + prefix_len test (drop place text) → place < end

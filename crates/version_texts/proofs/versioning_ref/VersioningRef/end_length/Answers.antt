@@ -2,7 +2,7 @@ use Rattle.std.proofs.Common.{◌∙◌, ◌+◌, [], ℕ, List, ap, append-nil,
 use Rattle.version_rules.specs.requirement.Range.{end_bytes}
 use Rattle.version_rules.specs.key.Key.{key_of}
 use Rattle.version_order.specs.keys.Sinks.{saturated}
-use Rattle.version_texts.specs.versioning_ref.VersioningRef.{plain_versioning_ref}
+use Rattle.version_texts.specs.VersioningRef.{plain_versioning_ref}
 use Rattle.version_texts.proofs.versioning_ref.VersioningRef.end_length.Goals as goal
 
 pub returns : goal.returns

@@ -14,10 +14,6 @@ returns-then-self-eq0 c =
 pub epoch_at-requires : goal.epoch_at-requires
 epoch_at-requires c = shape_fits _ _ c.args.self.now.read
 
-pub saturated_value-requires : goal.saturated_value-requires
-saturated_value-requires c =
-    rw c.epoch_at.ensures (shape_fits _ _ c.args.self.now.read).epoch_is
-
 pub returns : goal.returns
 returns c =
     let value = rw (ne_eqb _ 0 c.if-self-eq0.false) at

@@ -4,7 +4,7 @@ use Rattle.std.specs.Ordering.{is_ge}
 use Rattle.std.specs.declared.cmp.Ordering.TheVariants.{Less}
 use Rattle.version_rules.specs.key.Key.{key_of, key_bytes}
 use Rattle.version_order.specs.keys.Lists.{bytes_cmp}
-use Rattle.version_texts.specs.versioning_ref.VersioningRef.{plain_versioning_ref}
+use Rattle.version_texts.specs.VersioningRef.{plain_versioning_ref}
 use Rattle.version_texts.proofs.lemmas.versioning_ref.VersioningRef.{kind-is}
 use Rattle.version_texts.proofs.versioning_ref.VersioningRef.is_in.Answers.InRange.{from_low, ge_is, less_is, not_of_kind, too_high}
 use Rattle.version_texts.proofs.versioning_ref.VersioningRef.is_in.Goals as goal

@@ -1,4 +1,4 @@
-use Rattle.version_texts.proofs.lemmas.versioning_ref.VersioningRef.{key-is, shape_fits}
+use Rattle.version_texts.proofs.lemmas.versioning_ref.VersioningRef.{shape_fits}
 use Rattle.version_texts.proofs.versioning_ref.VersioningRef.precedence.Goals as goal
 
 pub compare-requires-clause-a_fits : goal.compare-requires-clause-a_fits
@@ -6,6 +6,3 @@ compare-requires-clause-a_fits c = shape_fits _ _ c.args.self.now.read
 
 pub compare-requires-clause-b_fits : goal.compare-requires-clause-b_fits
 compare-requires-clause-b_fits c = shape_fits _ _ c.args.other.now.read
-
-pub returns : goal.returns
-returns c = rw (key-is _ _ c.args.self.now.read, key-is _ _ c.args.other.now.read) c.compare.ensures

@@ -1,5 +1,5 @@
 use Rattle.std.proofs.Common.{◌≡◌, length}
-use Rattle.version_texts.specs.versioning_ref.Numbers.{section_in}
+use Rattle.version_texts.specs.VersioningRef.{section_in}
 use Rattle.version_texts.proofs.versioning_ref.numbers.section.Given as goal
 
 -- a colon follows each section so far

@@ -6,9 +6,9 @@ use Rattle.std.specs.declared.cmp.Ordering.TheVariants.{Equal}
 use Rattle.version_order.specs.texts.Bytes.{dot}
 use Rattle.version_rules.specs.key.PartKey.{PartKey, list_cmp, part_key}
 use Rattle.version_rules.specs.laws.Part.{list_total, part_total}
-use Rattle.version_texts.proofs.lemmas.scan.Splits.{split-append}
+use Rattle.version_texts.proofs.lemmas.scan.Spelled.{split-append}
 use Rattle.version_order.specs.texts.Pieces.{is_dot, pieces}
-use Rattle.version_texts.specs.key.TextKey.{parts_of}
+use Rattle.version_texts.specs.Key.{parts_of}
 
 -- a common front of two lists does not count
 fronts_passed : (ks xs ys : List PartKey) → list_cmp (ks ++ xs) (ks ++ ys) ≡ list_cmp xs ys

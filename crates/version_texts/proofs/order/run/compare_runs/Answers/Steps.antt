@@ -11,9 +11,8 @@ use Rattle.version_order.specs.keys.Lists.{bytes_cmp}
 use Rattle.version_order.proofs.lemmas.Runs.{run_cons, run_none, begins_within, at_byte}
 
 unequal_first : (o more : Ordering) → o ≢ Equal → ordering_then o more ≡ o
-unequal_first Less more other = refl
 unequal_first Equal more other = absurd (other refl)
-unequal_first Greater more other = refl
+unequal_first o more other = refl
 
 -- the slice from a place on
 pub slice_from : (x : List ℕ) (n : ℕ) → take (length x - n) (drop n x) ≡ drop n x

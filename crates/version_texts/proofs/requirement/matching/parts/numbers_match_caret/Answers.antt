@@ -1,13 +1,8 @@
 use Rattle.std.proofs.Common.{◌∙◌, ap, sym}
 use Rattle.std.specs.Ordering.{is_eq, is_ge}
-use Rattle.version_texts.proofs.lemmas.order.Parts.{chain, parts_begin, refused}
-use Rattle.version_texts.proofs.lemmas.order.Parts.Strict.{caret_differs, caret_of_major, caret_of_zero}
+use Rattle.version_texts.proofs.lemmas.order.Piece.{parts_begin}
+use Rattle.version_texts.proofs.lemmas.requirement.Matching.{caret_of_major}
 use Rattle.version_texts.proofs.requirement.matching.parts.numbers_match_caret.Goals as goal
-
-pub returns-then-begins_with_zero : goal.returns-then-begins_with_zero
-returns-then-begins_with_zero c w v wanted_is numbers_are =
-    let zero = sym c.begins_with_zero.ensures ∙ c.if-begins_with_zero.true in
-    chain c.parts_match_caret.ensures (caret_of_zero _ _ _ _ w v wanted_is numbers_are zero)
 
 pub returns-then-is_eq : goal.returns-then-is_eq
 returns-then-is_eq c w v wanted_is numbers_are =
@@ -21,11 +16,3 @@ returns-then-is_eq c w v wanted_is numbers_are =
       parts_begin c.args.numbers.0.now,
     )
     both
-
-pub returns-else-is_eq : goal.returns-else-is_eq
-returns-else-is_eq c w v wanted_is numbers_are =
-    let other = sym c.begins_with_zero.ensures ∙ c.if-begins_with_zero.false in
-    let differ = sym (c.is_eq.ensures ∙ ap is_eq c.compare_first.ensures)
-    ∙ c.if-is_eq.false in
-    let none = caret_differs _ _ _ _ w v wanted_is numbers_are other differ in
-    rw c.if-is_eq.false (refused none)

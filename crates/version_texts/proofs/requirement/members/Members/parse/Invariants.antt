@@ -1,6 +1,6 @@
 use Rattle.std.proofs.Common.{◌≡◌, length}
 use Rattle.std.specs.Option.{is_some}
-use Rattle.version_texts.specs.requirement.Members.{list_of, pieces_of}
+use Rattle.version_texts.specs.Requirement.{list_of, pieces_of}
 use Rattle.version_texts.proofs.requirement.members.Members.parse.Given as goal
 
 -- the pieces so far parse, and those that are left decide

@@ -1,19 +1,7 @@
 use Rattle.std.proofs.Common.{Some, ◌∙◌, ap, rules}
 use Rattle.version_texts.proofs.lemmas.requirement.RangeRef.{behind_fails, both_parse, front_fails}
-use Rattle.version_texts.specs.requirement.RangeRef.{plain_range_ref}
+use Rattle.version_texts.specs.Range.{plain_range_ref}
 use Rattle.version_texts.proofs.requirement.range_ref.RangeRef.+from_bytes.Goals as goal
-
-pub returns-in_err-range : goal.returns-in_err-range
-returns-in_err-range t c =
-    (search rules)
-    ∙ front_fails c.args.list.now c.in-Some.front.now c.in-Some.behind.now c.in-Some.ensures
-    c.in_err-range.ensures
-
-pub returns-in_err-from_bytes : goal.returns-in_err-from_bytes
-returns-in_err-from_bytes t c =
-    (search rules)
-    ∙ behind_fails c.args.list.now c.in-Some.front.now c.in-Some.behind.now c.in-Some.ensures
-    c.in_err-from_bytes.ensures
 
 pub returns : goal.returns
 returns t c =

@@ -1,6 +1,5 @@
-use Rattle.version_texts.specs.requirement.RequirementRef.{plain_requirement_ref}
-use Rattle.version_texts.specs.requirement.RequirementsRef.{from_second}
-use Rattle.version_texts.specs.versioning_ref.VersioningRef.{plain_versioning_ref}
+use Rattle.version_texts.specs.Requirement.{plain_requirement_ref, from_second}
+use Rattle.version_texts.specs.VersioningRef.{plain_versioning_ref}
 use Rattle.version_rules.proofs.lemmas.Requirement.{first_asks, first_asks_not}
 use Rattle.version_texts.proofs.requirement.requirements_ref.RequirementsRef.matches.Goals as goal
 

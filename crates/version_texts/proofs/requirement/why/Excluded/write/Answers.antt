@@ -1,5 +1,5 @@
 use Rattle.std.proofs.Common.{arith}
-use Rattle.version_texts.proofs.lemmas.requirement.MemberPlace.{member_within}
+use Rattle.version_texts.proofs.lemmas.requirement.Members.{member_within}
 use Rattle.version_texts.proofs.requirement.why.Excluded.write.Goals as goal
 
 pub text_between-member-requires-clause-within : goal.text_between-member-requires-clause-within

@@ -2,7 +2,7 @@
 use Rattle.std.proofs.Common.{◌≡◌, ◌↔◌, ◌∙◌, ℕ, Bool, true, false, List, Option, IfSome, IsTrue, ap, refl, subst, sym}
 use Rattle.std.specs.Ordering.{is_ge}
 use Rattle.std.specs.declared.cmp.Ordering.{Ordering}
-use Rattle.std.specs.declared.cmp.Ordering.TheVariants.{Less, Equal, Greater}
+use Rattle.std.specs.declared.cmp.Ordering.TheVariants.{Less}
 use Rattle.version_order.specs.keys.Lists.{bytes_cmp}
 use Rattle.version_rules.specs.declared.kind.Kind.{Kind}
 use Rattle.version_rules.specs.declared.kinds.Kinds.{Kinds}
@@ -10,13 +10,11 @@ use Rattle.version_rules.specs.requirement.Range.{AreBetween, has_kind}
 
 pub ge_is : (o : Ordering) → IsTrue (is_ge o) ↔ (¬ (o ≡ Less))
 ge_is Less = (λ e. cc e, λ above. absurd (above refl))
-ge_is Equal = (λ e less. cc less, λ above. refl)
-ge_is Greater = (λ e less. cc less, λ above. refl)
+ge_is o = (λ e less. cc less, λ above. refl)
 
 pub less_is : (o : Ordering) → false ≡ is_ge o → o ≡ Less
 less_is Less below = refl
-less_is Equal below = cc below
-less_is Greater below = cc below
+less_is o below = cc below
 
 module _ (low bytes : List ℕ) (high : Option (List ℕ)) (kinds : Kinds) (shape_kind kind : Kind)
     (same : shape_kind ≡ kind) where

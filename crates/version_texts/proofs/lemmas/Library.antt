@@ -1,0 +1,19 @@
+-- Lemmas of other crates by names that an attribute can write.
+use Rattle.version_order.proofs.lemmas.Front.Runs.{take_while-all, list_all-take_while}
+use Rattle.std.proofs.Common.{append-nil, length-append}
+use Rattle.std.proofs.lemmas.List.{length-take-le}
+use Rattle.std.proofs.lemmas.Bool.{eq-eqb, lt-ltb}
+
+pub ruleset all_taken = (take_while-all)
+
+pub ruleset taken_pass = (list_all-take_while)
+
+pub ruleset append_nil = (append-nil)
+
+pub ruleset length_append = (length-append)
+
+pub ruleset length_taken = (length-take-le)
+
+pub ruleset same_told = (eq-eqb)
+
+pub ruleset less_told = (lt-ltb)

@@ -1,4 +1,0 @@
--- Borrowed lists of requirements.
-
-pub mod MajorText
-pub mod Members

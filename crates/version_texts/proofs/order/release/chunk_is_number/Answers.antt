@@ -1,8 +1,0 @@
-use Rattle.std.proofs.Common.{sym}
-use Rattle.version_texts.proofs.lemmas.order.Piece.{digits_alone}
-use Rattle.version_texts.proofs.order.release.chunk_is_number.Goals as goal
-
-pub returns : goal.returns
-returns c =
-    sym (digits_alone c.args.text.now c.split_run.result.1.now c.split_run.ensures.rest
-    c.piece_is_empty.result c.piece_is_empty.ensures)

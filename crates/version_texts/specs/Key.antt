@@ -1,0 +1,110 @@
+-- The parts of texts, and the key of a version, read off its text by its shape.
+use Rattle.std.specs.Prelude.{◌&&◌, ℕ, Bool, false, not, List, [], ◌∷◌, ◌++◌, map, if◌then◌else◌, Option, Some, None, ◌+◌, ◌*◌}
+use Rattle.std.specs.Char.{is_ascii_digit}
+use Rattle.version_order.specs.texts.Sep.{is_sep}
+use Rattle.version_order.specs.texts.Class.{is_mark}
+use Rattle.version_texts.specs.declared.order.delimiters.Delimiters.{Delimiters}
+use Rattle.version_texts.specs.declared.order.delimiters.Delimiters.TheVariants.{Dots, Marks}
+use Rattle.version_texts.specs.declared.order.delimiters.Run.{Run}
+use Rattle.version_texts.specs.declared.order.delimiters.Run.TheVariants.{Part, Word}
+use Rattle.version_order.specs.texts.Pieces.{is_dot, pieces, behind_piece, first_piece, further_pieces}
+use Rattle.std.specs.List.{list_all, slice_split}
+use Rattle.std.specs.Str.Parse.{digits_value}
+use Rattle.version_rules.specs.grammar.Chunk.{PlainChunk, Numeric, Alphanum}
+use Rattle.version_order.specs.keys.NumberBytes.{number_bytes}
+use Rattle.version_rules.specs.key.PartKey.{PartKey, part_key, parts_bytes}
+use Rattle.version_rules.specs.key.Key.{Key}
+use Rattle.version_rules.specs.key.Tail.{Tail}
+use Rattle.version_texts.specs.declared.scan.shape.Shape.{Shape}
+use Rattle.version_texts.specs.declared.scan.shape.TailKind.{TailKind}
+use Rattle.version_texts.specs.declared.scan.shape.TailKind.TheVariants.{PreRelease, Nothing, Release, Sections}
+use Rattle.version_texts.specs.Scan.{body_in, epoch_in, tail_in}
+use Rattle.version_rules.specs.key.Tail as tail
+use Rattle.std.specs.Borrow.{Bor}
+
+-- ---- the first piece of a text that dots divide, and what follows it
+
+-- whether a byte ends a part, and whether it ends a section too
+abbrev pub delimits : Delimiters → ℕ → Bool
+delimits Dots b = is_dot b
+delimits Marks b = is_mark b
+
+abbrev pub sign_of : Delimiters → ℕ → Bool
+sign_of Dots b = false
+sign_of Marks b = is_sep b
+
+-- whether a byte is of a run: it ends no part, and is no digit in what stands before the first one
+abbrev pub in_run : Run → ℕ → Bool
+in_run (Part ends) b = not (delimits ends b)
+in_run (Word ends) b = not (delimits ends b) && not (is_ascii_digit b)
+
+-- ---- the key of a version, read off its text by its shape
+
+-- the parts of a body or of a section
+abbrev pub parts_of : List ℕ → List PartKey
+parts_of text = map part_key (pieces text)
+
+-- the chunk of a piece of a release: digits are a number
+abbrev pub chunk_of : List ℕ → PlainChunk
+chunk_of text =
+    if list_all is_ascii_digit text then Numeric (digits_value 10 text) else Alphanum text
+
+-- the chunks of a release
+abbrev pub chunks_of : List ℕ → List PlainChunk
+chunks_of text = map chunk_of (pieces text)
+
+-- the parts of each section of a text, between its signs
+abbrev pub sections_of : List ℕ → List (List PartKey)
+sections_of text = map parts_of (slice_split is_sep text)
+
+-- the same, where signs divide sections if they end parts
+abbrev pub lists_of : Delimiters → List ℕ → List (List PartKey)
+lists_of ends text = map parts_of (slice_split (sign_of ends) text)
+
+-- the tail of one section or more
+abbrev pub tail_of_sections : List (List PartKey) → Tail
+tail_of_sections [] = tail.Bare
+tail_of_sections (first ∷ more) = tail.Sections first more
+
+-- the tail of a kind, from its text
+abbrev pub tail_of : TailKind → List ℕ → Tail
+tail_of PreRelease text = tail.PreReleased (chunks_of text)
+tail_of Nothing text = tail.Bare
+tail_of Release text = tail.Released (chunks_of text)
+tail_of Sections text = tail_of_sections (sections_of text)
+
+-- the key of the version that a text holds: the value of its epoch, the parts of its body, and its
+-- tail
+abbrev pub text_key : List ℕ → Shape → Key
+text_key text s =
+    record {
+      epoch =
+          digits_value 10 (epoch_in text s);
+      body =
+          parts_of (body_in text s);
+      tail = tail_of s.tail (tail_in text s);
+    }
+
+-- the bytes of a key before its tail
+abbrev pub front_bytes : Key → List ℕ
+front_bytes k = number_bytes k.epoch ++ parts_bytes k.body
+
+-- ---- the parts of a text by its first piece, and those of a text that may be missing
+
+-- the parts of a text; none without a text
+abbrev pub parts_behind : Option (Bor (List ℕ)) → List PartKey
+parts_behind None = []
+parts_behind (Some text) = parts_of text.now
+
+-- the first part of a text, and those after it
+abbrev pub first_part : List ℕ → PartKey
+first_part text = part_key (first_piece text)
+
+abbrev pub more_parts : List ℕ → List PartKey
+more_parts text = map part_key (further_pieces is_dot (behind_piece text))
+
+-- ---- how long a key may be
+
+-- a size that is enough for the key of any text of a length
+abbrev pub room_for : ℕ → ℕ
+room_for len = len * 3 + 5

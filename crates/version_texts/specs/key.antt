@@ -1,3 +1,0 @@
-pub mod KeyRoom
-pub mod KeyTies
-pub mod TextKey

@@ -1,4 +1,0 @@
-pub mod Difference
-pub mod Parts
-pub mod Piece
-pub mod Ties

@@ -1,2 +1,0 @@
-pub mod Shape
-pub mod TextKind
