@@ -286,7 +286,8 @@ fn compare_runs<'t>(x: &'t [u8], y: &'t [u8]) -> Compared<'t>
     }
 }
 
-// Writes the bytes of an upstream version or a revision.
+// Writes the bytes of an upstream version or a revision. Inlined, so that a sink's fields stay in registers.
+#[inline(always)]
 fn put_part<S: Sink>(sink: &mut S, text: &[u8])
     requires text { list_all is_of_upstream text.now ≡ true }
     requires fits { S.fits sink.old (part_bytes (part_of text.now)) }

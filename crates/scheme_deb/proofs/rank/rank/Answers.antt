@@ -1,4 +1,4 @@
-use Rattle.std.proofs.Common.{◌≡◌, ◌<◌, ◌∙◌, ◌==◌, ℕ, Bool, List, Some, arith, get_or, if◌then◌else◌, map, refl, true}
+use Rattle.std.proofs.Common.{◌≡◌, ◌<◌, ◌∙◌, ℕ, Some, arith, get_or, if◌then◌else◌, refl, true}
 use Rattle.version_order.proofs.lemmas.Tables.{table_at}
 use Rattle.scheme_deb.specs.Order.{rank as rank_of}
 use Rattle.scheme_deb.specs.Texts.{is_of_upstream}
