@@ -2,6 +2,7 @@
 #![tactic(auto)]
 
 mod laws;
+mod rank;
 mod sets;
 mod version;
 mod viable;

@@ -12,13 +12,14 @@ ghost use Rattle.version_order.specs.texts.Cuts.{cut_first};
 ghost use Rattle.scheme_deb.specs.Order.{byte_cmp, byte_code, deb_bytes, deb_cmp, part_bytes, part_cmp, rank};
 ghost use Rattle.scheme_deb.specs.Texts.{behind_epoch, deb_of, is_of_revision, is_of_upstream, is_revision, is_run, is_upstream, part_of};
 
+use crate::rank::{END, rank};
 use crate::sets::{OfRevision, OfUpstream};
 use crate::viable::left_of_deb;
 use std::cmp::Ordering;
 use version_order::{
     Beside, Class, Compared, Facts, Kept, Operators, SchemeVersion, Sink, are_of, begins_with,
     common_length, compare_if_numbers, compare_numbers, cut_last, put_number, run_start,
-    split_epoch, split_set,
+    split_byte, split_epoch, split_set,
 };
 
 /// The largest epoch.
@@ -127,6 +128,7 @@ impl<'t> Deb<'t> {
     }
 
     /// Compares it with another version.
+    #[inline(always)]
     pub fn compare(&self, other: &Deb<'_>) -> Ordering
         ensures { result ≡ deb_cmp (plain_deb self.now) (plain_deb other.now) }
     {
@@ -152,24 +154,6 @@ fn is_revision(text: &[u8]) -> bool
     !text.is_empty() && are_of::<OfRevision>(text)
 }
 
-// The rank of the end of a run.
-const END: u8 = 2;
-
-// Returns the rank of a byte of a run: a tilde before the end of the run, letters behind it, and then all else.
-#[inline(always)]
-fn rank(byte: u8) -> u8
-    requires { is_of_upstream byte ≡ true }
-    ensures { result ≡ rank (Some byte) }
-{
-    if byte == b'~' {
-        1
-    } else if byte.is_ascii_alphabetic() {
-        byte
-    } else {
-        byte + 128
-    }
-}
-
 // Returns the byte of a run that a text begins with, and the rest, or None if it is empty or begins with a digit.
 #[inline(always)]
 fn split_run_byte(text: &[u8]) -> Option<(u8, &[u8])>
@@ -193,8 +177,37 @@ fn compare_epochs(x: &[u8], y: &[u8]) -> Ordering
     compare_numbers(x, y).order
 }
 
-// Compares two upstream versions or revisions.
+// Compares two upstream versions or revisions. Mostly both begin with one digit.
+#[inline(always)]
 fn compare_parts(x: &[u8], y: &[u8]) -> Ordering
+    requires x { list_all is_of_upstream x.now ≡ true }
+    requires y { list_all is_of_upstream y.now ≡ true }
+    ensures { result ≡ part_cmp (part_of x.now) (part_of y.now) }
+{
+    match compare_digits(x, y) {
+        Some(order) => order,
+        None => compare_whole(x, y),
+    }
+}
+
+// Compares two upstream versions or revisions that begin with a digit alone each, if these differ.
+#[inline(always)]
+fn compare_digits(x: &[u8], y: &[u8]) -> Option<Ordering>
+    ensures { IfSome result (λ order. order ≡ part_cmp (part_of x.now) (part_of y.now)) }
+{
+    let (digit, rest) = split_byte(x, Class::Digit)?;
+    let (other, other_rest) = split_byte(y, Class::Digit)?;
+    if digit == other {
+        return None;
+    }
+    if begins_with(rest, Class::Digit) || begins_with(other_rest, Class::Digit) {
+        return None;
+    }
+    Some(digit.cmp(&other))
+}
+
+// Compares two upstream versions or revisions of any form.
+fn compare_whole(x: &[u8], y: &[u8]) -> Ordering
     requires x { list_all is_of_upstream x.now ≡ true }
     requires y { list_all is_of_upstream y.now ≡ true }
     ensures { result ≡ part_cmp (part_of x.now) (part_of y.now) }
@@ -273,7 +286,8 @@ fn compare_runs<'t>(x: &'t [u8], y: &'t [u8]) -> Compared<'t>
     }
 }
 
-// Writes the bytes of an upstream version or a revision.
+// Writes the bytes of an upstream version or a revision. Inlined, so that a sink's fields stay in registers.
+#[inline(always)]
 fn put_part<S: Sink>(sink: &mut S, text: &[u8])
     requires text { list_all is_of_upstream text.now ≡ true }
     requires fits { S.fits sink.old (part_bytes (part_of text.now)) }

@@ -1,2 +1,3 @@
 pub mod Any
+pub mod Front
 pub mod Table

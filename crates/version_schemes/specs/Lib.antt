@@ -1,3 +1,4 @@
 pub mod Flaw
+pub mod Front
 pub mod Scheme
 pub mod any

@@ -141,11 +141,11 @@ impl<'t> AnyVersion<'t> {
     {
         match self {
             AnyVersion::Mixed(version) => version.append_key(list),
-            AnyVersion::Deb(_, version) => append_key(version, list),
-            AnyVersion::Rpm(_, version) => append_key(version, list),
-            AnyVersion::Pypi(_, version) => append_key(version, list),
-            AnyVersion::SemVer(_, version) => append_key(version, list),
-            AnyVersion::Gem(_, version) => append_key(version, list),
+            AnyVersion::Deb(text, version) => append_key(version, text, list),
+            AnyVersion::Rpm(text, version) => append_key(version, text, list),
+            AnyVersion::Pypi(text, version) => append_key(version, text, list),
+            AnyVersion::SemVer(text, version) => append_key(version, text, list),
+            AnyVersion::Gem(text, version) => append_key(version, text, list),
         }
     }
 }

@@ -4,6 +4,7 @@ ghost use Rattle.std.specs.Prelude.{◌≡◌, ◌+◌, ◌≤◌, ◌++◌, Non
 ghost use Rattle.std.specs.Option.{option_map};
 ghost use Rattle.version_order.specs.keys.Sinks.{put_at, saturated, IsWritten};
 
+use crate::front::Front;
 use std::alloc::AllocError;
 use version_order::{Count, Room, SchemeVersion, most_key_bytes};
 
@@ -53,10 +54,61 @@ fn write_if_it_fits<'t, V: SchemeVersion<'t>>(version: &V, room: &mut [u8], star
     end
 }
 
-/// Appends the key of a version to a list. `Err` means allocation failure; the list is then unchanged. Never inlined, so
-/// that the call for the scheme mixed is.
+/// Appends the key of a version to a list. The room is that of keys of a text, which is to be that of the version.
+/// `Err` means allocation failure; the list is then unchanged. Never inlined, so that the call for the scheme mixed is.
 #[inline(never)]
 pub(crate) fn append_key<'t, V: SchemeVersion<'t>>(
+    version: &V,
+    text: &[u8],
+    list: &mut Vec<u8>,
+) -> Result<(), AllocError>
+    ensures ok { OnOk result (list.new.items ≡ list.old.items ++ (V.plain version.now).key) }
+    ensures err { OnErr result (list.new.items ≡ list.old.items) }
+{
+    let start = list.len();
+    let size = start.saturating_add(most_key_bytes::<V>(text.len()));
+    if text.len() > LONGEST_WITH_ROOM || size == usize::MAX {
+        return append_counted(version, list);
+    }
+    list.resize(size, 0)?;
+    match write_front(version, list.as_mut_slice(), start) {
+        Some(end) => {
+            list.truncate(end);
+            Ok(())
+        }
+        None => {
+            list.truncate(start);
+            append_counted(version, list)
+        }
+    }
+}
+
+// Up to this length a text is given all the room that its key may need, and its key is written once.
+const LONGEST_WITH_ROOM: usize = 256;
+
+// Writes the key of a version into a buffer from a place on, as far as it fits, and returns the place after it, or None
+// where it doesn't fit.
+#[inline(always)]
+fn write_front<'t, V: SchemeVersion<'t>>(
+    version: &V,
+    room: &mut [u8],
+    start: usize,
+) -> Option<usize>
+    requires { start ≤ length room.old }
+    ensures bytes { room.new ≡ put_at room.old start (V.plain version.now).key }
+    ensures end { IfSome result (λ end. (end ≡ start + length (V.plain version.now).key) × (end ≤ length room.old)) }
+{
+    let mut front = Front {
+        room,
+        end: start,
+        is_over: false,
+    };
+    version.put_key(&mut front);
+    if front.is_over { None } else { Some(front.end) }
+}
+
+// Appends the key of a version, whose bytes are counted first.
+fn append_counted<'t, V: SchemeVersion<'t>>(
     version: &V,
     list: &mut Vec<u8>,
 ) -> Result<(), AllocError>

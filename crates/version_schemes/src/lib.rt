@@ -4,6 +4,7 @@
 
 mod any;
 mod flaw;
+mod front;
 mod key;
 mod laws;
 mod scheme;

@@ -1,8 +1,10 @@
 -- Upstream versions and revisions that begin alike.
-use Rattle.std.proofs.Common.{◌≡◌, ◌∙◌, ◌<◌, ◌≤◌, ◌-◌, ◌++◌, ◌∷◌, [], ℕ, zero, suc, List, false, true, ap, arith, drop, get_or, inl, inr, length, refl, sym, take}
+use Rattle.std.proofs.Common.{◌≡◌, ◌∙◌, ◌<◌, ◌≤◌, ◌+◌, ◌-◌, ◌*◌, ◌++◌, ◌∷◌, [], ℕ, zero, suc, List, false, true, ap, arith, drop, get_or, inl, inr, length, refl, sym, take}
 use Rattle.std.proofs.lemmas.Bool.{cases_Bool}
+use Rattle.std.proofs.lemmas.Bool.Decides.{nat_tests}
 use Rattle.std.proofs.lemmas.Cmp.{nat_cmp_total, nat_list_cmp_total, tied_itself}
-use Rattle.std.specs.Char.{is_ascii_digit}
+use Rattle.std.proofs.lemmas.Map.Lookups.{exact_unsigned}
+use Rattle.std.specs.Char.{digit_value, is_ascii_digit}
 use Rattle.std.specs.List.{take_while}
 use Rattle.std.specs.Ordering.{nat_cmp, ordering_then}
 use Rattle.std.specs.Str.Parse.{digits_value}
@@ -42,6 +44,13 @@ from_numbers x y digit other =
     by_numbers x y x y Equal (nat_cmp (run_value x) (run_value y))
     (sym (λ i. ended_cmp byte_cmp (one.0 i) (two.0 i))) refl (sym one.1) (sym two.1) refl
 
+-- a digit alone
+one_digit : (d : ℕ) (rest x : List ℕ) → (x ≡ d ∷ rest) × (is_ascii_digit d ≡ true)
+    → starts_with_digit rest ≡ false → take_while is_ascii_digit x ≡ d ∷ []
+one_digit d rest x here last =
+    ap (take_while is_ascii_digit) here.0 ∙ (run_cons is_ascii_digit d rest here.1).0
+    ∙ ap (λ (l : List ℕ). d ∷ l) (no_run is_ascii_digit rest last).0
+
 no_run_first : (text : List ℕ) → starts_with_digit text ≡ true → begins is_run text ≡ false
 no_run_first [] digit = refl
 no_run_first (byte ∷ text) digit = rw digit refl
@@ -53,6 +62,20 @@ numbers_decide x y o digit other e differ =
     sym (from_numbers x y (no_run_first x digit) (no_run_first y other)
     ∙ ap (λ (n : Ordering). ordering_then n (texts_cmp (behind_digits x) (behind_digits y))) (sym e)
     ∙ settled o _ differ)
+
+-- and so do digits that differ, where no more follow
+pub digits_decide : (d e : ℕ) (u v x y : List ℕ) → (x ≡ d ∷ u) × (is_ascii_digit d ≡ true)
+    → starts_with_digit u ≡ false → (y ≡ e ∷ v) × (is_ascii_digit e ≡ true) → starts_with_digit v ≡ false
+    → ¬ (d ≡ e) → nat_cmp d e ≡ texts_cmp x y
+digits_decide d e u v x y here last there other_last differ =
+    let is_digit = here.1 in
+    let is_too = there.1 in
+    let values : nat_cmp d e ≡ nat_cmp (0 * 10 + digit_value d) (0 * 10 + digit_value e) = grind (arith, nat_tests) in
+    let numbers : nat_cmp d e ≡ nat_cmp (run_value x) (run_value y) =
+    values ∙ (λ i. nat_cmp (digits_value 10 (sym (one_digit d u x here last) i))
+    (digits_value 10 (sym (one_digit e v y there other_last) i))) in
+    numbers_decide x y (nat_cmp d e) (ap starts_with_digit here.0 ∙ here.1) (ap starts_with_digit there.0 ∙ there.1)
+    numbers (λ tie. differ (exact_unsigned d e tie))
 
 -- the same digits don't count
 same_digits : (x y : List ℕ) → begins is_run x ≡ false → begins is_run y ≡ false

@@ -1,45 +1,70 @@
-use Rattle.std.proofs.Common.{rules, ◌≡◌, ◌∙◌, ◌+◌, ◌-◌, ◌≤◌, ◌^◌, ◌++◌, ℕ, [], ap, append-nil, arith, drop, length, refl, replicate, sym, take}
-use Rattle.std.proofs.lemmas.List.{length-take, take_all}
+use Rattle.std.proofs.Common.{rules, ◌≡◌, ◌∙◌, ◌+◌, ◌-◌, ◌≤◌, ◌++◌, List, ℕ, OnErr, OnOk, ap, arith, length, refl, replicate, subst, sym, take}
 use Rattle.version_order.proofs.lemmas.Sinks.{appended}
-use Rattle.version_order.specs.keys.Sinks.{put_at, saturated}
+use Rattle.version_order.specs.keys.Sinks.{put_at}
+use Rattle.version_schemes.proofs.lemmas.Front.{taken_back}
 use Rattle.version_schemes.proofs.key.append_key.Goals as goal
 
--- a count that is not the largest number is the count
-unsaturated : (m n : ℕ) → n ≡ saturated m → ¬ (n ≡ 2 ^ 64 - 1) → n ≡ m
-unsaturated m n is other = omega (arith, is, other)
+pub write_front-requires : goal.write_front-requires
+write_front-requires g c κs =
+    let last : c.len-start.result ≡ length c.args.list.now.items = search rules in (
+      (refl, tt),
+      omega (
+        arith,
+        last,
+        c.saturating_add-size.ensures,
+        c.if-size.false,
+        c.as_mut_slice.ensures.len,
+        c.in_ok-resize.ensures.len,
+      ),
+    )
 
-pub write_whole-requires : goal.write_whole-requires
-write_whole-requires g c κs =
+pub returns-in-Some-clause-ok : goal.returns-in-Some-clause-ok
+returns-in-Some-clause-ok g c =
     let old = c.args.list.now.items in
     let bytes = (g.V.SchemeVersion.plain c.args.version.now).key in
-    let last : c.len-start.result ≡ length old = search rules in
-    let whole : c.length-end.result ≡ length old + length bytes =
-    unsaturated (length old + length bytes) c.length-end.result
-    (c.length-end.ensures ∙ c.put_key.ensures []
-    ∙ (λ i. saturated (last i + length (append-nil bytes i))))
-    c.if-end.false in
-    ((refl, tt), omega (arith, last, whole, c.as_mut_slice.ensures.len, c.in_ok-resize.ensures.len))
-
-pub returns-clause-ok : goal.returns-clause-ok
-returns-clause-ok g c =
-    let old = c.args.list.now.items in
-    let bytes = (g.V.SchemeVersion.plain c.args.version.now).key in
-    let n = c.length-end.result in
+    let n = c.saturating_add-size.result in
     let last : c.len-start.result ≡ length old = search rules in
     let counted : c.args.list.now.len ≡ length old = search rules in
-    let whole : n ≡ length old + length bytes =
-    unsaturated (length old + length bytes) n
-    (c.length-end.ensures ∙ c.put_key.ensures []
-    ∙ (λ i. saturated (last i + length (append-nil bytes i))))
-    c.if-end.false in
-    let room = c.write_whole.new.room in
-    let fits : length old + length bytes ≤ n = omega (arith, whole) in
-    let long : c.resize.new.self.len ≡ n = search rules in
-    let whole_room = room ++ drop (length room) c.resize.new.self.items in
-    sym (take_all n _ (omega (arith, long, length-take c.resize.new.self.len whole_room)))
-    ∙ appended old c.resize.new.self.items room bytes n c.resize.new.self.len n
+    let end = c.in-Some.ensures.end in
+    let fits : length old + length bytes ≤ n =
+    omega (arith, last, end.0, end.1, c.as_mut_slice.ensures.len, c.in_ok-resize.ensures.len) in
+    c.truncate.ensures.items
+    ∙ appended old c.resize.new.self.items c.write_front.new.room bytes n c.resize.new.self.len c.in-Some.end
     (c.in_ok-resize.ensures.items ∙ ap (λ k. take n old ++ replicate (n - k) 0) counted)
-    long
-    (c.write_whole.ensures.bytes
-    ∙ (λ i. put_at (c.as_mut_slice.ensures.value i) (last i) bytes))
-    fits whole
+    (search rules)
+    (c.write_front.ensures.bytes ∙ (λ i. put_at (c.as_mut_slice.ensures.value i) (last i) bytes))
+    fits (omega (arith, last, end.0))
+
+pub returns-in-None-clause-ok : goal.returns-in-None-clause-ok
+returns-in-None-clause-ok g c =
+    let old = c.args.list.now.items in
+    let bytes = (g.V.SchemeVersion.plain c.args.version.now).key in
+    let n = c.saturating_add-size.result in
+    let last : c.len-start.result ≡ length old = search rules in
+    let counted : c.args.list.now.len ≡ length old = search rules in
+    let back : c.truncate-in-None.new.self.items ≡ old =
+    c.truncate-in-None.ensures.items
+    ∙ taken_back old c.resize.new.self.items c.write_front.new.room bytes n c.resize.new.self.len c.len-start.result
+    (c.in_ok-resize.ensures.items ∙ ap (λ k. take n old ++ replicate (n - k) 0) counted)
+    (search rules)
+    (c.write_front.ensures.bytes ∙ (λ i. put_at (c.as_mut_slice.ensures.value i) (last i) bytes))
+    (omega (arith, last, c.saturating_add-size.ensures, c.if-size.false)) last in
+    subst (λ (l : List ℕ). OnOk c.append_counted-in-None.result (c.append_counted-in-None.new.list.items ≡ l ++ bytes)) back
+    c.append_counted-in-None.ensures.ok
+
+pub returns-in-None-clause-err : goal.returns-in-None-clause-err
+returns-in-None-clause-err g c =
+    let old = c.args.list.now.items in
+    let bytes = (g.V.SchemeVersion.plain c.args.version.now).key in
+    let n = c.saturating_add-size.result in
+    let last : c.len-start.result ≡ length old = search rules in
+    let counted : c.args.list.now.len ≡ length old = search rules in
+    let back : c.truncate-in-None.new.self.items ≡ old =
+    c.truncate-in-None.ensures.items
+    ∙ taken_back old c.resize.new.self.items c.write_front.new.room bytes n c.resize.new.self.len c.len-start.result
+    (c.in_ok-resize.ensures.items ∙ ap (λ k. take n old ++ replicate (n - k) 0) counted)
+    (search rules)
+    (c.write_front.ensures.bytes ∙ (λ i. put_at (c.as_mut_slice.ensures.value i) (last i) bytes))
+    (omega (arith, last, c.saturating_add-size.ensures, c.if-size.false)) last in
+    subst (λ (l : List ℕ). OnErr c.append_counted-in-None.result (c.append_counted-in-None.new.list.items ≡ l)) back
+    c.append_counted-in-None.ensures.err

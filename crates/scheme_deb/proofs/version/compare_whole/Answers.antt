@@ -4,7 +4,7 @@ use Rattle.std.specs.List.{list_all}
 use Rattle.version_order.proofs.lemmas.Runs.{all_behind}
 use Rattle.scheme_deb.proofs.lemmas.Front.{common_front, one_text, texts_cmp}
 use Rattle.scheme_deb.specs.Texts.{is_of_upstream}
-use Rattle.scheme_deb.proofs.version.compare_parts.Goals as goal
+use Rattle.scheme_deb.proofs.version.compare_whole.Goals as goal
 
 pub returns-then-common-y : goal.returns-then-common-y
 returns-then-common-y c =
