@@ -4,15 +4,13 @@ use Rattle.std.proofs.lemmas.Bool.{eqb-true}
 use Rattle.std.proofs.lemmas.Bool.Decides.{nat_tests}
 use Rattle.std.specs.FinMap.{IsAntisymmetric, nat_cmp-IsAntisymmetric}
 use Rattle.std.specs.Ordering.{on, ordering_then, then_cmp}
-use Rattle.version_order.proofs.lemmas.Codes.{ended_same, writes_list, writes_on, writes_then}
+use Rattle.version_order.proofs.lemmas.Codes.{ended_same, writes_list, writes_on, writes_then, compares_by_keys, some_key}
 use Rattle.version_order.proofs.lemmas.NumberBytes.{number_writes, some_bytes}
 use Rattle.version_order.proofs.lemmas.Orders.{then_decided}
-use Rattle.version_order.specs.keys.Codes.{Writes}
-use Rattle.version_order.specs.keys.OrderLaws.{then_first, then_second}
+use Rattle.version_order.specs.keys.Codes.{Writes, then_first, then_second}
 use Rattle.version_order.specs.keys.Lists.{bytes_cmp}
 use Rattle.std.specs.Char.{is_ascii_alphabetic}
 use Rattle.std.specs.Option.{is_some}
-use Rattle.version_order.proofs.lemmas.Keyed.{compares_by_keys, some_key}
 use Rattle.version_order.specs.Keyed.{by_key}
 use Rattle.version_order.specs.Rules.{ComparesByKeys}
 use Rattle.version_order.specs.Viable.{IsViable}

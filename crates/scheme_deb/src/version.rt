@@ -326,8 +326,7 @@ fn put_run<'t, S: Sink>(sink: &mut S, text: &'t [u8]) -> &'t [u8]
 
 impl<'t> SchemeVersion<'t> for Deb<'t> {
     ghost use Rattle.std.specs.Ordering.{on};
-    ghost use Rattle.version_order.proofs.lemmas.Codes.{writes_on};
-    ghost use Rattle.version_order.proofs.lemmas.Keyed.{doubled_no_parts};
+    ghost use Rattle.version_order.proofs.lemmas.Codes.{writes_on, doubled_no_parts};
     ghost use Rattle.std.specs.Prelude.{is_some};
     ghost use Rattle.version_order.specs.Facts.{key_room, plain_facts};
     ghost use Rattle.version_order.specs.Keyed.{by_key, AreWithin};

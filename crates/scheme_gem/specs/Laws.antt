@@ -5,16 +5,12 @@ use Rattle.std.proofs.lemmas.Bool.Decides.{nat_tests}
 use Rattle.std.specs.Cmp.{nat_cmp_is}
 use Rattle.std.specs.Ordering.{nat_cmp, ordering_then}
 use Rattle.std.specs.declared.cmp.Ordering.TheVariants.{Less, Greater}
-use Rattle.version_order.proofs.lemmas.Codes.{writes_list}
-use Rattle.version_order.proofs.lemmas.NumberBytes.{number_writes}
-use Rattle.version_order.proofs.lemmas.TextBytes.{text_writes}
-use Rattle.version_order.specs.keys.Codes.{Writes}
-use Rattle.version_order.specs.keys.NumberBytes.{number_bytes}
-use Rattle.version_order.specs.keys.TextBytes.{text_bytes}
-use Rattle.version_order.specs.keys.OrderLaws.{then_first, then_second}
+use Rattle.version_order.proofs.lemmas.Codes.{writes_list, compares_by_keys, some_key}
+use Rattle.version_order.proofs.lemmas.NumberBytes.{number_writes, text_writes}
+use Rattle.version_order.specs.keys.Codes.{Writes, then_first, then_second}
+use Rattle.version_order.specs.keys.NumberBytes.{number_bytes, text_bytes}
 use Rattle.version_order.specs.keys.Lists.{bytes_cmp}
 use Rattle.std.specs.Prelude.{IfSome, codes, is_some}
-use Rattle.version_order.proofs.lemmas.Keyed.{compares_by_keys, some_key}
 use Rattle.version_order.specs.Keyed.{by_key}
 use Rattle.version_order.specs.Rules.{ComparesByKeys}
 use Rattle.version_order.specs.Viable.{IsViable}

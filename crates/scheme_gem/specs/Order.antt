@@ -3,8 +3,7 @@ use Rattle.std.specs.Prelude.{ℕ, List, [], ◌∷◌, ◌++◌, Option, None, 
 use Rattle.std.specs.Ordering.{nat_cmp, ordering_then}
 use Rattle.std.specs.declared.cmp.Ordering.{Ordering}
 use Rattle.version_order.specs.keys.Codes.{list_bytes}
-use Rattle.version_order.specs.keys.NumberBytes.{number_bytes}
-use Rattle.version_order.specs.keys.TextBytes.{text_bytes}
+use Rattle.version_order.specs.keys.NumberBytes.{number_bytes, text_bytes}
 use Rattle.version_order.specs.keys.Lists.{bytes_cmp, ended_cmp}
 
 -- so many zeros, and the segment after them: letters, or a number that is not zero

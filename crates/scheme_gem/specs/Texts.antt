@@ -7,8 +7,7 @@ use Rattle.std.specs.declared.cmp.Ordering.{Ordering}
 use Rattle.version_order.specs.texts.Bytes.{hyphen, is_identifier_byte}
 use Rattle.version_order.specs.texts.DigitRun.{is_digits}
 use Rattle.version_order.specs.texts.Front.{begins}
-use Rattle.version_order.specs.texts.Pieces.{is_dot}
-use Rattle.version_order.specs.texts.Cuts.{cut_first}
+use Rattle.version_order.specs.texts.Cuts.{is_dot, cut_first}
 use Rattle.version_order.specs.Rules.{compared}
 use Rattle.scheme_gem.specs.Order.{Entry, gem_cmp}
 use Rattle.scheme_gem.specs.Segments.{entries_in}

@@ -5,9 +5,8 @@ ghost use Rattle.std.specs.Char.{is_ascii_alphabetic};
 ghost use Rattle.std.specs.List.{list_all};
 ghost use Rattle.std.specs.declared.cmp.Ordering.TheVariants.{Equal};
 ghost use Rattle.version_order.specs.Viable.{IsLongestViable};
-ghost use Rattle.version_order.specs.texts.DigitRun.{run_value};
+ghost use Rattle.version_order.specs.texts.DigitRun.{run_value, behind_digits};
 ghost use Rattle.version_order.specs.texts.Front.{begins};
-ghost use Rattle.version_order.specs.texts.DigitRun.{behind_digits};
 ghost use Rattle.scheme_gem.specs.Next.{HasLetters, entries_from, entry_of};
 ghost use Rattle.scheme_gem.specs.Order.{Letters, Number, entry_bytes, gem_bytes, gem_cmp, rank};
 ghost use Rattle.scheme_gem.specs.Segments.{Word, entries_in, is_lettered, segments_of};
@@ -228,13 +227,11 @@ fn put_zeros<S: Sink>(sink: &mut S, zeros: usize, byte: u8)
 
 impl<'t> SchemeVersion<'t> for Gem<'t> {
     ghost use Rattle.std.specs.Ordering.{on};
-    ghost use Rattle.version_order.proofs.lemmas.Codes.{writes_on};
-    ghost use Rattle.version_order.proofs.lemmas.Keyed.{plain_no_parts};
+    ghost use Rattle.version_order.proofs.lemmas.Codes.{writes_on, plain_no_parts};
     ghost use Rattle.version_order.specs.Keyed.{AreWithin, by_key};
-    ghost use Rattle.scheme_gem.specs.Rules.{plain_gem};
+    ghost use Rattle.scheme_gem.specs.Rules.{plain_gem, gem_facts, gem_rules};
     ghost use Rattle.version_order.specs.Facts.{key_room, plain_facts};
     ghost use Rattle.scheme_gem.specs.Laws.{gem_some, gem_writes};
-    ghost use Rattle.scheme_gem.specs.Rules.{gem_facts, gem_rules};
 
     ghost rules = { gem_rules };
 

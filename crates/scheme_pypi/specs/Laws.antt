@@ -3,13 +3,10 @@ use Rattle.std.proofs.Common.{◌≡◌, ◌++◌, ℕ, List, [], Option, None, 
 use Rattle.std.specs.FinMap.{IsAntisymmetric, nat_cmp-IsAntisymmetric, slice_cmp-IsAntisymmetric}
 use Rattle.std.specs.Option.{option_cmp, is_some}
 use Rattle.std.specs.Ordering.{nat_cmp, ordering_then}
-use Rattle.version_order.proofs.lemmas.Codes.{writes_list, writes_on, writes_then}
-use Rattle.version_order.proofs.lemmas.NumberBytes.{number_writes, some_bytes}
-use Rattle.version_order.proofs.lemmas.TextBytes.{text_writes}
-use Rattle.version_order.specs.keys.Codes.{Writes, list_bytes}
-use Rattle.version_order.specs.keys.OrderLaws.{options_same}
+use Rattle.version_order.proofs.lemmas.Codes.{writes_list, writes_on, writes_then, compares_by_keys, some_key}
+use Rattle.version_order.proofs.lemmas.NumberBytes.{number_writes, some_bytes, text_writes}
+use Rattle.version_order.specs.keys.Codes.{Writes, list_bytes, options_same}
 use Rattle.version_order.specs.keys.Lists.{bytes_cmp, ended_cmp, none_last_cmp}
-use Rattle.version_order.proofs.lemmas.Keyed.{compares_by_keys, some_key}
 use Rattle.version_order.specs.Keyed.{by_key}
 use Rattle.version_order.specs.Rules.{ComparesByKeys}
 use Rattle.version_order.specs.Viable.{IsViable}

@@ -135,8 +135,7 @@ impl<'t> Pypi<'t> {
 impl<'t> SchemeVersion<'t> for Pypi<'t> {
     ghost use Rattle.std.specs.Ordering.{on};
     ghost use Rattle.scheme_pypi.specs.Pypi.{plain_pypi};
-    ghost use Rattle.version_order.proofs.lemmas.Codes.{writes_on};
-    ghost use Rattle.version_order.proofs.lemmas.Keyed.{plain_no_parts};
+    ghost use Rattle.version_order.proofs.lemmas.Codes.{writes_on, plain_no_parts};
     ghost use Rattle.version_order.specs.Facts.{key_room, plain_facts};
     ghost use Rattle.version_order.specs.Keyed.{AreWithin, by_key};
     ghost use Rattle.version_order.specs.Viable.{IsLongestViable};

@@ -5,8 +5,7 @@ use Rattle.std.specs.Ordering.{nat_cmp, on, then_cmp}
 use Rattle.std.specs.declared.cmp.Ordering.{Ordering}
 use Rattle.std.specs.declared.cmp.Ordering.TheVariants.{Equal}
 use Rattle.version_order.specs.keys.Codes.{list_bytes}
-use Rattle.version_order.specs.keys.NumberBytes.{number_bytes}
-use Rattle.version_order.specs.keys.TextBytes.{text_bytes}
+use Rattle.version_order.specs.keys.NumberBytes.{number_bytes, text_bytes}
 use Rattle.version_order.specs.keys.Lists.{bytes_cmp, ended_cmp}
 
 -- a piece of a version or release: a tilde, a caret, a run of letters, or a number

@@ -7,7 +7,7 @@ ghost use Rattle.std.specs.Option.{option_cmp, option_map};
 ghost use Rattle.std.specs.declared.cmp.Ordering.TheVariants.{Equal};
 ghost use Rattle.version_order.specs.texts.DigitRun.{run_value};
 ghost use Rattle.version_order.specs.keys.Codes.{list_bytes};
-ghost use Rattle.version_order.specs.keys.TextBytes.{text_bytes};
+ghost use Rattle.version_order.specs.keys.NumberBytes.{text_bytes};
 ghost use Rattle.version_order.specs.keys.Lists.{bytes_cmp};
 ghost use Rattle.scheme_rpm.specs.Order.{held_bytes, item_bytes, item_cmp, items_cmp, release_bytes, rpm_bytes, rpm_cmp};
 ghost use Rattle.scheme_rpm.specs.Texts.{behind_epoch, byte_rank, first_of, is_version, items_in, rpm_of, Begins};
@@ -321,8 +321,7 @@ fn put_release<S: Sink>(sink: &mut S, release: Option<&[u8]>)
 
 impl<'t> SchemeVersion<'t> for Rpm<'t> {
     ghost use Rattle.std.specs.Ordering.{on};
-    ghost use Rattle.version_order.proofs.lemmas.Codes.{writes_on};
-    ghost use Rattle.version_order.proofs.lemmas.Keyed.{plain_no_parts};
+    ghost use Rattle.version_order.proofs.lemmas.Codes.{writes_on, plain_no_parts};
     ghost use Rattle.std.specs.Prelude.{is_some};
     ghost use Rattle.version_order.specs.Facts.{key_room, plain_facts};
     ghost use Rattle.version_order.specs.Keyed.{by_key, AreWithin};

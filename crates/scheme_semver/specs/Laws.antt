@@ -1,7 +1,7 @@
 -- Keys of SemVer's versions write their order, and none is empty.
 use Rattle.std.proofs.Common.{◌≡◌, ◌++◌, ℕ, List, [], Option, None, Some, refl}
 use Rattle.std.specs.Ordering.{ordering_then}
-use Rattle.version_order.proofs.lemmas.Codes.{writes_on, writes_then}
+use Rattle.version_order.proofs.lemmas.Codes.{writes_on, writes_then, compares_by_keys, some_key}
 use Rattle.version_order.proofs.lemmas.NumberBytes.{number_writes, some_bytes}
 use Rattle.version_rules.proofs.lemmas.Key.{release_writes}
 use Rattle.version_rules.specs.grammar.Chunk.{PlainChunk}
@@ -12,7 +12,6 @@ use Rattle.version_order.specs.keys.Lists.{bytes_cmp, none_last_cmp}
 use Rattle.version_rules.specs.order.Parts.{release_cmp}
 use Rattle.version_rules.specs.order.Kinds.{semver_cmp}
 use Rattle.std.specs.Prelude.{IfSome, codes, is_some}
-use Rattle.version_order.proofs.lemmas.Keyed.{compares_by_keys, some_key}
 use Rattle.version_order.specs.Keyed.{by_key}
 use Rattle.version_order.specs.Rules.{ComparesByKeys}
 use Rattle.version_order.specs.Viable.{IsViable}

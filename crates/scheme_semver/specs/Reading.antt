@@ -5,8 +5,7 @@ use Rattle.std.specs.Option.{is_some}
 use Rattle.version_order.specs.texts.Bytes.{hyphen, plus}
 use Rattle.version_rules.specs.grammar.Chunk.{PlainChunk}
 use Rattle.version_texts.specs.Key.{chunks_of}
-use Rattle.version_order.specs.texts.Pieces.{pieces}
-use Rattle.version_order.specs.texts.Cuts.{cut_first}
+use Rattle.version_order.specs.texts.Cuts.{pieces, cut_first}
 use Rattle.scheme_semver.specs.declared.reader.Section.TheVariants.{PreRelease, Metadata}
 use Rattle.scheme_semver.specs.Texts.{is_number, is_section}
 

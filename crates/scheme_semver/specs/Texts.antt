@@ -12,9 +12,8 @@ use Rattle.version_order.specs.texts.DigitRun.{is_digits}
 use Rattle.version_rules.specs.grammar.SemVer.{PlainSemVer}
 use Rattle.version_rules.specs.order.Kinds.{semver_cmp}
 use Rattle.version_texts.specs.Key.{chunks_of}
-use Rattle.version_order.specs.texts.Pieces.{pieces}
+use Rattle.version_order.specs.texts.Cuts.{pieces, cut_first}
 use Rattle.version_order.specs.texts.Front.{is_run}
-use Rattle.version_order.specs.texts.Cuts.{cut_first}
 use Rattle.version_order.specs.Rules.{compared}
 use Rattle.scheme_semver.specs.declared.reader.Section.{Section}
 use Rattle.scheme_semver.specs.declared.reader.Section.TheVariants.{PreRelease, Metadata}

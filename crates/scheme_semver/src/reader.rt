@@ -3,7 +3,7 @@
 ghost use Rattle.std.specs.Prelude.{◌≡◌, ◌∷◌, false, suc, IfSome, MatchResult, Some, true, ℕ};
 ghost use Rattle.std.specs.Char.{is_ascii_digit};
 ghost use Rattle.std.specs.List.{list_all, take_while};
-ghost use Rattle.version_order.specs.Walks.{IsCut, Stops};
+ghost use Rattle.version_order.specs.Viable.{IsCut, Stops};
 ghost use Rattle.version_order.specs.texts.Bytes.{dot, is_identifier_byte, is_metadata_byte};
 ghost use Rattle.version_order.specs.texts.DigitRun.{behind_digits};
 ghost use Rattle.version_texts.specs.Key.{chunks_of};

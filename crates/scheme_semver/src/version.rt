@@ -6,8 +6,7 @@ ghost use Rattle.std.specs.List.{list_all};
 ghost use Rattle.std.specs.Ordering.{nat_cmp};
 ghost use Rattle.version_order.specs.texts.Bytes.{is_metadata_byte};
 ghost use Rattle.version_order.specs.texts.DigitRun.{run_value};
-ghost use Rattle.version_order.specs.Walks.{IsCut};
-ghost use Rattle.version_order.specs.Viable.{IsLongestViable};
+ghost use Rattle.version_order.specs.Viable.{IsCut, IsLongestViable};
 ghost use Rattle.version_order.specs.keys.Lists.{bytes_cmp, none_last_cmp};
 ghost use Rattle.version_rules.specs.order.Parts.{release_cmp};
 ghost use Rattle.version_rules.specs.order.Kinds.{semver_cmp};
@@ -132,8 +131,7 @@ fn compare_pre_releases(x: Option<&[u8]>, y: Option<&[u8]>) -> Ordering
 
 impl<'t> SchemeVersion<'t> for SemVer<'t> {
     ghost use Rattle.std.specs.Ordering.{on};
-    ghost use Rattle.version_order.proofs.lemmas.Codes.{writes_on};
-    ghost use Rattle.version_order.proofs.lemmas.Keyed.{plain_no_parts};
+    ghost use Rattle.version_order.proofs.lemmas.Codes.{writes_on, plain_no_parts};
     ghost use Rattle.version_order.specs.Facts.{key_room, plain_facts};
     ghost use Rattle.version_order.specs.Keyed.{AreWithin, by_key};
     ghost use Rattle.scheme_semver.specs.Laws.{semver_some, semver_writes};

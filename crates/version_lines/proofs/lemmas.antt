@@ -1,10 +1,7 @@
 pub mod Column
-pub mod Entry
 pub mod FirstOfEach
-pub mod Kept
 pub mod KeyedLines
 pub mod Lines
 pub mod Newest
 pub mod NewestLine
-pub mod Output
 pub mod Sorting

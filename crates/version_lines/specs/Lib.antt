@@ -5,8 +5,5 @@ pub mod Input
 pub mod KeyedLines
 pub mod Lines
 pub mod Newest
-pub mod NewestLine
-pub mod Output
 pub mod Placed
 pub mod Sort
-pub mod Sorting

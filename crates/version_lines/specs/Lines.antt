@@ -1,5 +1,5 @@
 -- The lines of an input, and an output that is made line by line.
-use Rattle.std.specs.Prelude.{ℕ, Bool, false, zero, suc, ◌-◌, List, [], ◌∷◌, ◌++◌, None, length, take, if◌then◌else◌}
+use Rattle.std.specs.Prelude.{ℕ, Bool, false, zero, suc, ◌-◌, List, [], ◌∷◌, ◌++◌, None, length, take, if◌then◌else◌, ◌≡◌, ◌<◌, Option}
 use Rattle.std.specs.List.{flat_map}
 use Rattle.std.specs.Option.{option_map_or}
 use Rattle.version_lines.specs.Csv.{is_quoted, next, stops}
@@ -8,6 +8,7 @@ use Rattle.version_lines.specs.declared.csv.FieldState.TheVariants.{Start}
 use Rattle.version_lines.specs.declared.lines.Answer.{Answer}
 use Rattle.version_lines.specs.declared.lines.Answer.TheVariants.{Line, Text, Nothing}
 use Rattle.version_lines.specs.declared.lines.LineEnd.{LineEnd}
+use Rattle.std.specs.Io.KnownBytes.{Appends}
 
 -- the byte that ends a line where nothing else is asked for
 abbrev pub line_feed : ℕ
@@ -90,3 +91,16 @@ lines_output line_output lines = flat_map line_output lines
 -- the same for the lines of some bytes
 abbrev pub output_by : LineEnd → (List ℕ → List ℕ) → List ℕ → List ℕ
 output_by end line_output input = lines_output line_output (lines_of end input)
+
+-- ---- how much of an output was written
+
+-- known bytes grow by the output, up to the rest that is left
+pub record AppendsUpTo (old new : Option (List ℕ)) (left output : List ℕ) : Type 0 where
+  pub written : List ℕ
+  pub whole : output ≡ written ++ left
+  pub appended : Appends old new written
+
+-- known bytes grow by a proper prefix of the output
+abbrev pub AppendsProperBeginning : Option (List ℕ) → Option (List ℕ) → List ℕ → Type 0
+AppendsProperBeginning old new output =
+    (left : List ℕ) × (0 < length left) × AppendsUpTo old new left output

@@ -1,11 +1,13 @@
 -- The newest lines of each group, and the first of lines that tie.
-use Rattle.std.specs.Prelude.{ℕ, Bool, true, List, [], ◌∷◌, length, nat_lt, if◌then◌else◌}
+use Rattle.std.specs.Prelude.{ℕ, Bool, true, List, [], ◌∷◌, length, nat_lt, if◌then◌else◌, ◌≡◌, Option, None, Some}
 use Rattle.std.specs.List.{filter, position_or_len}
 use Rattle.std.specs.Ordering.{eq_by_cmp, nat_cmp, on, then_cmp}
 use Rattle.std.specs.Str.{bytes_eq}
 use Rattle.std.specs.declared.cmp.Ordering.{Ordering}
-use Rattle.version_lines.specs.Sort.{Reads, lines_precedence}
-use Rattle.version_lines.specs.Sorting.{in_order, turned}
+use Rattle.version_lines.specs.Sort.{Reads, lines_precedence, version_in, in_order, turned}
+use Rattle.std.proofs.Common.{Bor}
+use Rattle.version_schemes.specs.any.AnyVersion.{plain_any}
+use Rattle.version_schemes.specs.declared.any.AnyVersion.{AnyVersion}
 
 -- of some elements after others, each that is the same as fewer than so many of those before it
 abbrev pub first_after : {X : Type 0} → ℕ → (X → X → Bool) → List X → List X → List X
@@ -45,3 +47,20 @@ abbrev pub newest : ℕ → (List ℕ → List ℕ) → Reads → List (List ℕ
 newest count group_of reads lines =
     first_of_each count (are_of_one_group group_of)
     (in_order (newest_cmp group_of reads lines) lines)
+
+-- ---- the newest line, where all lines are of one group
+
+-- the newest of some lines, as a list; of no lines none
+abbrev pub newest_alone : Reads → List (List ℕ) → List (List ℕ)
+newest_alone reads lines = newest 1 (λ line. []) reads lines
+
+-- this is that line, with its version
+abbrev pub IsNewestOf : Reads → List (List ℕ) → Option (Bor (List ℕ) × AnyVersion) → Type 0
+IsNewestOf reads lines None = lines ≡ []
+IsNewestOf reads lines (Some best) = (newest_alone reads lines ≡ best.0.now ∷ [])
+    × (version_in reads best.0.now ≡ Some (plain_any best.1))
+
+-- a line as a list, if there is one
+abbrev pub rows_in : Option (Bor (List ℕ)) → List (List ℕ)
+rows_in None = []
+rows_in (Some line) = line.now ∷ []

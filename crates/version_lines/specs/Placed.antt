@@ -4,7 +4,7 @@ use Rattle.std.specs.Ordering.{nat_cmp, on, then_cmp}
 use Rattle.std.specs.declared.cmp.Ordering.{Ordering}
 use Rattle.version_lines.specs.Entry.{entry_cmp, entry_line}
 use Rattle.version_lines.specs.Newest.{group_place}
-use Rattle.version_lines.specs.Sorting.{turned}
+use Rattle.version_lines.specs.Sort.{turned}
 use Rattle.version_lines.specs.declared.sort.entry.Entry.{Entry}
 use Rattle.version_lines.specs.declared.sort.newest.Placed.{Placed}
 

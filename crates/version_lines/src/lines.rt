@@ -1,8 +1,7 @@
 //! The lines of an input, and outputs in which what is written for a line depends on that line alone.
 ghost use Rattle.std.specs.Prelude.{◌≡◌, ℕ, ◌<◌, ◌≤◌, ◌+◌, List, [], ◌∷◌, ◌++◌, drop, length, take, OnOk, OnErr};
 ghost use Rattle.std.specs.Io.KnownBytes.{Appends};
-ghost use Rattle.version_lines.specs.Lines.{after_line, after_lines, answer_text, ends_quoted, lines_of, output_by, plain_end};
-ghost use Rattle.version_lines.specs.Output.{AppendsProperBeginning, AppendsUpTo};
+ghost use Rattle.version_lines.specs.Lines.{after_line, after_lines, answer_text, ends_quoted, lines_of, output_by, plain_end, AppendsProperBeginning, AppendsUpTo};
 
 use crate::csv::{FieldState, length_before};
 use crate::output::{NotWritten, put_line, write_whole};

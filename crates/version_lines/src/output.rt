@@ -1,8 +1,7 @@
 //! Writing through a buffer.
 ghost use Rattle.std.specs.Prelude.{[], ◌≡◌, ◌+◌, ◌<◌, ◌++◌, length, vec_capacity, vec_len, IfOk, OnOk, OnErr};
 ghost use Rattle.std.specs.Io.KnownBytes.{Appends};
-ghost use Rattle.version_lines.specs.Lines.{labelled_line};
-ghost use Rattle.version_lines.specs.Output.{AppendsProperBeginning, AppendsUpTo};
+ghost use Rattle.version_lines.specs.Lines.{labelled_line, AppendsProperBeginning, AppendsUpTo};
 
 use std::alloc::{AllocError, Global};
 use std::io::Write;

@@ -19,3 +19,15 @@ pub record IsLeft (test : List ℕ → Bool) (text left : List ℕ) : Type 0 whe
   pub viable : IsViable test begun
   pub stuck : (byte : ℕ) (behind : List ℕ) → left ≡ byte ∷ behind → (more : List ℕ)
       → test (begun ++ byte ∷ more) ≡ false
+
+-- ---- where a walk over a text stops
+
+-- what is left of a text after its longest viable beginning, and whether that passes the test
+pub record Stops (test : List ℕ → Bool) (text rest : List ℕ) (passes : Bool) : Type 0 where
+  pub left : IsLeft test text rest
+  pub is : test left.begun ≡ passes
+
+-- a text fails the test, and this is left of it
+pub record IsCut (test : List ℕ → Bool) (text left : List ℕ) : Type 0 where
+  pub fails : test text ≡ false
+  pub is : IsLeft test text left

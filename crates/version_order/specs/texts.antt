@@ -4,6 +4,3 @@ pub mod Cuts
 pub mod DigitRun
 pub mod Front
 pub mod Grammar
-pub mod Pieces
-pub mod Reading
-pub mod Sep

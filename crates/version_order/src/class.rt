@@ -4,7 +4,7 @@ ghost use Rattle.std.specs.Prelude.{◌≡◌, ◌+◌, ◌≤◌, ◌∷◌, �
 ghost use Rattle.std.specs.List.{prefix_len, take_while};
 ghost use Rattle.version_order.specs.texts.Bytes.{HasDigits};
 ghost use Rattle.version_order.specs.texts.Front.{begins};
-ghost use Rattle.version_order.specs.texts.Sep.{is_sep};
+ghost use Rattle.version_order.specs.texts.Grammar.{is_sep};
 ghost use Rattle.version_order.specs.texts.Class.{byte_rank, contains, first_rank};
 
 /// A class of bytes.

@@ -2,7 +2,7 @@
 
 ghost use Rattle.std.specs.Prelude.{◌≡◌, ◌==◌, ◌≤◌, ◌∷◌, [], ℕ, length, suc, take, IfNone, IfSome};
 ghost use Rattle.std.specs.List.{position_or_len};
-ghost use Rattle.version_order.specs.texts.Pieces.{behind_piece, first_piece, is_dot};
+ghost use Rattle.version_order.specs.texts.Cuts.{behind_piece, first_piece, is_dot};
 
 /// Whether a text is empty or begins with a dot.
 #[inline(always)]

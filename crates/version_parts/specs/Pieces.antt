@@ -9,9 +9,8 @@ use Rattle.version_parts.specs.declared.key.place.Place.{Place}
 use Rattle.version_parts.specs.declared.key.place.Place.TheVariants.{Part, Split, Numbered, Number, Length, Digit, Rest}
 use Rattle.version_parts.specs.declared.key.place.Step.{Step}
 use Rattle.version_order.specs.texts.DigitRun.{number_front, run_value}
-use Rattle.version_order.specs.keys.NumberBytes.{length_bytes, number_bytes}
+use Rattle.version_order.specs.keys.NumberBytes.{length_bytes, number_bytes, text_bytes}
 use Rattle.version_rules.specs.key.PartKey.{part_bytes, part_key, suffix_bytes, suffix_of, numbered_bytes, split_bytes, split_of}
-use Rattle.version_order.specs.keys.TextBytes.{text_bytes}
 
 -- what follows a number: the suffix of a part, a text, or nothing that counts
 unfoldable pub after_number_bytes : AfterNumber → List ℕ → List ℕ

@@ -1,7 +1,7 @@
 -- The sign that a value holds, and what a hash is fed of it.
 use Rattle.std.specs.Hash.{HashWrites}
 use Rattle.version_parts.specs.declared.sep.Sep.{Sep}
-use Rattle.version_order.specs.texts.Sep.{PlainSep, Plus, Hyphen, Colon, Tilde, Underscore, sep_rank}
+use Rattle.version_order.specs.texts.Grammar.{PlainSep, Plus, Hyphen, Colon, Tilde, Underscore, sep_rank}
 use Rattle.std.specs.Hash as fed
 use Rattle.version_parts.specs.declared.sep.Sep.TheVariants as owned
 

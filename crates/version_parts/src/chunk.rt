@@ -13,7 +13,7 @@ ghost use Rattle.version_order.specs.texts.Class.{contains, IsAsciiClass};
 ghost use Rattle.version_parts.specs.Body.{Reads};
 ghost use Rattle.version_rules.specs.laws.Front.{chunk_consumes};
 ghost use Rattle.version_rules.specs.grammar.Numeral.{unsigned_front};
-ghost use Rattle.version_order.specs.keys.OrderLaws.{same_where_tied};
+ghost use Rattle.version_order.specs.keys.Codes.{same_where_tied};
 ghost use Rattle.version_rules.specs.laws.Release.{chunk_total, chunks_same};
 ghost use Rattle.version_rules.specs.order.Parts.{chunk_cmp};
 

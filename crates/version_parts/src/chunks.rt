@@ -8,7 +8,7 @@ ghost use Rattle.std.specs.Ordering.{as_partial_cmp, eq_by_cmp, on};
 ghost use Rattle.version_rules.specs.grammar.Body.{body_front, chunks_front, BodyOwns};
 ghost use Rattle.version_parts.specs.Body.{plain_chunks, Reads, release_fed};
 ghost use Rattle.version_parts.specs.Last.{plain_last, plain_last_ref};
-ghost use Rattle.version_order.specs.keys.OrderLaws.{same_where_tied};
+ghost use Rattle.version_order.specs.keys.Codes.{same_where_tied};
 ghost use Rattle.version_rules.specs.order.Parts.{chunks_cmp};
 ghost use Rattle.version_rules.specs.laws.Part.{chunks_cmp_ties, chunks_cmp_total};
 ghost use Rattle.version_rules.specs.grammar.Release.{release_text};

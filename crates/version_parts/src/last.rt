@@ -13,7 +13,7 @@ ghost use Rattle.version_rules.specs.grammar.Last.{first_number, last_of, last_t
 ghost use Rattle.version_parts.specs.Last.{last_fed, plain_last, plain_last_ref};
 ghost use Rattle.version_rules.specs.laws.Last.{last_total, lasts_same};
 ghost use Rattle.version_rules.specs.order.LastOrder.{last_plain_cmp, last_rank};
-ghost use Rattle.version_order.specs.keys.OrderLaws.{same_where_tied};
+ghost use Rattle.version_order.specs.keys.Codes.{same_where_tied};
 ghost use Rattle.version_rules.specs.key.PartKey.{part_bytes, part_key};
 ghost use Rattle.version_rules.specs.order.Parts.{last_cmp};
 ghost use Rattle.version_rules.specs.laws.Part.{last_cmp_ties, last_cmp_total};

@@ -12,7 +12,7 @@ ghost use Rattle.version_rules.specs.laws.Front.{mchunk_consumes};
 ghost use Rattle.version_rules.specs.grammar.MChunk.{chunk_before, digits_number, ends_chunk, mchunk_front, mchunk_plain_cmp, mchunk_rank, mchunk_text, mchunk_value, value_of_digits, value_of_revision, variant_of, PlainMChunk};
 ghost use Rattle.version_parts.specs.MChunk.{mchunk_fed, plain_mchunk, plain_mchunk_ref};
 ghost use Rattle.version_rules.specs.laws.Last.{mchunk_total, mchunks_same};
-ghost use Rattle.version_order.specs.keys.OrderLaws.{same_where_tied};
+ghost use Rattle.version_order.specs.keys.Codes.{same_where_tied};
 ghost use Rattle.version_rules.specs.order.Parts.{mchunk_cmp};
 ghost use Rattle.version_rules.specs.laws.Part.{mchunk_cmp_ties, mchunk_cmp_total};
 

@@ -8,7 +8,7 @@ ghost use Rattle.std.specs.Ordering.{as_partial_cmp, eq_by_cmp, on};
 ghost use Rattle.version_rules.specs.grammar.Chunk.{chunk_front, PlainChunk};
 ghost use Rattle.version_order.specs.texts.Front.{elements_at};
 ghost use Rattle.version_parts.specs.Body.{Reads, plain_release, release_fed};
-ghost use Rattle.version_order.specs.keys.OrderLaws.{same_where_tied};
+ghost use Rattle.version_order.specs.keys.Codes.{same_where_tied};
 ghost use Rattle.version_rules.specs.grammar.Release.{release_front, release_text};
 ghost use Rattle.version_rules.specs.laws.Release.{release_total, releases_same};
 ghost use Rattle.version_rules.specs.order.Parts.{release_bytes, release_cmp};

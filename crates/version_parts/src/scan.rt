@@ -13,7 +13,7 @@ ghost use Rattle.version_order.specs.keys.Lists.{split_last};
 ghost use Rattle.version_rules.specs.grammar.Release.{meta_front};
 ghost use Rattle.version_rules.specs.grammar.Numeral.{unsigned_front, SpellsNumeral};
 ghost use Rattle.version_parts.specs.Sep.{plain_sep};
-ghost use Rattle.version_order.specs.texts.Sep.{sep_front};
+ghost use Rattle.version_order.specs.texts.Grammar.{sep_front};
 
 use crate::sep::Sep;
 use std::alloc::{AllocError, Global};

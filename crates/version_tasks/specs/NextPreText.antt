@@ -9,7 +9,7 @@ use Rattle.version_rules.specs.grammar.Chunk.{PlainChunk, Numeric}
 use Rattle.version_rules.specs.grammar.SemVer.{PlainSemVer}
 use Rattle.version_rules.specs.order.Parts.{release_cmp}
 use Rattle.version_texts.specs.Key.{chunks_of}
-use Rattle.version_order.specs.texts.Pieces.{pieces}
+use Rattle.version_order.specs.texts.Cuts.{pieces}
 use Rattle.version_texts.specs.Scan.{is_chunk}
 
 -- whether a text is the chunks of a release

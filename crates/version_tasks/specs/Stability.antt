@@ -14,7 +14,7 @@ use Rattle.version_rules.specs.grammar.Versioning.{PlainVersioning, Ideal, Gener
 use Rattle.version_tasks.specs.declared.stability.Stability.{Stability}
 use Rattle.version_tasks.specs.declared.stability.Stability.TheVariants.{Dev, Alpha, Beta, Rc, Stable}
 use Rattle.version_texts.specs.VersioningRef.{bare_semver, bare_version, field_text}
-use Rattle.version_order.specs.texts.Pieces.{first_piece}
+use Rattle.version_order.specs.texts.Cuts.{first_piece}
 use Rattle.version_texts.specs.declared.versioning_ref.field.Field.TheVariants as field
 
 -- the place of a stability in the order, from the least stable on

@@ -12,7 +12,7 @@ ghost use Rattle.version_rules.specs.order.Parts.{release_cmp};
 ghost use Rattle.version_tasks.specs.NextPre.{AreNamed, IsNextPre, NoNextPre, plain_next_pre};
 ghost use Rattle.version_tasks.specs.NextPreText.{is_own, is_release, is_word, own_chunks, word_chunks, word_text, IsLeastNumber, IsPlace, NonePass};
 ghost use Rattle.version_texts.specs.Key.{chunks_of};
-ghost use Rattle.version_order.specs.texts.Pieces.{is_dot};
+ghost use Rattle.version_order.specs.texts.Cuts.{is_dot};
 ghost use Rattle.version_texts.specs.Scan.{is_chunk};
 ghost use Rattle.version_texts.specs.VersioningRef.{field_text, plain_versioning_ref};
 ghost use Rattle.version_texts.specs.declared.versioning_ref.field.Field.TheVariants.{PreRelease};

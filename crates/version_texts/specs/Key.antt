@@ -1,13 +1,13 @@
 -- The parts of texts, and the key of a version, read off its text by its shape.
 use Rattle.std.specs.Prelude.{◌&&◌, ℕ, Bool, false, not, List, [], ◌∷◌, ◌++◌, map, if◌then◌else◌, Option, Some, None, ◌+◌, ◌*◌}
 use Rattle.std.specs.Char.{is_ascii_digit}
-use Rattle.version_order.specs.texts.Sep.{is_sep}
+use Rattle.version_order.specs.texts.Grammar.{is_sep}
 use Rattle.version_order.specs.texts.Class.{is_mark}
 use Rattle.version_texts.specs.declared.order.delimiters.Delimiters.{Delimiters}
 use Rattle.version_texts.specs.declared.order.delimiters.Delimiters.TheVariants.{Dots, Marks}
 use Rattle.version_texts.specs.declared.order.delimiters.Run.{Run}
 use Rattle.version_texts.specs.declared.order.delimiters.Run.TheVariants.{Part, Word}
-use Rattle.version_order.specs.texts.Pieces.{is_dot, pieces, behind_piece, first_piece, further_pieces}
+use Rattle.version_order.specs.texts.Cuts.{is_dot, pieces, behind_piece, first_piece, further_pieces}
 use Rattle.std.specs.List.{list_all, slice_split}
 use Rattle.std.specs.Str.Parse.{digits_value}
 use Rattle.version_rules.specs.grammar.Chunk.{PlainChunk, Numeric, Alphanum}

@@ -10,10 +10,10 @@ use Rattle.std.specs.declared.cmp.Ordering.TheVariants.{Less, Equal, Greater}
 use Rattle.version_order.specs.texts.Bytes.{dot, is_section_byte}
 use Rattle.version_order.specs.texts.Front.{begins}
 use Rattle.version_order.specs.keys.Lists.{bytes_cmp, split_last}
-use Rattle.version_order.specs.texts.Sep.{sep_of, sep_rank}
+use Rattle.version_order.specs.texts.Grammar.{sep_of, sep_rank}
 use Rattle.version_order.specs.texts.DigitRun.{behind_digits}
 use Rattle.version_texts.specs.Scan.{body_start, from_body, is_numeral}
-use Rattle.version_order.specs.texts.Pieces.{pieces}
+use Rattle.version_order.specs.texts.Cuts.{pieces}
 use Rattle.version_rules.specs.declared.kind.Kind.{Kind}
 use Rattle.version_rules.specs.declared.kind.Kind.TheVariants.{Ideal, General, Complex}
 use Rattle.version_rules.specs.key.Key.{Key, key_of}

@@ -6,7 +6,7 @@ use Rattle.std.specs.Option.{option_map}
 use Rattle.version_order.specs.texts.Bytes.{colon, hyphen, is_metadata_byte, plus, is_section_byte, is_identifier_byte}
 use Rattle.version_order.specs.texts.DigitRun.{starts_with_digit, is_digits}
 use Rattle.version_order.specs.texts.Front.{begins, is_run}
-use Rattle.version_order.specs.texts.Sep.{is_sep}
+use Rattle.version_order.specs.texts.Grammar.{is_sep}
 use Rattle.version_rules.specs.declared.kind.Kind.{Kind}
 use Rattle.version_rules.specs.grammar.Versioning.{versioning_kind, versioning_of}
 use Rattle.version_texts.specs.declared.scan.shape.Shape.{Shape}
@@ -15,7 +15,7 @@ use Rattle.version_texts.specs.declared.scan.shape.TailKind.TheVariants.{PreRele
 use Rattle.version_rules.specs.declared.kind.Kind.TheVariants as kind
 use Rattle.std.specs.Str.Parse.{digits_value}
 use Rattle.version_order.specs.texts.Class.{is_mark}
-use Rattle.version_order.specs.texts.Pieces.{pieces}
+use Rattle.version_order.specs.texts.Cuts.{pieces}
 
 -- ---- where the pieces of a version lie in its text
 

@@ -19,9 +19,9 @@ use Rattle.std.specs.Char.{is_ascii_digit}
 use Rattle.std.specs.List.{before_first, slice_split, take_while}
 use Rattle.std.specs.Str.Parse.{digits_value}
 use Rattle.version_rules.specs.grammar.MChunk.{value_of_digits}
-use Rattle.version_order.specs.texts.Sep.{is_sep}
+use Rattle.version_order.specs.texts.Grammar.{is_sep}
 use Rattle.version_order.specs.texts.DigitRun.{is_digits}
-use Rattle.version_order.specs.texts.Pieces.{pieces}
+use Rattle.version_order.specs.texts.Cuts.{pieces}
 use Rattle.version_texts.specs.Scan.{is_numeral}
 
 -- ---- the version of any kind that a borrowed text spells

@@ -99,7 +99,7 @@ fn put_parts<'t, S: Sink>(sink: &mut S, text: &'t [u8]) -> Option<&'t [u8]>
 
 // Writes the same parts and the end of the list, and returns the rest. Returns None once the sink is decided.
 #[inline(always)]
-#[tactic(auto, using(version_order::proofs::lemmas::Codes::ended, version_order::proofs::lemmas::Taking::next_fits, version_order::proofs::lemmas::Taking::owes_all, version_order::proofs::lemmas::Taking::owes_rest))]
+#[tactic(auto, using(version_order::proofs::lemmas::Codes::ended, version_order::proofs::lemmas::Sinks::next_fits, version_order::proofs::lemmas::Sinks::owes_all, version_order::proofs::lemmas::Sinks::owes_rest))]
 fn put_list<'t, S: Sink>(sink: &mut S, text: &'t [u8]) -> Option<&'t [u8]>
     requires { S.fits sink.old
         (parts_bytes (parts_of (take_while is_section_byte text.now))) }
@@ -197,7 +197,7 @@ pub(crate) fn put_tail<S: Sink>(sink: &mut S, kind: TailKind, text: &[u8])
 
 // Writes an epoch, by its digits.
 #[inline(always)]
-#[tactic(auto, using(version_order::proofs::lemmas::Taking::takes_same, crate::proofs::lemmas::Library::all_taken))]
+#[tactic(auto, using(version_order::proofs::lemmas::Sinks::takes_same, crate::proofs::lemmas::Library::all_taken))]
 fn put_epoch<S: Sink>(sink: &mut S, digits: &[u8])
     requires digits { list_all is_ascii_digit digits.now ≡ true }
     requires fits { S.fits sink.old (number_bytes (digits_value 10 digits.now)) }
@@ -246,7 +246,7 @@ pub(crate) fn tail_at(text: &[u8], shape: Shape) -> &[u8]
 /// Writes what the keys of an epoch begin with, by its digits, if their bodies begin with the parts of a text. Returns
 /// early once the sink is decided. Does not allocate.
 #[inline(always)]
-#[tactic(auto, using(version_order::proofs::lemmas::Taking::next_fits, version_order::proofs::lemmas::Taking::owes_all, version_order::proofs::lemmas::Taking::owes_rest, version_order::proofs::lemmas::Taking::takes_same, crate::proofs::lemmas::Library::append_nil, crate::proofs::lemmas::Library::all_taken))]
+#[tactic(auto, using(version_order::proofs::lemmas::Sinks::next_fits, version_order::proofs::lemmas::Sinks::owes_all, version_order::proofs::lemmas::Sinks::owes_rest, version_order::proofs::lemmas::Sinks::takes_same, crate::proofs::lemmas::Library::append_nil, crate::proofs::lemmas::Library::all_taken))]
 pub fn put_begun<S: Sink>(sink: &mut S, digits: &[u8], parts: Option<&[u8]>)
     requires digits { list_all is_ascii_digit digits.now ≡ true }
     requires parts { IfSome parts (λ text. list_all is_section_byte text.now ≡ true) }
@@ -262,7 +262,7 @@ pub fn put_begun<S: Sink>(sink: &mut S, digits: &[u8], parts: Option<&[u8]>)
 
 /// Writes the key of a version, by its text and its shape. Returns early once the sink is decided. Does not allocate.
 #[inline(always)]
-#[tactic(auto, using(version_order::proofs::lemmas::Taking::next_fits, version_order::proofs::lemmas::Taking::owes_all, version_order::proofs::lemmas::Taking::owes_rest, crate::proofs::lemmas::versioning_ref::VersioningRef::key_halves))]
+#[tactic(auto, using(version_order::proofs::lemmas::Sinks::next_fits, version_order::proofs::lemmas::Sinks::owes_all, version_order::proofs::lemmas::Sinks::owes_rest, crate::proofs::lemmas::versioning_ref::VersioningRef::key_halves))]
 pub fn put_key<S: Sink>(sink: &mut S, text: &[u8], shape: Shape)
     requires shape { Fits text.now shape }
     requires fits { S.fits sink.old (key_bytes (text_key text.now shape)) }

@@ -8,7 +8,7 @@ ghost use Rattle.version_order.specs.texts.Bytes.{HasDigits};
 ghost use Rattle.version_order.specs.texts.DigitRun.{is_digits};
 ghost use Rattle.version_order.specs.texts.Class.{contains, first_rank};
 ghost use Rattle.version_texts.specs.Scan.{behind_body, body_end, body_start, shape_at, shape_of, are_marked_runs, body_of, epoch_is_numeral, has_three_numbers, is_chunk, is_general, is_metadata_tail, is_not_plus, is_numeral, is_released, is_tail, kind_in, section_end, section_pieces};
-ghost use Rattle.version_order.specs.texts.Pieces.{pieces};
+ghost use Rattle.version_order.specs.texts.Cuts.{pieces};
 ghost use Rattle.version_order.specs.texts.Front.{is_run};
 
 pub(crate) mod numeral;

@@ -7,7 +7,7 @@ ghost use Rattle.std.specs.Cmp.{eq_by_cmp_equiv, on_equiv, on_per, partial_equiv
 ghost use Rattle.std.specs.Ordering.{eq_by_cmp, on};
 ghost use Rattle.version_order.specs.texts.Front.{repeated};
 ghost use Rattle.version_parts.specs.Body.{Reads};
-ghost use Rattle.version_order.specs.keys.OrderLaws.{same_where_tied};
+ghost use Rattle.version_order.specs.keys.Codes.{same_where_tied};
 ghost use Rattle.versions.specs.Errors.{IllegalMess, ReadsOr};
 ghost use Rattle.version_rules.specs.grammar.Mess.{behind_colons, further_front, mess_front, mess_of, mess_plain_cmp, mess_text, nth_number, section_front};
 ghost use Rattle.versions.specs.Mess.{mess_fed, plain_further, plain_mess, plain_mess_ref, plain_section};

@@ -9,7 +9,7 @@ ghost use Rattle.version_rules.specs.grammar.Body.{body_front};
 ghost use Rattle.version_order.specs.texts.Front.{optional};
 ghost use Rattle.version_parts.specs.Body.{Reads};
 ghost use Rattle.version_rules.specs.grammar.Last as plain;
-ghost use Rattle.version_order.specs.keys.OrderLaws.{same_where_tied};
+ghost use Rattle.version_order.specs.keys.Codes.{same_where_tied};
 ghost use Rattle.versions.specs.Errors.{IllegalVersion, ReadsOr};
 ghost use Rattle.versions.specs.Version.{first_part, more_parts, plain_version_ref, plain_version, version_fed};
 ghost use Rattle.version_rules.specs.key.Key.{key_of_version};

@@ -9,15 +9,14 @@ use Rattle.std.specs.Str.Parse.{digits_value}
 use Rattle.std.specs.Ordering.{is_ne, nat_cmp, ordering_then}
 use Rattle.std.specs.declared.cmp.Ordering.{Ordering}
 use Rattle.std.specs.declared.cmp.Ordering.TheVariants.{Less, Equal, Greater}
-use Rattle.version_order.proofs.lemmas.Front.Runs.{begins-drop}
+use Rattle.version_order.proofs.lemmas.Front.{begins-drop}
 use Rattle.version_order.proofs.lemmas.Orders.{settled, then_assoc, then_decided}
 use Rattle.version_order.specs.texts.DigitRun.{run_value, starts_with_digit, behind_digits}
 use Rattle.version_order.specs.texts.Front.{begins}
 use Rattle.version_order.specs.keys.Codes.{list_bytes}
 use Rattle.version_order.specs.keys.NumberBytes.{number_bytes}
 use Rattle.version_order.specs.keys.Lists.{ended_cmp}
-use Rattle.version_order.proofs.lemmas.Runs.{all_behind, run_cons, run_none}
-use Rattle.version_order.proofs.lemmas.RunsWithin.{no_run}
+use Rattle.version_order.proofs.lemmas.Runs.{all_behind, run_cons, run_none, no_run}
 use Rattle.scheme_deb.specs.Laws.{byte_same}
 use Rattle.scheme_deb.specs.Order.{Pair, byte_cmp, byte_code, more_bytes, more_cmp, pair_bytes, pair_cmp, part_bytes, part_cmp, rank}
 use Rattle.scheme_deb.specs.Texts.{Cut, cut_of, is_run, mores, pair_of, part_in, part_of, put_digit}

@@ -12,10 +12,9 @@ use Rattle.std.specs.declared.cmp.Ordering.{Ordering}
 use Rattle.std.specs.declared.cmp.Ordering.TheVariants.{Equal}
 use Rattle.version_order.specs.texts.DigitRun.{run_value, starts_with_digit, behind_digits}
 use Rattle.version_order.specs.texts.Front.{begins}
-use Rattle.version_order.specs.keys.OrderLaws.{then_first}
+use Rattle.version_order.specs.keys.Codes.{then_first}
 use Rattle.version_order.specs.keys.Lists.{ended_cmp}
-use Rattle.version_order.proofs.lemmas.Runs.{run_cons, run_none}
-use Rattle.version_order.proofs.lemmas.RunsWithin.{no_run}
+use Rattle.version_order.proofs.lemmas.Runs.{run_cons, run_none, no_run}
 use Rattle.version_order.proofs.lemmas.Orders.{settled}
 use Rattle.scheme_deb.proofs.lemmas.Cut.{by_numbers, same_bytes}
 use Rattle.version_order.proofs.lemmas.Cuts.{alike, run_common}

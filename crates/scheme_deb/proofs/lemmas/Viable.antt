@@ -7,19 +7,18 @@ use Rattle.std.specs.Char.{is_ascii_digit}
 use Rattle.std.specs.Cmp.{first_so, second_so}
 use Rattle.std.specs.List.{list_all, prefix_len, take_while}
 use Rattle.std.specs.Option.{is_some}
-use Rattle.version_order.proofs.lemmas.Front.Runs.{all_weaker, begins-drop}
+use Rattle.version_order.proofs.lemmas.Front.{all_weaker, begins-drop}
 use Rattle.version_order.specs.texts.DigitRun.{starts_with_digit}
 use Rattle.version_order.specs.texts.Front.{begins}
-use Rattle.version_order.proofs.lemmas.RunsWithin.{begins_inner}
+use Rattle.version_order.proofs.lemmas.Runs.{begins_inner}
 use Rattle.version_order.proofs.lemmas.Cuts.{cut_between, cut_last-whole, not_cut}
 use Rattle.version_order.proofs.lemmas.Plain.{run_and_rest}
-use Rattle.version_order.proofs.lemmas.Viable.Epochs.{by_cut, one_part, two_parts, is_plain, no_colon, uncut}
+use Rattle.version_order.proofs.lemmas.Viable.Epochs.{by_cut, one_part, two_parts, is_plain, no_colon, uncut, not_all}
 use Rattle.version_order.specs.texts.Cuts.{cut_first, cut_last}
 use Rattle.scheme_deb.specs.Texts.{behind_epoch, is_before_colon, is_behind_epoch, is_of_upstream, is_revision, is_upstream, of_cut, part_of}
 use Rattle.version_order.specs.Viable.{IsLeft}
 use Rattle.scheme_deb.proofs.lemmas.Plain.{revision_all}
-use Rattle.version_order.proofs.lemmas.Viable.Cuts.{not_all}
-use Rattle.version_order.proofs.lemmas.Viable.Left.{stays}
+use Rattle.version_order.proofs.lemmas.Viable.Walks.{stays}
 
 abbrev cut_test : List ℕ → Option (List ℕ × List ℕ) → Bool
 cut_test text None = is_upstream text

@@ -4,14 +4,11 @@ use Rattle.std.proofs.lemmas.Bool.{cases_Bool, eqb-true}
 use Rattle.std.proofs.lemmas.List.{length-append, length-drop, length-replicate}
 use Rattle.std.specs.Char.{is_ascii_alphabetic, is_ascii_digit}
 use Rattle.std.specs.List.{list_all, prefix_len, take_while}
-use Rattle.version_order.proofs.lemmas.Costs.{KeysCost}
-use Rattle.version_order.proofs.lemmas.Front.Runs.{list_all-take_while}
-use Rattle.version_order.proofs.lemmas.FrontCosts.{number_costs, parted, some_taken}
-use Rattle.version_order.specs.keys.NumberBytes.{number_bytes}
-use Rattle.version_order.specs.keys.TextBytes.{text_bytes}
+use Rattle.version_order.proofs.lemmas.Costs.{KeysCost, number_costs, parted, some_taken}
+use Rattle.version_order.proofs.lemmas.Front.{list_all-take_while}
+use Rattle.version_order.specs.keys.NumberBytes.{number_bytes, text_bytes}
 use Rattle.version_order.specs.texts.DigitRun.{behind_digits, run_value, starts_with_digit}
-use Rattle.scheme_gem.proofs.lemmas.Segments.{letters_text}
-use Rattle.scheme_gem.proofs.lemmas.Segments.{digits_shorter, hyphen_first, number_first, other_first, word_first}
+use Rattle.scheme_gem.proofs.lemmas.Segments.{letters_text, digits_shorter, hyphen_first, number_first, other_first, word_first}
 use Rattle.scheme_gem.proofs.lemmas.Walks.{version_digit}
 use Rattle.scheme_gem.specs.Order.{Letters, gem_bytes}
 use Rattle.scheme_gem.specs.Segments.{Integer, Segment, Word, entries_after, entries_in, segments_of}

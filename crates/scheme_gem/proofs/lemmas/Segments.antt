@@ -3,10 +3,10 @@ use Rattle.std.proofs.Common.{◌≡◌, ◌-◌, ◌<◌, ℕ, zero, suc, true,
 use Rattle.std.proofs.lemmas.Bool.Decides.{nat_tests}
 use Rattle.std.specs.Char.{is_ascii_alphabetic, is_ascii_digit}
 use Rattle.std.specs.List.{list_all, prefix_len, take_while}
-use Rattle.version_order.proofs.lemmas.Front.Runs.{all_weaker}
+use Rattle.version_order.proofs.lemmas.Front.{all_weaker}
 use Rattle.version_order.specs.texts.Bytes.{is_identifier_byte}
-use Rattle.version_order.specs.keys.TextBytes.{text_bytes}
-use Rattle.version_order.proofs.lemmas.RunBytes.{text_of_run}
+use Rattle.version_order.specs.keys.NumberBytes.{text_bytes}
+use Rattle.version_order.proofs.lemmas.NumberBytes.{text_of_run}
 use Rattle.scheme_gem.specs.Order.{Letters, entry_bytes, Number}
 use Rattle.std.proofs.lemmas.Bool.{cases_Bool, eqb-true}
 use Rattle.std.proofs.lemmas.List.{length-drop}

@@ -5,14 +5,13 @@ use Rattle.std.specs.Char.{is_ascii_alphanumeric, to_ascii_lowercase}
 use Rattle.std.specs.Cmp.{first_so, second_so}
 use Rattle.std.specs.List.{list_all, prefix_len, take_while}
 use Rattle.std.specs.Option.{option_map, option_or}
-use Rattle.version_order.proofs.lemmas.Front.Runs.{list_all-take_while}
-use Rattle.version_order.proofs.lemmas.FrontCosts.{Costs, FrontCosts, behind_costs, either_costs, mapped_costs, number_costs, optional_costs, parted, repeated_costs, weaker_costs, whole_within, zero_cost}
-use Rattle.version_order.proofs.lemmas.Lengths.{list_length, number_length}
+use Rattle.version_order.proofs.lemmas.Front.{list_all-take_while}
+use Rattle.version_order.proofs.lemmas.Costs.{Costs, FrontCosts, behind_costs, either_costs, mapped_costs, number_costs, optional_costs, parted, repeated_costs, weaker_costs, whole_within, zero_cost}
+use Rattle.version_order.proofs.lemmas.NumberBytes.{list_length, number_length}
 use Rattle.version_order.specs.Facts.{key_room}
 use Rattle.version_order.specs.Keyed.{AreWithin}
 use Rattle.version_order.specs.keys.Codes.{list_bytes}
-use Rattle.version_order.specs.keys.NumberBytes.{number_bytes}
-use Rattle.version_order.specs.keys.TextBytes.{text_bytes}
+use Rattle.version_order.specs.keys.NumberBytes.{number_bytes, text_bytes}
 use Rattle.version_order.specs.texts.Bytes.{hyphen, plus}
 use Rattle.version_order.specs.texts.DigitRun.{is_digits, number_front}
 use Rattle.std.specs.Prelude.{option_and_then, unwrap_or}

@@ -7,7 +7,7 @@ use Rattle.std.specs.Option.{option_map, option_map_or, option_or}
 use Rattle.std.specs.Ordering.{is_ne, ordering_then}
 use Rattle.std.specs.declared.cmp.Ordering.{Ordering}
 use Rattle.std.specs.declared.cmp.Ordering.TheVariants.{Less, Equal, Greater}
-use Rattle.version_order.proofs.lemmas.Front.Repeated.{Shrinks, repeated-None, repeated-next}
+use Rattle.version_order.proofs.lemmas.Front.{Shrinks, repeated-None, repeated-next}
 use Rattle.version_order.specs.texts.Front.{Consumes, Front, begins, repeated, map_value, optional}
 use Rattle.scheme_pypi.specs.Texts.{after_byte, items_at, joined, next_item, after_any, number_or_zero, numbered, without_separator}
 

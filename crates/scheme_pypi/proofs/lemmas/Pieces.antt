@@ -9,12 +9,11 @@ use Rattle.std.specs.List.{prefix_len, take_while}
 use Rattle.std.specs.Ordering.{bool_cmp}
 use Rattle.std.specs.Str.Parse.{digits_value}
 use Rattle.std.specs.declared.cmp.Ordering.TheVariants.{Less, Greater}
-use Rattle.version_order.proofs.lemmas.Front.Runs.{run_front-empty, run_front-some, take_while-all}
+use Rattle.version_order.proofs.lemmas.Front.{run_front-empty, run_front-some, take_while-all}
 use Rattle.version_order.specs.texts.Bytes.{plus}
 use Rattle.version_order.specs.texts.DigitRun.{is_digits, run_value}
 use Rattle.version_order.specs.texts.Front.{begins}
-use Rattle.version_order.specs.keys.NumberBytes.{number_bytes}
-use Rattle.version_order.specs.keys.TextBytes.{text_byte, text_bytes}
+use Rattle.version_order.specs.keys.NumberBytes.{number_bytes, text_byte, text_bytes}
 use Rattle.version_order.specs.keys.Lists.{ended_cmp}
 use Rattle.scheme_pypi.specs.Order.{Local, Number, Text, local_bytes, local_cmp}
 use Rattle.scheme_pypi.specs.Texts.{is_separator, local_front, local_of, piece_front, pieces_front, pieces_of, next_piece}

@@ -5,14 +5,13 @@ use Rattle.std.proofs.lemmas.List.{length-append, take-append-drop}
 use Rattle.std.specs.Char.{is_ascii_alphabetic, is_ascii_digit}
 use Rattle.std.specs.List.{prefix_len, take_while}
 use Rattle.version_order.proofs.lemmas.Costs.{HasNext, ends_cost, epoch_costs, pieces_cost, some_if, some_map, some_then, where_cut}
-use Rattle.version_order.proofs.lemmas.Front.Runs.{list_all-take_while}
-use Rattle.version_order.proofs.lemmas.Lengths.{number_length}
+use Rattle.version_order.proofs.lemmas.Front.{list_all-take_while}
+use Rattle.version_order.proofs.lemmas.NumberBytes.{number_length}
 use Rattle.version_order.proofs.lemmas.Runs.{run_cons}
 use Rattle.version_order.specs.Facts.{key_room}
 use Rattle.version_order.specs.Keyed.{AreWithin}
 use Rattle.version_order.specs.keys.Codes.{list_bytes}
-use Rattle.version_order.specs.keys.NumberBytes.{number_bytes}
-use Rattle.version_order.specs.keys.TextBytes.{text_bytes}
+use Rattle.version_order.specs.keys.NumberBytes.{number_bytes, text_bytes}
 use Rattle.version_order.specs.texts.DigitRun.{run_value, behind_digits}
 use Rattle.scheme_rpm.proofs.lemmas.Rpm.{IsRank, caret_first, digit_of, letter_of, letters_bytes, letters_first, no_end, number_first, ranks, separated, tilde_first}
 use Rattle.scheme_rpm.specs.Order.{Caret, Item, Letters, Number, PlainRpm, Tilde, item_bytes, release_bytes, rpm_bytes}

@@ -10,10 +10,10 @@ use Rattle.std.specs.Ordering.{nat_cmp, ordering_then}
 use Rattle.std.specs.declared.cmp.Ordering.TheVariants.{Equal}
 use Rattle.version_order.specs.texts.DigitRun.{run_value, behind_digits}
 use Rattle.version_order.specs.keys.Codes.{list_bytes}
-use Rattle.version_order.specs.keys.TextBytes.{text_bytes}
+use Rattle.version_order.specs.keys.NumberBytes.{text_bytes}
 use Rattle.version_order.proofs.lemmas.Runs.{run_cons, run_none}
-use Rattle.version_order.proofs.lemmas.Front.Runs.{all_weaker, list_all-take_while}
-use Rattle.version_order.proofs.lemmas.RunBytes.{text_of_run}
+use Rattle.version_order.proofs.lemmas.Front.{all_weaker, list_all-take_while}
+use Rattle.version_order.proofs.lemmas.NumberBytes.{text_of_run}
 use Rattle.version_order.specs.texts.Bytes.{is_identifier_byte}
 use Rattle.version_order.proofs.lemmas.Orders.{settled}
 use Rattle.version_order.proofs.lemmas.Cuts.{alike, run_common}

@@ -9,13 +9,12 @@ use Rattle.std.specs.Str.Parse.{digits_value}
 use Rattle.version_order.proofs.lemmas.Bytes.{identifier_no_dot}
 use Rattle.version_order.proofs.lemmas.Costs.{KeysCost}
 use Rattle.version_order.proofs.lemmas.Cuts.{cut_first-length}
-use Rattle.version_order.proofs.lemmas.Lengths.{number_length}
+use Rattle.version_order.proofs.lemmas.NumberBytes.{number_length}
 use Rattle.version_order.proofs.lemmas.Runs.{split_some}
 use Rattle.version_order.specs.keys.NumberBytes.{number_bytes}
 use Rattle.version_order.specs.texts.Bytes.{hyphen, is_identifier_byte, plus}
-use Rattle.version_order.specs.texts.Cuts.{cut_first}
+use Rattle.version_order.specs.texts.Cuts.{cut_first, is_dot, pieces}
 use Rattle.version_order.specs.texts.DigitRun.{is_digits, starts_with_digit}
-use Rattle.version_order.specs.texts.Pieces.{is_dot, pieces}
 use Rattle.version_rules.specs.grammar.Chunk.{PlainChunk}
 use Rattle.version_rules.specs.grammar.SemVer.{PlainSemVer}
 use Rattle.version_rules.specs.order.Parts.{chunk_bytes, release_bytes}

@@ -6,16 +6,15 @@ use Rattle.std.specs.Cmp.{first_so, second_so}
 use Rattle.std.specs.List.{list_all, prefix_len, take_while}
 use Rattle.std.specs.Prelude.{option_and_then}
 use Rattle.std.specs.Str.Parse.{digits_value}
-use Rattle.version_order.proofs.lemmas.Front.Runs.{take_while-all}
+use Rattle.version_order.proofs.lemmas.Front.{take_while-all}
 use Rattle.version_order.specs.texts.Bytes.{dot}
 use Rattle.version_rules.specs.grammar.Chunk.{PlainChunk}
 use Rattle.version_order.specs.texts.DigitRun.{is_digits, run_value, starts_with_digit}
 use Rattle.version_order.specs.texts.Front.{begins}
 use Rattle.version_rules.specs.grammar.SemVer.{PlainSemVer}
 use Rattle.version_order.proofs.lemmas.Bytes.{digit_no_dot}
-use Rattle.version_order.proofs.lemmas.Runs.{and-false, last_piece, next_piece, other_piece, run_cons}
-use Rattle.version_order.proofs.lemmas.RunsWithin.{no_run, rest_within}
-use Rattle.version_order.specs.texts.Pieces.{is_dot}
+use Rattle.version_order.proofs.lemmas.Runs.{and-false, last_piece, next_piece, other_piece, run_cons, no_run, rest_within}
+use Rattle.version_order.specs.texts.Cuts.{is_dot}
 use Rattle.scheme_semver.proofs.lemmas.Reading.{semver_read}
 use Rattle.scheme_semver.specs.Reading.{behind_core, core_pieces, is_of_core, tail_of}
 use Rattle.scheme_semver.specs.Texts.{is_number, of_numbers, semver_of}

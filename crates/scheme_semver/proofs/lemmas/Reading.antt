@@ -6,14 +6,13 @@ use Rattle.std.specs.Cmp.{first_so, second_so}
 use Rattle.std.specs.List.{list_all, prefix_len, take_while}
 use Rattle.std.specs.Option.{option_map}
 use Rattle.std.specs.Prelude.{option_and_then}
-use Rattle.version_order.proofs.lemmas.Front.Runs.{begins-drop, list_all-take_while}
+use Rattle.version_order.proofs.lemmas.Front.{begins-drop, list_all-take_while}
 use Rattle.version_order.specs.texts.Bytes.{hyphen, plus}
 use Rattle.version_rules.specs.grammar.Chunk.{PlainChunk}
 use Rattle.version_order.specs.texts.Front.{begins}
 use Rattle.version_rules.specs.grammar.SemVer.{PlainSemVer}
 use Rattle.version_texts.specs.Key.{chunks_of}
-use Rattle.version_order.specs.texts.Pieces.{pieces}
-use Rattle.version_order.specs.texts.Cuts.{cut_first}
+use Rattle.version_order.specs.texts.Cuts.{pieces, cut_first}
 use Rattle.scheme_semver.specs.declared.reader.Section.TheVariants.{PreRelease, Metadata}
 use Rattle.scheme_semver.specs.Reading.{before_metadata, behind_core, core_pieces, is_of_core, pre_release_of, tail_of}
 use Rattle.scheme_semver.specs.Texts.{is_section, of_numbers, semver_of, without_metadata}

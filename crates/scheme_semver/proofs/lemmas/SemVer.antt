@@ -6,7 +6,7 @@ use Rattle.std.specs.List.{list_all, onto_first}
 use Rattle.version_order.specs.texts.Bytes.{dot, is_identifier_byte, is_metadata_byte}
 use Rattle.version_order.proofs.lemmas.Bytes.{identifier_no_dot}
 use Rattle.version_order.proofs.lemmas.Runs.{and-false, split_some}
-use Rattle.version_order.specs.texts.Pieces.{pieces, is_dot}
+use Rattle.version_order.specs.texts.Cuts.{pieces, is_dot}
 use Rattle.scheme_semver.specs.declared.reader.Section.{Section}
 use Rattle.scheme_semver.specs.declared.reader.Section.TheVariants.{Metadata, PreRelease}
 use Rattle.scheme_semver.specs.Texts.{allows, is_identifier, is_section}

@@ -11,19 +11,16 @@ use Rattle.std.specs.Prelude.{option_and_then}
 use Rattle.std.specs.Str.Parse.{digits_value}
 use Rattle.version_order.proofs.lemmas.Bytes.{digit_no_dot, dot_no_identifier, identifier_no_dot}
 use Rattle.version_order.proofs.lemmas.Cuts.{not_cut}
-use Rattle.version_order.proofs.lemmas.Front.Runs.{all_weaker, list_all-take_while}
+use Rattle.version_order.proofs.lemmas.Front.{all_weaker, list_all-take_while}
 use Rattle.version_order.proofs.lemmas.Runs.{and-false, not_false, run_cons, run_none, split_some}
-use Rattle.version_order.proofs.lemmas.Viable.Cuts.{first_behind, with_front}
-use Rattle.version_order.proofs.lemmas.Viable.Left.{after_run, alone, behind, grown, is_nothing, longest, nothing_apart, run_is_run, same, stays}
-use Rattle.version_order.proofs.lemmas.Viable.Walks.{IsSplit, cut_at, cut_behind, stops_at_piece, stops_begun, stops_in_next, stops_in_tail, stops_nothing, stops_passes}
-use Rattle.version_order.proofs.lemmas.Viable.Within.{and-assoc, and-true, split_pieces}
-use Rattle.version_order.specs.Viable.{IsLeft, IsLongestViable}
-use Rattle.version_order.specs.Walks.{IsCut, Stops}
+use Rattle.version_order.proofs.lemmas.Viable.Epochs.{first_behind, with_front}
+use Rattle.version_order.proofs.lemmas.Viable.Walks.{after_run, alone, behind, grown, is_nothing, longest, nothing_apart, run_is_run, same, stays, IsSplit, cut_at, cut_behind, stops_at_piece, stops_begun, stops_in_next, stops_in_tail, stops_nothing, stops_passes}
+use Rattle.version_order.proofs.lemmas.Viable.Laws.{and-assoc, and-true, split_pieces}
+use Rattle.version_order.specs.Viable.{IsLeft, IsLongestViable, IsCut, Stops}
 use Rattle.version_order.specs.texts.Bytes.{dot, hyphen, is_identifier_byte, is_metadata_byte, plus}
-use Rattle.version_order.specs.texts.Cuts.{cut_first}
+use Rattle.version_order.specs.texts.Cuts.{cut_first, is_dot, pieces}
 use Rattle.version_order.specs.texts.DigitRun.{behind_digits}
 use Rattle.version_order.specs.texts.Front.{begins}
-use Rattle.version_order.specs.texts.Pieces.{is_dot, pieces}
 use Rattle.version_rules.specs.grammar.Chunk.{PlainChunk}
 use Rattle.version_rules.specs.grammar.SemVer.{PlainSemVer}
 use Rattle.version_texts.proofs.lemmas.Viable.{no_digits, some_bytes}

@@ -15,7 +15,7 @@ use Rattle.std.specs.declared.cmp.Ordering.{Ordering}
 use Rattle.std.specs.declared.cmp.Ordering.TheVariants.{Less, Equal, Greater}
 use Rattle.version_answers.specs.two.Explain.{behind_epoch, behind_parts, part_at, parts_text, tail_of}
 use Rattle.version_rules.proofs.lemmas.Versioning.{strict_is_general, versioning_of-Some, versioning_printed}
-use Rattle.version_order.proofs.lemmas.Front.Runs.{all_weaker, prefix_len-append}
+use Rattle.version_order.proofs.lemmas.Front.{all_weaker, prefix_len-append}
 use Rattle.version_rules.proofs.lemmas.Key.{lists_same}
 use Rattle.version_rules.proofs.lemmas.SemVer.{optional_begins}
 use Rattle.version_order.specs.declared.class.Class.TheVariants.{NotSign}
@@ -23,11 +23,9 @@ use Rattle.version_order.specs.texts.Bytes.{colon, hyphen, is_section_byte}
 use Rattle.version_order.specs.texts.Class.{contains}
 use Rattle.version_rules.specs.grammar.Conversions.{version_of_semver}
 use Rattle.version_order.specs.texts.DigitRun.{is_digits}
-use Rattle.version_order.specs.texts.Grammar.{SpellsEach}
+use Rattle.version_order.specs.texts.Grammar.{SpellsEach, EndsRun, sep_byte}
 use Rattle.version_rules.specs.grammar.Mess.{Further, PlainMess, SpellsFurther}
-use Rattle.version_order.specs.texts.Reading.{EndsRun}
 use Rattle.version_rules.specs.grammar.Release.{SpellsRelease, release_text}
-use Rattle.version_order.specs.texts.Sep.{sep_byte}
 use Rattle.version_rules.specs.grammar.Version.{PlainVersion, SpellsVersion}
 use Rattle.version_rules.specs.grammar.Versioning.{PlainVersioning, Ideal, General, Complex, SpellsVersioning}
 use Rattle.version_rules.specs.key.Key.{Key, key_of, key_of_mess, precedence, sections_tail, versioning_epoch}
@@ -41,7 +39,7 @@ use Rattle.version_texts.proofs.lemmas.scan.Shape.{IsCounted, body_taken, epoch_
 use Rattle.version_texts.proofs.lemmas.versioning_ref.Field.{spelled_counts}
 use Rattle.version_texts.specs.declared.order.difference.Difference.TheVariants.{Epoch, Part}
 use Rattle.version_texts.specs.Key.{parts_of, sections_of, tail_of_sections}
-use Rattle.version_order.specs.texts.Pieces.{pieces}
+use Rattle.version_order.specs.texts.Cuts.{pieces}
 use Rattle.version_texts.specs.Order.{difference_of}
 use Rattle.version_texts.specs.Scan.{body_start}
 use Rattle.version_texts.specs.VersioningRef.{field_text}

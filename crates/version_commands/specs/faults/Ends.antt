@@ -3,7 +3,7 @@ use Rattle.std.specs.Prelude.{ℕ, Bool, false, true, List, Option, None, Result
 use Rattle.std.specs.Io.KnownBytes.{Appends, Keeps}
 use Rattle.version_commands.specs.declared.faults.Fault.{Fault}
 use Rattle.version_commands.specs.declared.faults.Fault.TheVariants.{Write}
-use Rattle.version_lines.specs.Output.{AppendsProperBeginning}
+use Rattle.version_lines.specs.Lines.{AppendsProperBeginning}
 
 -- whether standard output takes no more
 abbrev pub takes_no_more : Fault → Bool

@@ -7,8 +7,7 @@ use Rattle.version_commands.specs.declared.options.Invalid.{Invalid}
 use Rattle.version_commands.specs.declared.options.Invalid.TheVariants.{Fail, Skip, First, Last}
 use Rattle.version_commands.specs.declared.options.LineOptions.{LineOptions}
 use Rattle.version_lines.specs.Newest.{first_of_ties, newest}
-use Rattle.version_lines.specs.Sort.{Reads, lines_cmp}
-use Rattle.version_lines.specs.Sorting.{in_order, turned}
+use Rattle.version_lines.specs.Sort.{Reads, lines_cmp, in_order, turned}
 
 -- what is written of the lines that are kept, in its order
 abbrev pub arranged : Reads → (Option Column → List ℕ → List ℕ) → Arrangement

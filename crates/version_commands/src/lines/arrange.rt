@@ -13,7 +13,7 @@ ghost use Rattle.version_commands.specs.lines.Ordered.{bad_file, body_of, head_o
 ghost use Rattle.version_commands.specs.lines.Place.{group_text, reads_of};
 ghost use Rattle.version_lines.specs.KeyedLines.{lines_in, AreRead};
 ghost use Rattle.version_lines.specs.Lines.{output_by};
-ghost use Rattle.version_lines.specs.NewestLine.{newest_alone};
+ghost use Rattle.version_lines.specs.Newest.{newest_alone};
 ghost use Rattle.version_lines.specs.Sort.{version_in};
 
 use crate::faults::Fault;

@@ -163,7 +163,7 @@ impl<'a, B: SortBy> Takes<'a> for KeyedLines<'a, B> {
 
 impl<'a, B: SortBy> Takes<'a> for NewestLine<'a, B> {
     ghost use Rattle.std.specs.Prelude.{◌≡◌, ⊤};
-    ghost use Rattle.version_lines.specs.NewestLine.{IsNewestOf};
+    ghost use Rattle.version_lines.specs.Newest.{IsNewestOf};
     ghost use Rattle.version_lines.specs.Sort.{version_in};
 
     ghost versions = { λ newest. version_in (B.reads newest.by) };

@@ -1,7 +1,6 @@
 //! Writing lines that stand in their order.
 ghost use Rattle.std.specs.Prelude.{◌≡◌, ◌<◌, ◌++◌, ℕ, List, [], get_or, length, OnErr, OnOk};
-ghost use Rattle.version_lines.specs.Lines.{lines_output, whole_line};
-ghost use Rattle.version_lines.specs.Output.{AppendsProperBeginning, AppendsUpTo};
+ghost use Rattle.version_lines.specs.Lines.{lines_output, whole_line, AppendsProperBeginning, AppendsUpTo};
 
 use std::io::Write;
 use version_lines::{KeyedLines, NotWritten, SortBy, put_line};
@@ -36,7 +35,7 @@ impl<B: SortBy> Rows for KeyedLines<'_, B> {
 }
 
 impl Rows for Option<&[u8]> {
-    ghost use Rattle.version_lines.specs.NewestLine.{rows_in};
+    ghost use Rattle.version_lines.specs.Newest.{rows_in};
 
     ghost lines = { rows_in };
 

@@ -7,8 +7,7 @@ ghost use Rattle.version_commands.specs.faults.Ends.{Ends};
 ghost use Rattle.version_commands.specs.faults.Fault.{ComesOfPut};
 ghost use Rattle.version_commands.specs.files.Files.{AltersAtMost, Leaves};
 ghost use Rattle.version_commands.specs.lines.Ordered.{bad_file, put_of, IsPlaced};
-ghost use Rattle.version_lines.specs.Lines.{answer_text, lines_output, output_by, whole_line};
-ghost use Rattle.version_lines.specs.Output.{AppendsProperBeginning, AppendsUpTo};
+ghost use Rattle.version_lines.specs.Lines.{answer_text, lines_output, output_by, whole_line, AppendsProperBeginning, AppendsUpTo};
 
 use crate::faults::Fault;
 use crate::faults::bad::policy;

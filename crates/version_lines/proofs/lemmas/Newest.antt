@@ -23,14 +23,12 @@ use denote.Ref.{Bor}
 use Rattle.version_lines.specs.Entry.{entry_cmp, entry_line, AreInTurn, IsRead}
 use Rattle.version_lines.specs.Newest.{are_of_one_group, first_after, first_of_each, first_of_ties, group_place, newest, newest_cmp}
 use Rattle.version_lines.specs.Placed.{are_at_one_place, placed, placed_cmp, placed_entry, placed_start}
-use Rattle.version_lines.specs.Sort.{Reads, lines_precedence}
-use Rattle.version_lines.specs.Sorting.{in_order, turn, turned}
+use Rattle.version_lines.specs.Sort.{Reads, lines_precedence, in_order, turn, turned}
 use Rattle.version_lines.specs.declared.sort.entry.Entry.{Entry}
 use Rattle.version_lines.specs.declared.sort.newest.Placed.{Placed}
-use Rattle.version_lines.proofs.lemmas.Entry.{entry_total, keys_alike}
+use Rattle.version_lines.proofs.lemmas.KeyedLines.{entry_total, keys_alike}
 use Rattle.version_lines.proofs.lemmas.FirstOfEach.{AreSame, first_of_each-map}
-use Rattle.version_lines.proofs.lemmas.Sorting.{AreAlike, by_test, in_order-map, in_order-permutes}
-use Rattle.version_lines.proofs.lemmas.Sorting.Turned.{turned_total}
+use Rattle.version_lines.proofs.lemmas.Sorting.{AreAlike, by_test, in_order-map, in_order-permutes, turned_total}
 
 -- of entries that tie, the first are the first of the lines that tie
 pub first_of_ties-entries : (reversed : Bool) (reads : Reads) (keys : List ℕ)

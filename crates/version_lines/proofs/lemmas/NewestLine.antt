@@ -7,12 +7,10 @@ use Rattle.std.specs.declared.cmp.Ordering.{Ordering}
 use Rattle.std.specs.declared.cmp.Ordering.TheVariants.{Less, Equal, Greater}
 use Rattle.std.proofs.lemmas.Bool.{true≢false}
 use Rattle.std.proofs.lemmas.List.Sorted.{ranks_by}
-use Rattle.version_lines.specs.NewestLine.{newest_alone, IsNewestOf}
-use Rattle.version_lines.specs.Sort.{Reads, lines_precedence, version_in}
-use Rattle.version_lines.specs.Sorting.{in_order, put_in_order, turned}
-use Rattle.version_lines.proofs.lemmas.Kept.{newest-first, precedences_total}
-use Rattle.version_lines.proofs.lemmas.Sorting.{below, by_test, head-is}
-use Rattle.version_lines.proofs.lemmas.Sorting.Turned.{turned_total}
+use Rattle.version_lines.specs.Newest.{newest_alone, IsNewestOf}
+use Rattle.version_lines.specs.Sort.{Reads, lines_precedence, version_in, in_order, put_in_order, turned}
+use Rattle.version_lines.proofs.lemmas.KeyedLines.{newest-first, precedences_total}
+use Rattle.version_lines.proofs.lemmas.Sorting.{below, by_test, head-is, turned_total}
 use Rattle.version_schemes.specs.any.AnyVersion.{plain_any}
 use Rattle.version_schemes.specs.any.Order.{any_precedence}
 use Rattle.version_schemes.specs.declared.any.AnyVersion.{AnyVersion}

@@ -1,8 +1,7 @@
 //! What lines are sorted by.
 ghost use Rattle.std.specs.Prelude.{◌≡◌, ℕ, Bool, List};
 ghost use Rattle.std.specs.Option.{option_map};
-ghost use Rattle.version_lines.specs.Sort.{version_in, Reads};
-ghost use Rattle.version_lines.specs.Sorting.{turn};
+ghost use Rattle.version_lines.specs.Sort.{version_in, Reads, turn};
 ghost use Rattle.version_schemes.specs.any.AnyVersion.{plain_any};
 
 use std::cmp::Ordering;

@@ -3,8 +3,7 @@ ghost use Rattle.std.specs.Prelude.{◌≡◌, ◌+◌, ◌++◌, ◌≤◌, dro
 ghost use Rattle.std.specs.Ordering.{on, then_cmp};
 ghost use Rattle.std.specs.declared.cmp.Ordering.TheVariants.{Equal};
 ghost use Rattle.version_lines.specs.Entry.{after_heads_cmp};
-ghost use Rattle.version_lines.specs.Sort.{Reads};
-ghost use Rattle.version_lines.specs.Sorting.{turned};
+ghost use Rattle.version_lines.specs.Sort.{Reads, turned};
 ghost use Rattle.version_schemes.specs.any.AnyVersion.{plain_any};
 
 use crate::sort::by::{SortBy, turn};

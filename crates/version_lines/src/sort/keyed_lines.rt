@@ -5,8 +5,7 @@ ghost use Rattle.std.specs.Ordering.{eq_by_cmp};
 ghost use Rattle.version_lines.specs.Entry.{entry_cmp, version_cmp, AreInTurn};
 ghost use Rattle.version_lines.specs.KeyedLines.{lines_in, AreRead};
 ghost use Rattle.version_lines.specs.Newest.{first_of_each, first_of_ties, newest};
-ghost use Rattle.version_lines.specs.Sort.{lines_cmp, version_in};
-ghost use Rattle.version_lines.specs.Sorting.{in_order, turned};
+ghost use Rattle.version_lines.specs.Sort.{lines_cmp, version_in, in_order, turned};
 ghost use Rattle.version_schemes.specs.any.AnyVersion.{plain_any};
 
 use crate::sort::by::SortBy;

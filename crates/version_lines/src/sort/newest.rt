@@ -8,8 +8,7 @@ ghost use Rattle.std.specs.Ordering.{nat_cmp, on, then_cmp};
 ghost use Rattle.version_lines.specs.Entry.{entry_line, AreInTurn, IsRead};
 ghost use Rattle.version_lines.specs.Newest.{first_of_each, newest};
 ghost use Rattle.version_lines.specs.Placed.{are_at_one_place, placed, placed_cmp, placed_entry, placed_start};
-ghost use Rattle.version_lines.specs.Sort.{Reads};
-ghost use Rattle.version_lines.specs.Sorting.{in_order};
+ghost use Rattle.version_lines.specs.Sort.{Reads, in_order};
 ghost use Rattle.version_lines.specs.declared.sort.newest.Placed.{Placed};
 
 use crate::sort::entry::Entry;

@@ -2,7 +2,7 @@
 ghost use Rattle.std.specs.Prelude.{◌≡◌, ◌∷◌, ◌++◌, [], ℕ, List, Some};
 ghost use Rattle.std.specs.Option.{option_map};
 ghost use Rattle.version_lines.specs.Sort.{version_in};
-ghost use Rattle.version_lines.specs.NewestLine.{newest_alone, rows_in, IsNewestOf};
+ghost use Rattle.version_lines.specs.Newest.{newest_alone, rows_in, IsNewestOf};
 ghost use Rattle.version_schemes.specs.any.AnyVersion.{plain_any};
 
 use crate::sort::by::SortBy;

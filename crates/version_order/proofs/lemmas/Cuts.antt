@@ -8,10 +8,10 @@ use Rattle.std.specs.Cmp.{first_so, second_so}
 use Rattle.std.specs.List.{list_all, take_while}
 use Rattle.std.specs.Option.{option_map}
 use Rattle.std.specs.Str.Parse.{digits_value}
-use Rattle.version_order.proofs.lemmas.Front.Runs.{take_while-all}
+use Rattle.version_order.proofs.lemmas.Front.{take_while-all}
 use Rattle.version_order.specs.texts.DigitRun.{is_digits, run_value}
 use Rattle.version_order.specs.keys.NumberBytes.{number_bytes}
-use Rattle.version_order.proofs.lemmas.Lengths.{number_length}
+use Rattle.version_order.proofs.lemmas.NumberBytes.{number_length}
 use Rattle.version_order.proofs.lemmas.Runs.{run_cons, run_none}
 use Rattle.version_order.specs.texts.Cuts.{cut_first, cut_last, is_epoch, split_epoch}
 

@@ -1,9 +1,9 @@
 -- The bytes of numbers compare as the numbers do.
 use borrow.Author.Tests.{lt-ltb}
-use Rattle.std.proofs.Common.{◌≡◌, ℕ, zero, suc, ◌+◌, ◌/◌, ◌%◌, ◌<◌, ◌≤◌, ◌^◌, ◌⊎◌, inl, inr, List, [], ◌∷◌, ◌++◌, length, map, replicate, refl, sym, ap, ◌∙◌, append_assoc, arith, lit≤, ◌==◌, ◌*◌, Bool, false, true, append-nil, length-append}
+use Rattle.std.proofs.Common.{◌≡◌, ℕ, zero, suc, ◌+◌, ◌/◌, ◌%◌, ◌<◌, ◌≤◌, ◌^◌, ◌⊎◌, inl, inr, List, [], ◌∷◌, ◌++◌, length, map, replicate, refl, sym, ap, ◌∙◌, append_assoc, arith, lit≤, ◌==◌, ◌*◌, Bool, false, true, append-nil, length-append, ◌≢◌, drop, Some, Option, None, take}
 use Rattle.std.proofs.lemmas.Fmt.{decimal-digits_of}
-use Rattle.std.proofs.lemmas.Int.Digits.{all_below_base_digits_of, digits_of_step, length-digits_of_step}
-use Rattle.std.proofs.lemmas.List.{length-map, map-append}
+use Rattle.std.proofs.lemmas.Int.Digits.{all_below_base_digits_of, digits_of_step, length-digits_of_step, digits_value-lt, length-digits_of-le}
+use Rattle.std.proofs.lemmas.List.{length-map, map-append, length-replicate}
 use Rattle.std.specs.Char.{digit_char, digit_value, is_ascii_digit}
 use Rattle.std.specs.Cmp.{nat_cmp_is, ranks, first_so, second_so}
 use Rattle.std.specs.Fmt.{decimal}
@@ -12,14 +12,22 @@ use Rattle.std.specs.Ordering.{MatchOrdering, nat_cmp, ordering_then}
 use Rattle.std.specs.declared.cmp.Ordering.{Ordering}
 use Rattle.std.specs.declared.cmp.Ordering.TheVariants.{Less, Equal, Greater}
 use Rattle.version_order.proofs.lemmas.Orders.{then_assoc}
-use Rattle.version_order.specs.keys.Codes.{Writes}
+use Rattle.version_order.specs.keys.Codes.{Writes, items_bytes, list_bytes}
 use Rattle.version_order.specs.keys.Lists.{bytes_cmp}
-use Rattle.version_order.specs.keys.NumberBytes.{length_bytes, number_bytes}
+use Rattle.version_order.specs.keys.NumberBytes.{length_bytes, number_bytes, text_byte, text_bytes}
 use Rattle.std.proofs.lemmas.Bool.Decides.{nat_tests}
-use Rattle.std.specs.List.{list_all}
-use Rattle.std.specs.Str.Parse.{digits_value, digits_value_after}
+use Rattle.std.specs.List.{list_all, prefix_len, take_while, All}
+use Rattle.std.specs.Str.Parse.{digits_value, digits_value_after, AllDigits}
 use Rattle.version_order.specs.texts.Front.{begins}
-use Rattle.version_order.proofs.lemmas.Codes.{writes_alone}
+use Rattle.version_order.proofs.lemmas.Codes.{writes_alone, writes_slice}
+use Rattle.std.proofs.lemmas.Bool.{cases_Bool, eqb-true, ne_eqb}
+use Rattle.version_order.specs.texts.Bytes.{is_identifier_byte}
+use Rattle.version_order.specs.texts.DigitRun.{run_value}
+use Rattle.version_order.proofs.lemmas.Front.{begins-drop, list_all-take_while}
+use Rattle.version_order.proofs.lemmas.Runs.{run_cons, begins_inner, no_run, zero_digit}
+use Rattle.std.specs.FinMap.{nat_cmp-IsAntisymmetric}
+use Rattle.std.specs.Option.{option_cmp}
+use Rattle.std.proofs.lemmas.List.Elements.{All-head, All-rest}
 
 -- ---- numbers
 
@@ -280,3 +288,137 @@ some_bytes n more none =
       length-append (number_bytes n) more,
       number_has n,
     )
+
+-- ---- the bytes of numbers and of runs of a text
+
+-- leading zeros do not change the number of a run
+pub zeros_skipped : (text : List ℕ)
+    → run_value (drop (prefix_len is_zero text) text) ≡ run_value text
+zeros_skipped [] = refl
+zeros_skipped (b ∷ text) = elim (cases_Bool (b == 48)) [
+  | inl same ↦
+      let is : b ≡ 48 = eqb-true b 48 same in
+      rw is
+      (ap run_value (run_cons is_zero 48 text refl).1 ∙ zeros_skipped text
+      ∙ sym (ap (digits_value 10) (run_cons is_ascii_digit 48 text refl).0))
+  | inr other ↦ rw other refl
+]
+
+-- the bytes of the number of a run: the count of its digits after the zeros, then the digits
+pub number_of_run : (text left digits : List ℕ) → left ≡ drop (prefix_len is_zero text) text
+    → digits ≡ take_while is_ascii_digit left
+    → number_bytes (run_value text) ≡ length_bytes (length digits) ++ digits
+number_of_run text left digits l d =
+    let value : digits_value 10 digits ≡ run_value text =
+    ap (digits_value 10) d ∙ ap run_value l ∙ zeros_skipped text in
+    let canonical : begins is_zero digits ≡ false =
+    ap (begins is_zero) d ∙ begins_inner is_zero is_ascii_digit zero_digit left
+    ∙ ap (begins is_zero) l ∙ begins-drop is_zero text in
+    ap number_bytes (sym value)
+    ∙ number_bytes-digits (digits_value 10 digits) digits
+    (digits_of_run digits (rw d (list_all-take_while is_ascii_digit left)) canonical)
+
+-- the bytes of a number of one digit
+pub number_of_digit : (text rest : List ℕ) (digit : ℕ) → text ≡ digit ∷ rest
+    → is_ascii_digit digit ≡ true → digit ≢ 48 → begins is_ascii_digit rest ≡ false
+    → number_bytes (run_value text) ≡ (1 ∷ []) ++ (digit ∷ [])
+number_of_digit text rest digit t passes other ends =
+    let no_zero : (digit == 48) ≡ false = ne_eqb digit 48 other in
+    number_of_run text text (digit ∷ [])
+    (sym (no_run is_zero text (rw t no_zero)).1)
+    (sym
+    (ap (take_while is_ascii_digit) t ∙ (run_cons is_ascii_digit digit rest passes).0
+    ∙ ap (λ (l : List ℕ). digit ∷ l) (no_run is_ascii_digit rest ends).0))
+
+-- every byte but 0 and 1 is written as it is
+pub as_it_is : (b : ℕ) → 1 < b → text_byte (Some b) ≡ b ∷ []
+as_it_is zero above = absurd (omega arith)
+as_it_is (suc zero) above = absurd (omega arith)
+as_it_is (suc (suc n)) above = refl
+
+pub identifier_above : (b : ℕ) → is_identifier_byte b ≡ true → 1 < b
+identifier_above b identifier = grind (arith, nat_tests)
+
+-- letters, digits and hyphens are written as they are
+pub text_of_run : (run : List ℕ) → list_all is_identifier_byte run ≡ true
+    → text_bytes run ≡ run ++ 0 ∷ []
+text_of_run [] all = refl
+text_of_run (b ∷ run) all =
+    ap (λ (l : List ℕ). l ++ text_bytes run) (as_it_is b (identifier_above b (first_so _ _ all)))
+    ∙ ap (λ (l : List ℕ). b ∷ l) (text_of_run run (second_so _ _ all))
+
+-- ---- the bytes of texts compare as the texts do
+
+text_byte_compares : (a b : Option ℕ) (x y : List ℕ)
+    → bytes_cmp (text_byte a ++ x) (text_byte b ++ y)
+    ≡ ordering_then (option_cmp nat_cmp a b) (bytes_cmp x y)
+text_byte_compares None None x y = refl
+text_byte_compares None (Some zero) x y = refl
+text_byte_compares None (Some (suc zero)) x y = refl
+text_byte_compares None (Some (suc (suc b))) x y = rw (below 0 (suc (suc b)) (omega arith)) refl
+text_byte_compares (Some zero) None x y = refl
+text_byte_compares (Some zero) (Some zero) x y = refl
+text_byte_compares (Some zero) (Some (suc zero)) x y = refl
+text_byte_compares (Some zero) (Some (suc (suc b))) x y =
+    rw (below 1 (suc (suc b)) (omega arith), below 0 (suc (suc b)) (omega arith)) refl
+text_byte_compares (Some (suc zero)) None x y = refl
+text_byte_compares (Some (suc zero)) (Some zero) x y = refl
+text_byte_compares (Some (suc zero)) (Some (suc zero)) x y = refl
+text_byte_compares (Some (suc zero)) (Some (suc (suc b))) x y =
+    rw (below 1 (suc (suc b)) (omega arith)) refl
+text_byte_compares (Some (suc (suc a))) None x y = rw (above (suc (suc a)) 0 (omega arith)) refl
+text_byte_compares (Some (suc (suc a))) (Some zero) x y =
+    rw (above (suc (suc a)) 1 (omega arith), above (suc (suc a)) 0 (omega arith)) refl
+text_byte_compares (Some (suc (suc a))) (Some (suc zero)) x y =
+    rw (above (suc (suc a)) 1 (omega arith)) refl
+text_byte_compares (Some (suc (suc a))) (Some (suc (suc b))) x y = refl
+
+pub text_writes : Writes bytes_cmp text_bytes
+text_writes = writes_slice nat_cmp-IsAntisymmetric (record { compares = text_byte_compares })
+
+-- ---- how many bytes a number, a text and a list take
+
+-- a text without the bytes 0 and 1, the only bytes that are written as two
+abbrev pub IsHigh : List ℕ → Type 0
+IsHigh = All (λ b. 2 ≤ b)
+
+pub text_length : (text : List ℕ) → IsHigh text → length (text_bytes text) ≡ length text + 1
+text_length [] high = refl
+text_length (zero ∷ text) high = absurd (omega (arith, All-head (λ b. 2 ≤ b) 0 text high))
+text_length (suc zero ∷ text) high = absurd (omega (arith, All-head (λ b. 2 ≤ b) 1 text high))
+text_length (suc (suc b) ∷ text) high =
+    let rest = text_length text
+    (All-rest (λ b. 2 ≤ b) (suc (suc b)) text (suc (suc b) ∷ text) refl high) in
+    omega (arith, rest)
+
+pub digit_below : (b : ℕ) → is_ascii_digit b ≡ true → digit_value b < 10
+digit_below b h = grind (arith, nat_tests)
+
+pub all_digits : (digits : List ℕ) → list_all is_ascii_digit digits ≡ true → AllDigits 10 digits
+all_digits [] all = tt
+all_digits (b ∷ digits) all =
+    (digit_below b (first_so _ _ all), all_digits digits (second_so _ _ all))
+
+-- the number of a run of digits has at most as many digits, and its length is written in at most as
+-- many bytes
+pub number_length : (digits : List ℕ) → list_all is_ascii_digit digits ≡ true → 0 < length digits
+    → length (number_bytes (digits_value 10 digits)) ≤ 2 * length digits
+number_length digits all some =
+    grind (
+      arith,
+      length-digits_of-le,
+      digits_value-lt,
+      all_digits,
+      length-append,
+      length-replicate,
+      length-map,
+    )
+
+-- the end follows the items
+pub list_length : {K : Type 0} (code : Option K → List ℕ) (keys : List K)
+    → length (list_bytes code keys) ≡ length (items_bytes code keys) + length (code None)
+list_length code [] = omega (arith, length-append (code None) [])
+list_length code (key ∷ keys) =
+    let all = length-append (code (Some key)) (list_bytes code keys) in
+    let items = length-append (code (Some key)) (items_bytes code keys) in
+    omega (arith, all, items, list_length code keys)

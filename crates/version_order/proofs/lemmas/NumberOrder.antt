@@ -8,7 +8,7 @@ use Rattle.std.specs.Ordering.{nat_cmp, ordering_then}
 use Rattle.std.specs.Str.Parse.{digits_value}
 use Rattle.version_order.proofs.lemmas.Codes.{writes_alone}
 use Rattle.version_order.proofs.lemmas.NumberBytes.{length_writes, number_bytes-digits, number_writes, digits_of_run, is_zero}
-use Rattle.version_order.proofs.lemmas.Front.Runs.{begins-drop}
+use Rattle.version_order.proofs.lemmas.Front.{begins-drop}
 use Rattle.version_order.specs.keys.Lists.{bytes_cmp}
 use Rattle.version_order.specs.keys.NumberBytes.{length_bytes, number_bytes}
 

@@ -6,7 +6,7 @@ use Rattle.std.specs.FinMap.{IsAntisymmetric}
 use Rattle.std.specs.Ordering.{ordering_then, then_cmp}
 use Rattle.std.specs.declared.cmp.Ordering.{Ordering}
 use Rattle.std.specs.declared.cmp.Ordering.TheVariants.{Less, Equal, Greater}
-use Rattle.version_order.specs.keys.OrderLaws.{then_equal, then_second}
+use Rattle.version_order.specs.keys.Codes.{then_equal, then_second}
 
 pub then_assoc : (a b c : Ordering)
     → ordering_then (ordering_then a b) c ≡ ordering_then a (ordering_then b c)

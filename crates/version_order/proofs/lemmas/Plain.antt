@@ -4,7 +4,7 @@ use Rattle.std.proofs.Math.Seq.{drop-cons}
 use Rattle.std.proofs.lemmas.List.{length-drop, take-append-drop, take_all}
 use Rattle.std.proofs.lemmas.List.Folds.{list_all-append}
 use Rattle.std.specs.List.{list_all, prefix_len, take_while}
-use Rattle.version_order.proofs.lemmas.Front.Runs.{all_weaker, list_all-take_while}
+use Rattle.version_order.proofs.lemmas.Front.{all_weaker, list_all-take_while}
 use Rattle.version_order.proofs.lemmas.Runs.{run_cons, run_is}
 use Rattle.version_order.proofs.lemmas.Cuts.{cut_between, not_cut}
 use Rattle.version_order.specs.texts.Cuts.{cut_first, cut_last}

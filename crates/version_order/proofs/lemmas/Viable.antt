@@ -1,6 +1,3 @@
-pub mod Cuts
 pub mod Epochs
 pub mod Laws
-pub mod Left
 pub mod Walks
-pub mod Within

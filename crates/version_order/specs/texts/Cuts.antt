@@ -1,7 +1,9 @@
 -- What texts of several schemes are made of.
-use Rattle.std.specs.Prelude.{◌==◌, ◌&&◌, ℕ, Bool, List, [], ◌∷◌, if◌then◌else◌, nat_le, Option, None, Some}
+use Rattle.std.specs.Prelude.{◌==◌, ◌&&◌, ℕ, Bool, List, [], ◌∷◌, if◌then◌else◌, nat_le, Option, None, Some, drop}
 use Rattle.std.specs.Option.{option_map, option_or}
 use Rattle.version_order.specs.texts.DigitRun.{is_digits, run_value}
+use Rattle.std.specs.List.{before_first, position_or_len, slice_split}
+use Rattle.version_order.specs.texts.Bytes.{dot}
 
 -- the text before the first byte of this kind, and behind it
 abbrev pub cut_first : ℕ → List ℕ → Option (List ℕ × List ℕ)
@@ -27,3 +29,30 @@ split_epoch most text = by (cut_first 58 text)
     by : Option (List ℕ × List ℕ) → Option (ℕ × List ℕ)
     by None = Some (0, text)
     by (Some cut) = if is_epoch most cut.0 then Some (run_value cut.0, cut.1) else None
+
+-- ---- the pieces of a text that dots divide
+
+-- whether a byte is a dot
+abbrev pub is_dot : ℕ → Bool
+is_dot b = b == dot
+
+-- a text from its first byte on that passes the test
+abbrev pub from_first : (ℕ → Bool) → List ℕ → List ℕ
+from_first test text = drop (position_or_len test text) text
+
+-- the pieces behind a byte that divides them; none in an empty text
+abbrev pub further_pieces : (ℕ → Bool) → List ℕ → List (List ℕ)
+further_pieces test [] = []
+further_pieces test (b ∷ text) = slice_split test text
+
+-- what stands before the first dot
+abbrev pub first_piece : List ℕ → List ℕ
+first_piece = before_first is_dot
+
+-- what follows the first piece: a dot and further pieces, or nothing
+abbrev pub behind_piece : List ℕ → List ℕ
+behind_piece = from_first is_dot
+
+-- the pieces of a text between its dots
+abbrev pub pieces : List ℕ → List (List ℕ)
+pieces = slice_split (λ b. b == dot)

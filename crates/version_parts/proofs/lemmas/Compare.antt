@@ -10,10 +10,9 @@ use Rattle.std.specs.Ordering.{nat_cmp, ordering_then}
 use Rattle.std.specs.declared.cmp.Ordering.{Ordering}
 use Rattle.std.specs.declared.cmp.Ordering.TheVariants.{Equal}
 use Rattle.version_order.proofs.lemmas.Codes.{writes_alone}
-use Rattle.version_order.specs.keys.Codes.{Writes}
+use Rattle.version_order.specs.keys.Codes.{Writes, then_equal}
 use Rattle.version_parts.specs.Compare.{ComparesBytes, GoesOn}
 use Rattle.version_order.specs.keys.Lists.{bytes_cmp}
-use Rattle.version_order.specs.keys.OrderLaws.{then_equal}
 use Rattle.version_order.proofs.lemmas.Orders.{then_decided}
 use Rattle.version_parts.specs.Pieces.{GonePast}
 use Rattle.std.proofs.lemmas.List.{drop-drop, take-append-drop}

@@ -15,13 +15,12 @@ use Rattle.version_parts.specs.declared.key.place.AfterNumber.TheVariants.{Suffi
 use Rattle.version_parts.specs.declared.key.place.Place.TheVariants.{Part, Split, Numbered, Number, Length, Digit, Rest}
 use Rattle.version_order.specs.texts.DigitRun.{number_front, starts_with_digit}
 use Rattle.version_order.specs.texts.Front.{begins}
-use Rattle.version_order.specs.keys.NumberBytes.{length_bytes, number_bytes}
+use Rattle.version_order.specs.keys.NumberBytes.{length_bytes, number_bytes, text_byte, text_bytes}
 use Rattle.version_parts.specs.Pieces.{after_number_bytes, counted_bytes, place_bytes, run_bytes}
 use Rattle.version_rules.specs.key.PartKey.{numbered_bytes}
-use Rattle.version_order.specs.keys.TextBytes.{text_byte, text_bytes}
 use Rattle.version_rules.proofs.lemmas.Numeral.{decimal-digits}
 use Rattle.version_order.proofs.lemmas.NumberBytes.{length_bytes-long, length_bytes-short, number_bytes-digits, is_zero, digits_of_run}
-use Rattle.version_order.proofs.lemmas.Front.Runs.{begins-drop, list_all-take_while, take_while-all}
+use Rattle.version_order.proofs.lemmas.Front.{begins-drop, list_all-take_while, take_while-all}
 use Rattle.version_order.proofs.lemmas.Bytes.{letter_other}
 
 -- ---- parts and splits

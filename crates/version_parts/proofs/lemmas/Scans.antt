@@ -5,7 +5,7 @@ use Rattle.std.specs.Option.{option_map, option_map_or}
 use Rattle.version_order.specs.texts.Bytes.{dot, HasDigits, is_identifier_byte}
 use Rattle.version_order.specs.texts.Front.{Consumes, Front, after_mark, behind, dotted_front, elements_at, further, begins, map_value}
 use Rattle.version_order.specs.keys.Lists.{split_last}
-use Rattle.version_order.proofs.lemmas.Front.Dotted.{elements_at-first, further-None, further-next, listed, unlisted}
+use Rattle.version_order.proofs.lemmas.Front.{elements_at-first, further-None, further-next, listed, unlisted}
 use Rattle.version_rules.proofs.lemmas.Grammar.{split_last-append}
 use Rattle.std.proofs.lemmas.Bool.{cases_Bool, cases_lt, eq-eqb, ne_eqb}
 use Rattle.std.proofs.lemmas.List.{length-drop, get_or-take, get_or_past, length-take-le}
@@ -20,7 +20,7 @@ use Rattle.std.proofs.lemmas.List.Folds.{prefix_len-append}
 use Rattle.std.proofs.lemmas.Str.{IsCharBoundary-from_take, IsUtf8-from_ascii}
 use Rattle.std.specs.Str.{IsAscii, IsCharBoundary, IsUtf8}
 use Rattle.version_order.specs.texts.Class.{IsAsciiClass, contains}
-use Rattle.version_order.specs.texts.Sep.{PlainSep, sep_of}
+use Rattle.version_order.specs.texts.Grammar.{PlainSep, sep_of}
 use Rattle.version_order.specs.declared.class.Class.{Class}
 use Rattle.version_order.specs.declared.class.Class.TheVariants.{Digit, Letter, Alphanumeric, Identifier, Metadata, Mark, NotDot, NotSign}
 

@@ -6,13 +6,12 @@ use Rattle.std.specs.Char.{is_ascii_alphanumeric}
 use Rattle.version_rules.specs.grammar.Body.{PlainBody, SpellsBody, body_front, body_of, body_text, chunks_front, chunks_text}
 use Rattle.version_order.specs.texts.Bytes.{dot}
 use Rattle.version_rules.specs.grammar.Chunk.{PlainChunk, SpellsPart, chunk_text}
-use Rattle.version_order.specs.texts.Grammar.{SpellsDotted}
+use Rattle.version_order.specs.texts.Grammar.{SpellsDotted, EndsList, EndsRun, IsComplete, IsPrinted, IsSound}
 use Rattle.version_rules.specs.grammar.Last.{PlainLast, last_of}
 use Rattle.version_order.specs.keys.Lists.{split_last}
-use Rattle.version_order.specs.texts.Reading.{EndsList, EndsRun, IsComplete, IsPrinted, IsSound}
 use Rattle.version_rules.specs.grammar.Release.{release_text}
 use Rattle.version_rules.proofs.lemmas.Chunk.{parts_complete, parts_printed, parts_sound}
-use Rattle.version_order.proofs.lemmas.Front.Repeated.{cases_Option}
+use Rattle.version_order.proofs.lemmas.Front.{cases_Option}
 use Rattle.version_rules.proofs.lemmas.Grammar.{split_last-append}
 use Rattle.version_rules.proofs.lemmas.Last.{last_of-is, last_of-only, last_printed}
 

@@ -8,14 +8,11 @@ use Rattle.std.specs.List.{join_with_byte, list_all, prefix_len, take_while}
 use Rattle.version_order.specs.texts.Bytes.{dot, is_identifier_byte, is_metadata_byte}
 use Rattle.version_rules.specs.grammar.Chunk.{PlainChunk, Numeric, Alphanum, SpellsChunk, SpellsChunkOf, SpellsPart, chunk_front, chunk_front_of, chunk_text, part_front}
 use Rattle.version_order.specs.texts.Front.{Front, begins, behind, dotted_front, map_value, optional, run_front}
-use Rattle.version_order.specs.texts.Grammar.{SpellsDotted, SpellsOptional}
+use Rattle.version_order.specs.texts.Grammar.{SpellsDotted, SpellsOptional, EndsList, EndsRun, IsComplete, IsPrinted, IsSound}
 use Rattle.version_rules.specs.grammar.Release.{SpellsMetadata, SpellsRelease, release_text}
 use Rattle.version_rules.specs.grammar.Numeral.{unsigned_front}
-use Rattle.version_order.specs.texts.Reading.{EndsList, EndsRun, IsComplete, IsPrinted, IsSound}
-use Rattle.version_order.proofs.lemmas.Front.Dotted.{behind-Some, dotted_complete, dotted_sound}
-use Rattle.version_order.proofs.lemmas.Front.Repeated.{cases_Option}
+use Rattle.version_order.proofs.lemmas.Front.{behind-Some, dotted_complete, dotted_sound, cases_Option, all_weaker, list_all-take_while, prefix_len-append, reads_run, run_front-reads}
 use Rattle.version_rules.proofs.lemmas.Numeral.{numeral_printed, unsigned_complete, unsigned_sound}
-use Rattle.version_order.proofs.lemmas.Front.Runs.{all_weaker, list_all-take_while, prefix_len-append, reads_run, run_front-reads}
 use Rattle.version_order.proofs.lemmas.Bytes.{digits_identify}
 
 pub digit_alphanumeric : (b : ℕ) → is_ascii_digit b ≡ true → is_ascii_alphanumeric b ≡ true

@@ -6,13 +6,12 @@ use Rattle.std.specs.List.{list_all}
 use Rattle.version_rules.specs.grammar.Body.{PlainBody, SpellsBody}
 use Rattle.version_order.specs.texts.Bytes.{dot, is_identifier_byte, is_metadata_byte, hyphen, plus}
 use Rattle.version_rules.specs.grammar.Chunk.{Numeric, Alphanum, PlainChunk, SpellsChunk, SpellsChunkOf}
-use Rattle.version_order.specs.texts.Grammar.{SpellsDotted, SpellsEach, SpellsOptional}
+use Rattle.version_order.specs.texts.Grammar.{SpellsDotted, SpellsEach, SpellsOptional, PlainSep, Colon, Hyphen, Plus, sep_byte, IsSound}
 use Rattle.version_rules.specs.grammar.MChunk.{PlainMChunk, SpellsMChunk}
 use Rattle.version_rules.specs.grammar.Release.{SpellsMetadata, SpellsRelease}
 use Rattle.version_rules.specs.grammar.Numeral.{SpellsNumeral}
 use Rattle.version_rules.proofs.lemmas.MChunk.{spelled_run}
-use Rattle.version_order.proofs.lemmas.Front.Runs.{all_weaker}
-use Rattle.version_order.specs.texts.Sep.{PlainSep, Colon, Hyphen, Plus, sep_byte}
+use Rattle.version_order.proofs.lemmas.Front.{all_weaker}
 use Rattle.version_rules.specs.grammar.Mess.{Further, PlainMess, SpellsFurther, SpellsMess}
 use Rattle.version_rules.specs.grammar.SemVer.{PlainSemVer, SpellsSemVer}
 use Rattle.version_rules.specs.grammar.Version.{PlainVersion, SpellsEpoch, SpellsVersion}
@@ -20,7 +19,6 @@ use Rattle.version_rules.specs.grammar.Versioning.{PlainVersioning, Ideal, Gener
 use Rattle.std.proofs.lemmas.Bool.{cases_Bool, eqb-true}
 use Rattle.std.proofs.lemmas.List.{nil_from_length}
 use Rattle.version_order.specs.texts.Front.{Front, whole}
-use Rattle.version_order.specs.texts.Reading.{IsSound}
 use Rattle.version_order.specs.keys.Lists.{split_last}
 use Rattle.std.specs.Prelude.{MatchResult}
 use Rattle.std.specs.Result.{IsOk}

@@ -3,13 +3,11 @@ use Rattle.std.proofs.Common.{◌≡◌, ℕ, List, ◌++◌, Option, Some, None
 use Rattle.std.specs.Option.{option_cmp, option_map_or}
 use Rattle.std.specs.Ordering.{ordering_then, nat_cmp}
 use Rattle.version_order.proofs.lemmas.Codes.{writes_on, writes_then, ended_same, in_turn, writes_list, writes_slice}
-use Rattle.version_order.proofs.lemmas.NumberBytes.{number_writes}
-use Rattle.version_order.proofs.lemmas.TextBytes.{text_writes}
-use Rattle.version_order.specs.keys.Codes.{Writes, list_bytes}
+use Rattle.version_order.proofs.lemmas.NumberBytes.{number_writes, text_writes}
+use Rattle.version_order.specs.keys.Codes.{Writes, list_bytes, then_equal}
 use Rattle.version_order.specs.keys.Lists.{bytes_cmp, none_last_cmp}
-use Rattle.version_order.specs.keys.NumberBytes.{number_bytes}
+use Rattle.version_order.specs.keys.NumberBytes.{number_bytes, text_bytes}
 use Rattle.version_rules.specs.key.PartKey.{Split, numbered_bytes, numbered_cmp, split_bytes, split_cmp, split_of, PartKey, Word, Number, list_cmp, part_bytes, part_cmp, part_key, parts_bytes, suffix_bytes, suffix_of}
-use Rattle.version_order.specs.keys.TextBytes.{text_bytes}
 use Rattle.std.proofs.lemmas.Fmt.{decimal_is_IsNumeral}
 use Rattle.std.proofs.lemmas.List.{append-nil}
 use Rattle.std.specs.FinMap.{IsAntisymmetric, slice_cmp-IsAntisymmetric}
@@ -22,7 +20,6 @@ use Rattle.version_rules.specs.grammar.Chunk.{PlainChunk, Numeric, Alphanum}
 use Rattle.version_rules.specs.laws.Release.{chunks_same, releases_same}
 use Rattle.version_rules.specs.order.Parts.{chunk_bytes, chunk_cmp, release_bytes, release_cmp}
 use Rattle.version_rules.specs.key.Tail.{Tail, PreReleased, Bare, Released, Sections, section_bytes, sections_cmp, tail_bytes, tail_cmp}
-use Rattle.version_order.specs.keys.OrderLaws.{then_equal}
 use Rattle.version_order.proofs.lemmas.Orders.{then_assoc}
 use Rattle.version_rules.specs.key.Key.{key_of_semver, precedence, key_of, key_tie_cmp}
 use Rattle.version_rules.specs.grammar.SemVer.{PlainSemVer}

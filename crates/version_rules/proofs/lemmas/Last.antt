@@ -9,10 +9,9 @@ use Rattle.version_rules.specs.grammar.Chunk.{PlainChunk}
 use Rattle.version_order.specs.texts.Front.{begins, run_front}
 use Rattle.version_rules.specs.grammar.Last.{IsLastOf, IsLetters, IsNumbered, IsOther, PlainLast, Numeric, Rc, Post, Alphanum, SpellsPost, SpellsRc, last_of, last_text, numbered_last}
 use Rattle.version_rules.specs.grammar.Numeral.{SpellsNumeral, unsigned_front}
-use Rattle.version_order.proofs.lemmas.Front.Repeated.{cases_Option}
+use Rattle.version_order.proofs.lemmas.Front.{cases_Option, reads_run, run_front-reads}
 use Rattle.version_rules.proofs.lemmas.Numeral.{numeral_printed, unsigned_complete, unsigned_sound}
 use Rattle.version_order.proofs.lemmas.Bytes.{letter_other}
-use Rattle.version_order.proofs.lemmas.Front.Runs.{reads_run, run_front-reads}
 use Rattle.version_rules.specs.grammar.Chunk as chunk
 
 digit_no_letter : (b : ℕ) → is_ascii_digit b ≡ true → is_ascii_alphabetic b ≡ false

@@ -10,14 +10,10 @@ use Rattle.version_order.specs.texts.Bytes.{dot}
 use Rattle.version_order.specs.texts.DigitRun.{is_digits}
 use Rattle.version_order.specs.texts.Front.{Consumes, dotted_front, run_front}
 use Rattle.version_rules.specs.laws.Front.{mchunk_consumes}
-use Rattle.version_order.specs.texts.Grammar.{SpellsDotted}
+use Rattle.version_order.specs.texts.Grammar.{SpellsDotted, EndsList, EndsRun, IsComplete, IsKept, IsPrinted, IsSoundBefore, PlainSep, Colon, Hyphen, Plus, Underscore, Tilde, sep_byte, sep_front, sep_of}
 use Rattle.version_rules.specs.grammar.MChunk.{Digits, Rev, Plain, EndsChunk, PlainMChunk, SpellsDigits, SpellsMChunk, SpellsRevision, chunk_before, ends_chunk, mchunk_front, mchunk_text, value_of_digits, value_of_revision, variant_of}
-use Rattle.version_order.specs.texts.Reading.{EndsList, EndsRun, IsComplete, IsKept, IsPrinted, IsSoundBefore}
-use Rattle.version_order.specs.texts.Sep.{PlainSep, Colon, Hyphen, Plus, Underscore, Tilde, sep_byte, sep_front, sep_of}
 use Rattle.version_rules.proofs.lemmas.Chunk.{digit_alphanumeric, dotted_printed}
-use Rattle.version_order.proofs.lemmas.Front.Dotted.{dotted_complete, dotted_consumes}
-use Rattle.version_order.proofs.lemmas.Front.Repeated.{cases_Option}
-use Rattle.version_order.proofs.lemmas.Front.Runs.{after_mark-Some, all_weaker, reads_run, run_front-reads}
+use Rattle.version_order.proofs.lemmas.Front.{dotted_complete, dotted_consumes, cases_Option, after_mark-Some, all_weaker, reads_run, run_front-reads}
 
 -- ---- the value of a text of digits, and of a revision
 

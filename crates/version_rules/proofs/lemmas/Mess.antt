@@ -5,15 +5,12 @@ use Rattle.std.proofs.lemmas.Str.{IsAscii-append}
 use Rattle.std.specs.Str.{IsAscii}
 use Rattle.version_order.specs.texts.Bytes.{dot}
 use Rattle.version_order.specs.texts.Front.{repeated}
-use Rattle.version_order.specs.texts.Grammar.{SpellsBehind, SpellsDotted, SpellsEach}
+use Rattle.version_order.specs.texts.Grammar.{SpellsBehind, SpellsDotted, SpellsEach, EndsList, IsComplete, IsKept, IsPrinted, IsSoundBefore, PlainSep, sep_byte, sep_front}
 use Rattle.version_rules.specs.grammar.MChunk.{EndsChunk, PlainMChunk, SpellsMChunk, mchunk_front, mchunk_text}
-use Rattle.version_order.specs.texts.Reading.{EndsList, IsComplete, IsKept, IsPrinted, IsSoundBefore}
-use Rattle.version_order.specs.texts.Sep.{PlainSep, sep_byte, sep_front}
 use Rattle.version_order.proofs.lemmas.Bytes.{IsAscii-nil, metadata_run_ascii, sign_ascii}
 use Rattle.version_rules.proofs.lemmas.Chunk.{dotted_printed}
-use Rattle.version_order.proofs.lemmas.Front.Dotted.{dotted_sound_before}
+use Rattle.version_order.proofs.lemmas.Front.{dotted_sound_before, Shrinks, cases_Option, each_ends, each_printed, repeated-reads, repeated_follows, repeated_sound}
 use Rattle.version_rules.proofs.lemmas.MChunk.{mchunk_kept, mchunk_sound, section_complete, section_consumes, section_printed, sep_front-Some, sep_of_byte, sign_ends}
-use Rattle.version_order.proofs.lemmas.Front.Repeated.{Shrinks, cases_Option, each_ends, each_printed, repeated-reads, repeated_follows, repeated_sound}
 use Rattle.version_rules.specs.grammar.Mess.{Further, PlainMess, Section, SpellsFurther, SpellsMess, further_front, further_text, joined_section, mess_front, mess_of, mess_text, section_front}
 use Rattle.version_rules.proofs.lemmas.Grammar.{of_mess, whole-Some}
 

@@ -14,9 +14,8 @@ use Rattle.std.specs.Fmt.{decimal}
 use Rattle.std.specs.Option.{option_and_then}
 use Rattle.version_order.specs.texts.Front.{after_mark, run_front}
 use Rattle.version_rules.specs.grammar.Numeral.{HasNoLeadingZero, SpellsNumeral, unsigned_front, value_of_run}
-use Rattle.version_order.specs.texts.Reading.{EndsRun, IsComplete, IsPrinted, IsSound}
-use Rattle.version_order.proofs.lemmas.Front.Repeated.{cases_Option}
-use Rattle.version_order.proofs.lemmas.Front.Runs.{after_mark-Some, reads_run, run_front-reads, prefix_len-append}
+use Rattle.version_order.specs.texts.Grammar.{EndsRun, IsComplete, IsPrinted, IsSound}
+use Rattle.version_order.proofs.lemmas.Front.{cases_Option, after_mark-Some, reads_run, run_front-reads, prefix_len-append}
 use borrow.Author.Tests.{le-leb}
 use Rattle.std.proofs.lemmas.List.{append-nil, drop_all, drop_at, take_all, take_at}
 use Rattle.std.specs.Cmp.{first_so, second_so}

@@ -2,8 +2,7 @@
 -- as the operator.
 use Rattle.std.proofs.Common.{◌≡◌, ◌==◌, ◌∙◌, ℕ, false, List, [], ◌∷◌, ◌++◌, codes, Some, None, refl, ap, inl, inr}
 use Rattle.version_order.specs.texts.Front.{after_mark, begins}
-use Rattle.version_order.proofs.lemmas.Front.Repeated.{cases_Option}
-use Rattle.version_order.proofs.lemmas.Front.Runs.{after_mark-Some}
+use Rattle.version_order.proofs.lemmas.Front.{cases_Option, after_mark-Some}
 use Rattle.version_rules.specs.declared.op.Op.{Op}
 use Rattle.version_rules.specs.declared.op.Op.TheVariants.{Exact, Greater, GreaterEq, Less, LessEq, Tilde, Caret, Wildcard}
 use Rattle.version_rules.specs.requirement.Requirement.{after_word, first_op, op_front, op_text, tried_ops}

@@ -9,10 +9,8 @@ use Rattle.std.specs.List.{All, list_all, AllZip, count_by, join_with_byte, slic
 use Rattle.std.specs.Option.{option_map, option_map_or, is_some}
 use Rattle.version_order.specs.texts.Bytes.{is_metadata_byte}
 use Rattle.version_order.specs.texts.Front.{begins}
-use Rattle.version_order.specs.texts.Reading.{IsPrinted}
-use Rattle.version_order.specs.texts.Sep.{PlainSep, Colon, Hyphen, Plus, Underscore, Tilde, sep_byte}
-use Rattle.version_order.proofs.lemmas.Front.Repeated.{cases_Option}
-use Rattle.version_order.proofs.lemmas.Front.Runs.{all_weaker}
+use Rattle.version_order.specs.texts.Grammar.{IsPrinted, PlainSep, Colon, Hyphen, Plus, Underscore, Tilde, sep_byte}
+use Rattle.version_order.proofs.lemmas.Front.{cases_Option, all_weaker}
 use Rattle.version_rules.specs.declared.op.Op.{Op}
 use Rattle.version_rules.specs.requirement.Requirement.{op_front, op_text, PlainRequirement, RequirementOwns, SpellsOperand, SpellsRequirement, operand_of, requirement_of, requirement_text}
 use Rattle.version_rules.specs.requirement.Requirements.{comma, SpellsRequirements, every, requirements_of, requirements_text, before_others}

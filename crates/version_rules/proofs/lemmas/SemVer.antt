@@ -7,14 +7,12 @@ use Rattle.std.specs.Str.{IsAscii}
 use Rattle.version_order.specs.texts.Bytes.{dot, hyphen, is_identifier_byte, is_metadata_byte, plus}
 use Rattle.version_rules.specs.grammar.Chunk.{PlainChunk, chunk_front}
 use Rattle.version_order.specs.texts.Front.{begins, behind, dotted_front, optional, run_front}
-use Rattle.version_order.specs.texts.Grammar.{SpellsOptional}
+use Rattle.version_order.specs.texts.Grammar.{SpellsOptional, EndsList, EndsRun, IsPrinted, IsSound}
 use Rattle.version_rules.specs.grammar.Release.{SpellsMetadata, meta_front, SpellsRelease, release_front}
 use Rattle.version_rules.specs.grammar.Numeral.{unsigned_front}
-use Rattle.version_order.specs.texts.Reading.{EndsList, EndsRun, IsPrinted, IsSound}
 use Rattle.version_order.proofs.lemmas.Bytes.{IsAscii-nil, metadata_run_ascii, sign_ascii}
 use Rattle.version_rules.proofs.lemmas.Chunk.{metadata_complete, metadata_sound, optional_complete, optional_sound, release_complete, release_printed, release_sound}
-use Rattle.version_order.proofs.lemmas.Front.Dotted.{behind-Some}
-use Rattle.version_order.proofs.lemmas.Front.Repeated.{cases_Option}
+use Rattle.version_order.proofs.lemmas.Front.{behind-Some, cases_Option}
 use Rattle.version_rules.proofs.lemmas.Numeral.{numeral_printed, unsigned_complete, unsigned_sound}
 use Rattle.version_rules.proofs.lemmas.Grammar.{read_whole, spelled_once, whole_read, whole_spelled, of_semver}
 use Rattle.version_rules.specs.grammar.SemVer.{PlainSemVer, SpellsSemVer, optional_text, semver_front, semver_of, semver_text}

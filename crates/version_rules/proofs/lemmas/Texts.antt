@@ -7,10 +7,9 @@ use Rattle.std.specs.Int.Digits.{AllBelowBase}
 use Rattle.std.specs.List.{AllByRecursion, flat_map, prefix_len, take_while}
 use Rattle.version_rules.specs.grammar.Chunk.{PlainChunk, Numeric, Alphanum, chunk_text}
 use Rattle.version_order.specs.keys.Codes.{list_bytes}
-use Rattle.version_order.specs.keys.NumberBytes.{length_bytes, number_bytes}
+use Rattle.version_order.specs.keys.NumberBytes.{length_bytes, number_bytes, text_byte, text_bytes}
 use Rattle.version_rules.specs.key.PartKey.{PartKey, Word, Number, part_bytes, parts_bytes, part_key, chunk_parts, section_parts, suffix_of, Split, numbered_bytes, split_bytes, split_of}
 use Rattle.version_rules.specs.order.Parts.{chunk_bytes, release_bytes}
-use Rattle.version_order.specs.keys.TextBytes.{text_byte, text_bytes}
 use Rattle.version_rules.specs.key.Texts.{held_text, held_texts, part_text, parts_text, rest_text, split_text, AreBytes, key_text, section_text, tail_text, texts_of}
 use Rattle.std.proofs.lemmas.List.Elements.{All-from_recursion, recursion_from_All}
 use Rattle.std.specs.Option.{option_map_or}
@@ -19,7 +18,7 @@ use Rattle.version_order.specs.texts.DigitRun.{number_front, starts_with_digit}
 use Rattle.version_rules.specs.grammar.Last.{last_text}
 use Rattle.version_rules.specs.grammar.MChunk.{PlainMChunk, mchunk_text}
 use Rattle.version_rules.specs.key.Key.{Key, key_behind_epoch, key_of, key_of_sections, section_epoch, sections_tail, key_bytes}
-use Rattle.version_order.specs.texts.Sep.{PlainSep, Colon}
+use Rattle.version_order.specs.texts.Grammar.{PlainSep, Colon}
 use Rattle.version_rules.specs.key.Tail.{Tail, PreReleased, Bare, Released, Sections, section_bytes, tail_bytes}
 use Rattle.version_rules.specs.grammar.Versioning.{PlainVersioning, Ideal, General, Complex}
 

@@ -12,16 +12,14 @@ use Rattle.version_rules.specs.grammar.Body.{PlainBody, SpellsBody, body_front}
 use Rattle.version_order.specs.texts.Bytes.{colon, dot, hyphen, is_metadata_byte, plus}
 use Rattle.version_rules.specs.grammar.Chunk.{Numeric, chunk_front}
 use Rattle.version_order.specs.texts.Front.{after_mark, dotted_front, optional, run_front}
-use Rattle.version_order.specs.texts.Grammar.{SpellsDotted}
+use Rattle.version_order.specs.texts.Grammar.{SpellsDotted, IsPrinted, IsSound}
 use Rattle.version_rules.specs.grammar.Release.{SpellsMetadata, meta_front, SpellsRelease, release_front, release_text}
 use Rattle.version_rules.specs.grammar.Numeral.{SpellsNumeral, unsigned_front}
-use Rattle.version_order.specs.texts.Reading.{IsPrinted, IsSound}
 use Rattle.version_order.proofs.lemmas.Bytes.{IsAscii-nil, metadata_run_ascii, sign_ascii}
 use Rattle.version_rules.proofs.lemmas.Body.{body_complete, body_printed, body_sound}
 use Rattle.version_rules.proofs.lemmas.Chunk.{metadata_sound, optional_sound, release_printed, release_sound}
-use Rattle.version_order.proofs.lemmas.Front.Repeated.{cases_Option}
+use Rattle.version_order.proofs.lemmas.Front.{cases_Option, all_weaker}
 use Rattle.version_rules.proofs.lemmas.Numeral.{numeral_printed, unsigned_complete, unsigned_sound}
-use Rattle.version_order.proofs.lemmas.Front.Runs.{all_weaker}
 use Rattle.version_rules.proofs.lemmas.Grammar.{of_body, of_metadata, of_optional, of_release, read_whole, spelled_once, whole_read, whole_spelled, of_version}
 use Rattle.version_rules.specs.grammar.Version.{PlainVersion, SpellsEpoch, SpellsVersion, epoch_front, epoch_text, version_front, version_of, version_text}
 use Rattle.version_rules.proofs.lemmas.SemVer.{ends_complete, optional_printed}

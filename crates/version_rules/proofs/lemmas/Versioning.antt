@@ -2,8 +2,8 @@
 -- prints the text.
 use Rattle.std.proofs.Common.{◌≡◌, List, ℕ, Some, None, refl, inl, inr, ◌∙◌, [], ◌∷◌, ◌++◌, append_assoc}
 use Rattle.std.specs.Str.{IsAscii}
-use Rattle.version_order.specs.texts.Reading.{IsPrinted}
-use Rattle.version_order.proofs.lemmas.Front.Repeated.{cases_Option}
+use Rattle.version_order.specs.texts.Grammar.{IsPrinted, SpellsDotted}
+use Rattle.version_order.proofs.lemmas.Front.{cases_Option}
 use Rattle.version_rules.specs.grammar.Mess.{mess_of}
 use Rattle.version_rules.specs.grammar.SemVer.{PlainSemVer, SpellsSemVer, semver_of, semver_text}
 use Rattle.version_rules.specs.grammar.Version.{PlainVersion, SpellsVersion, version_of, SpellsEpoch, version_text}
@@ -13,7 +13,6 @@ use Rattle.version_rules.proofs.lemmas.SemVer.{semver_ascii, semver_of-Some, sem
 use Rattle.version_rules.proofs.lemmas.Version.{version_ascii, version_of-Some, version_of-spells, version_printed}
 use Rattle.version_order.specs.texts.Bytes.{dot}
 use Rattle.version_rules.specs.grammar.Chunk.{PlainChunk, Numeric, SpellsPart}
-use Rattle.version_order.specs.texts.Grammar.{SpellsDotted}
 use Rattle.version_rules.specs.grammar.Conversions.{version_of_semver}
 
 -- a text parses as no strict version exactly if it spells none

@@ -6,7 +6,7 @@ use Rattle.std.specs.Fmt.{decimal}
 use Rattle.version_rules.specs.grammar.Chunk.{PlainChunk}
 use Rattle.version_rules.specs.grammar.Last.{PlainLast, last_text}
 use Rattle.version_rules.specs.grammar.MChunk.{PlainMChunk, Digits, Plain}
-use Rattle.version_order.specs.texts.Sep.{Colon, Hyphen, Plus}
+use Rattle.version_order.specs.texts.Grammar.{Colon, Hyphen, Plus}
 use Rattle.version_rules.specs.grammar.Mess.{Further, PlainMess, Section}
 use Rattle.version_rules.specs.grammar.SemVer.{PlainSemVer}
 use Rattle.version_rules.specs.grammar.Version.{PlainVersion}

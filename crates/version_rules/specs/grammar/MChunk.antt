@@ -11,7 +11,7 @@ use Rattle.version_order.specs.texts.Bytes.{dot}
 use Rattle.version_order.specs.texts.DigitRun.{is_digits}
 use Rattle.version_order.specs.texts.Front.{◌>>=◌, Front, after_mark, run_front}
 use Rattle.version_order.specs.keys.Lists.{bytes_cmp}
-use Rattle.version_order.specs.texts.Sep.{is_sep}
+use Rattle.version_order.specs.texts.Grammar.{is_sep}
 
 -- the value of a messy chunk, whether its text is owned or borrowed; digits and a revision keep
 -- their value beside their text

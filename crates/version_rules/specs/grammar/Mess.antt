@@ -6,9 +6,8 @@ use Rattle.std.specs.Ordering.{on, then_cmp}
 use Rattle.std.specs.declared.cmp.Ordering.{Ordering}
 use Rattle.version_order.specs.texts.Bytes.{dot}
 use Rattle.version_order.specs.texts.Front.{◌>>=◌, Front, dotted_front, repeated, whole}
-use Rattle.version_order.specs.texts.Grammar.{SpellsBehind, SpellsDotted, SpellsEach}
+use Rattle.version_order.specs.texts.Grammar.{SpellsBehind, SpellsDotted, SpellsEach, PlainSep, Colon, sep_byte, sep_front, sep_plain_cmp}
 use Rattle.version_rules.specs.grammar.MChunk.{PlainMChunk, SpellsMChunk, digits_number, mchunk_front, mchunk_plain_cmp, mchunk_text}
-use Rattle.version_order.specs.texts.Sep.{PlainSep, Colon, sep_byte, sep_front, sep_plain_cmp}
 
 -- the chunks of a section
 abbrev pub Section : Type 0

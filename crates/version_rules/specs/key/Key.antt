@@ -9,7 +9,7 @@ use Rattle.version_rules.specs.grammar.Last.{last_text}
 use Rattle.version_rules.specs.grammar.MChunk.{PlainMChunk, mchunk_text}
 use Rattle.version_rules.specs.key.PartKey.{PartKey, Number, chunk_parts, list_cmp, part_key, section_parts, parts_bytes}
 use Rattle.version_rules.specs.grammar.Mess.{PlainMess, Further}
-use Rattle.version_order.specs.texts.Sep.{PlainSep, Colon}
+use Rattle.version_order.specs.texts.Grammar.{PlainSep, Colon}
 use Rattle.version_rules.specs.grammar.SemVer.{PlainSemVer}
 use Rattle.version_rules.specs.key.Tail.{Tail, PreReleased, Bare, Released, Sections, tail_cmp, section_bytes, tail_bytes}
 use Rattle.version_rules.specs.grammar.Version.{PlainVersion}

@@ -7,8 +7,7 @@ use Rattle.std.specs.Ordering.{nat_cmp, on, then_cmp, ordering_then}
 use Rattle.std.specs.declared.cmp.Ordering.{Ordering}
 use Rattle.version_order.specs.texts.DigitRun.{number_front}
 use Rattle.version_order.specs.keys.Lists.{bytes_cmp, ended_cmp, none_last_cmp}
-use Rattle.version_order.specs.keys.NumberBytes.{number_bytes}
-use Rattle.version_order.specs.keys.TextBytes.{text_bytes}
+use Rattle.version_order.specs.keys.NumberBytes.{number_bytes, text_bytes}
 use Rattle.std.specs.declared.cmp.Ordering.TheVariants.{Less, Equal, Greater}
 use Rattle.version_rules.specs.grammar.Chunk.{PlainChunk, chunk_text}
 use Rattle.version_order.specs.keys.Codes.{list_bytes}

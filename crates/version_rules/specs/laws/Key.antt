@@ -5,7 +5,7 @@ use Rattle.std.specs.Cmp.Lexicographic.{lists_total, options_total}
 use Rattle.std.specs.Option.{option_cmp}
 use Rattle.std.specs.Ordering.{nat_cmp, on, then_cmp, eq_by_cmp}
 use Rattle.version_rules.specs.grammar.Chunk.{PlainChunk}
-use Rattle.version_order.specs.keys.OrderLaws.{then_equal, ties_behind, ties_same}
+use Rattle.version_order.specs.keys.Codes.{then_equal, ties_behind, ties_same}
 use Rattle.version_rules.specs.key.PartKey.{PartKey}
 use Rattle.version_rules.specs.laws.Part.{list_total}
 use Rattle.version_rules.specs.laws.Release.{release_total}

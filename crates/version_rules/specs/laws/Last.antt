@@ -7,9 +7,9 @@ use Rattle.std.specs.Ordering.{nat_cmp, on, ordering_then, then_cmp}
 use Rattle.version_rules.specs.grammar.Last.{PlainLast, Numeric, Rc, Post, Alphanum}
 use Rattle.version_rules.specs.order.LastOrder.{last_plain_cmp, last_rank}
 use Rattle.version_order.specs.keys.Lists.{bytes_cmp}
-use Rattle.version_order.specs.keys.OrderLaws.{bytes_same, then_equal, then_first, then_second}
+use Rattle.version_order.specs.keys.Codes.{bytes_same, then_equal, then_first, then_second}
 use Rattle.version_rules.specs.grammar.MChunk.{PlainMChunk, Digits, Rev, Plain, mchunk_plain_cmp, mchunk_rank, mchunk_text, mchunk_value}
-use Rattle.version_order.specs.texts.Sep.{PlainSep, Colon, Hyphen, Plus, Underscore, Tilde, sep_plain_cmp, sep_rank}
+use Rattle.version_order.specs.texts.Grammar.{PlainSep, Colon, Hyphen, Plus, Underscore, Tilde, sep_plain_cmp, sep_rank}
 
 -- a last part as its rank, its first number, its text and its second number
 first : PlainLast → ℕ

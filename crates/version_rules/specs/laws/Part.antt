@@ -6,7 +6,7 @@ use Rattle.std.specs.FinMap.{IsAntisymmetric, nat_cmp-IsAntisymmetric}
 use Rattle.std.specs.Option.{option_cmp}
 use Rattle.std.specs.Ordering.{nat_cmp, on, then_cmp, eq_by_cmp}
 use Rattle.version_order.specs.keys.Lists.{none_last_cmp, with_end}
-use Rattle.version_order.specs.keys.OrderLaws.{bytes_same, none_last_same, none_last_total, options_same, then_equal, then_first, then_second, ties_same}
+use Rattle.version_order.specs.keys.Codes.{bytes_same, none_last_same, none_last_total, options_same, then_equal, then_first, then_second, ties_same}
 use Rattle.version_rules.specs.key.PartKey.{PartKey, Word, Number, list_cmp, part_cmp, Split, numbered_cmp, split_cmp, part_bytes, chunk_parts, part_key}
 use Rattle.version_rules.specs.grammar.Chunk.{PlainChunk, Numeric, Alphanum}
 use Rattle.version_rules.specs.order.Parts.{chunk_bytes, as_part_cmp, chunks_cmp, last_cmp, mchunk_cmp, release_cmp}

@@ -6,7 +6,7 @@ use Rattle.std.specs.FinMap.{IsAntisymmetric, nat_cmp-IsAntisymmetric, slice_cmp
 use Rattle.std.specs.Ordering.{nat_cmp, on, then_cmp}
 use Rattle.version_rules.specs.grammar.Chunk.{PlainChunk, Numeric, Alphanum}
 use Rattle.version_order.specs.keys.Lists.{bytes_cmp}
-use Rattle.version_order.specs.keys.OrderLaws.{bytes_same, then_equal}
+use Rattle.version_order.specs.keys.Codes.{bytes_same, then_equal}
 use Rattle.version_rules.specs.order.Parts.{chunk_cmp, release_cmp}
 
 -- a chunk as its class, its number and its text

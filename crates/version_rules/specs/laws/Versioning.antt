@@ -3,7 +3,7 @@ use Rattle.std.specs.Cmp.{IsTotalOrder, on_total, then_total, nat_cmp_total}
 use Rattle.std.specs.Cmp.Lexicographic.{lists_total, nat_list_cmp_total, options_total}
 use Rattle.std.specs.FinMap.{IsAntisymmetric, slice_cmp-IsAntisymmetric, nat_cmp-IsAntisymmetric}
 use Rattle.version_rules.specs.laws.Last.{mchunk_total, mchunks_same, sep_total, seps_same, last_total, lasts_same}
-use Rattle.version_order.specs.keys.OrderLaws.{then_first, then_second, bytes_same, options_same, none_last_same, none_last_total, then_equal}
+use Rattle.version_order.specs.keys.Codes.{then_first, then_second, bytes_same, options_same, none_last_same, none_last_total, then_equal}
 use Rattle.version_rules.specs.grammar.Mess.{Further, PlainMess, further_plain_cmp, mess_plain_cmp, section_plain_cmp}
 use Rattle.version_rules.specs.laws.Release.{release_total, releases_same}
 use Rattle.version_rules.specs.grammar.Version.{PlainVersion}

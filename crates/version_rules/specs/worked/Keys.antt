@@ -4,7 +4,7 @@ use Rattle.version_rules.specs.grammar.Chunk.{PlainChunk}
 use Rattle.version_rules.specs.grammar.Last.{PlainLast}
 use Rattle.version_rules.specs.grammar.MChunk.{Digits, Rev, Plain}
 use Rattle.version_rules.specs.key.Key.{key_of, key_bytes}
-use Rattle.version_order.specs.texts.Sep.{PlainSep, Colon, Hyphen, Plus, Underscore}
+use Rattle.version_order.specs.texts.Grammar.{PlainSep, Colon, Hyphen, Plus, Underscore}
 use Rattle.version_rules.specs.grammar.SemVer.{PlainSemVer}
 use Rattle.version_rules.specs.grammar.Versioning.{PlainVersioning, Ideal, General, Complex}
 use Rattle.version_rules.specs.grammar.Chunk as chunk

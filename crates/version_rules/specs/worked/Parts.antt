@@ -1,9 +1,8 @@
 -- Bytes and orders of parts worked out by hand.
 use Rattle.std.specs.Prelude.{◌≡◌, ℕ, List, [], ◌∷◌, map, Option, Some, None, codes}
 use Rattle.std.specs.declared.cmp.Ordering.TheVariants.{Less}
-use Rattle.version_order.specs.keys.NumberBytes.{length_bytes}
+use Rattle.version_order.specs.keys.NumberBytes.{length_bytes, text_bytes}
 use Rattle.version_rules.specs.key.PartKey.{PartKey, list_cmp, part_cmp, part_key}
-use Rattle.version_order.specs.keys.TextBytes.{text_bytes}
 
 -- the bytes of four lengths, and of the text of the bytes 00 01 02 FF
 pub record WorkedBytes : Type 0 where

@@ -3,7 +3,7 @@
 ghost use Rattle.std.specs.Prelude.{◌≡◌, ◌↔◌, [], List, Some, ℕ};
 ghost use Rattle.std.specs.Str.{IsAscii};
 ghost use Rattle.version_rules.specs.grammar.MChunk.{EndsChunk};
-ghost use Rattle.version_order.specs.texts.Reading.{IsKept, IsPrinted, IsSound, IsSoundBefore};
+ghost use Rattle.version_order.specs.texts.Grammar.{IsKept, IsPrinted, IsSound, IsSoundBefore};
 ghost use Rattle.version_rules.specs.grammar.Conversions.{version_of_semver};
 ghost use Rattle.version_rules.specs.grammar.Mess.{mess_front, mess_of, mess_text, PlainMess, SpellsMess};
 ghost use Rattle.version_rules.specs.requirement.Requirement.{requirement_of, requirement_text, PlainRequirement, SpellsRequirement};

@@ -12,7 +12,7 @@ ghost use Rattle.version_rules.specs.key.PartKey.{PartKey};
 ghost use Rattle.version_rules.specs.key.Texts.{AreBytes, key_text, texts_of};
 ghost use Rattle.version_rules.specs.key.Key.{Key, key_of, key_of_semver, key_of_version, precedence, sections_tail, key_bytes};
 ghost use Rattle.version_rules.specs.grammar.Mess.{mess_plain_cmp, PlainMess};
-ghost use Rattle.version_order.specs.texts.Sep.{PlainSep};
+ghost use Rattle.version_order.specs.texts.Grammar.{PlainSep};
 ghost use Rattle.version_rules.specs.order.Orders.{mess_cmp, version_cmp, versioning_cmp};
 ghost use Rattle.version_rules.specs.grammar.SemVer.{PlainSemVer};
 ghost use Rattle.version_rules.specs.order.Kinds.{semver_cmp, SameButMetadata, version_plain_cmp};

@@ -11,7 +11,7 @@ ghost use Rattle.version_rules.specs.grammar.Last.{last_of, last_text, IsLastOf,
 ghost use Rattle.version_rules.specs.grammar.MChunk.{mchunk_front, mchunk_text, EndsChunk, SpellsMChunk};
 ghost use Rattle.version_rules.specs.grammar.Release.{SpellsMetadata, release_text, SpellsRelease};
 ghost use Rattle.version_rules.specs.grammar.Numeral.{unsigned_front, SpellsNumeral};
-ghost use Rattle.version_order.specs.texts.Reading.{EndsList, EndsRun, IsComplete, IsKept, IsPrinted, IsSound, IsSoundBefore};
+ghost use Rattle.version_order.specs.texts.Grammar.{EndsList, EndsRun, IsComplete, IsKept, IsPrinted, IsSound, IsSoundBefore};
 
 // A number parses as numerals are spelled, and prints as its numeral.
 fn numerals()

@@ -16,10 +16,9 @@ ghost use Rattle.version_rules.specs.grammar.Last.{PlainLast};
 ghost use Rattle.version_rules.specs.order.LastOrder.{last_plain_cmp};
 ghost use Rattle.version_order.specs.keys.Lists.{bytes_cmp};
 ghost use Rattle.version_rules.specs.grammar.MChunk.{PlainMChunk};
-ghost use Rattle.version_order.specs.keys.NumberBytes.{length_bytes, number_bytes};
+ghost use Rattle.version_order.specs.keys.NumberBytes.{length_bytes, number_bytes, text_bytes};
 ghost use Rattle.version_rules.specs.key.PartKey.{Number, PartKey, Word, list_cmp, part_bytes, part_cmp, part_key, parts_bytes, suffix_of, Split, split_bytes, split_cmp, split_of};
 ghost use Rattle.version_rules.specs.order.Parts.{chunks_cmp, last_cmp, mchunk_cmp, chunk_cmp, release_bytes, release_cmp};
-ghost use Rattle.version_order.specs.keys.TextBytes.{text_bytes};
 ghost use Rattle.version_rules.specs.worked.Parts.{WorkedBytes, WorkedOrder};
 
 // A length below 255 is one byte. A longer one is the byte 255, then the bytes of the length less 255.

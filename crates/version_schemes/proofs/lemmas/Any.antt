@@ -18,7 +18,7 @@ use Rattle.version_texts.proofs.lemmas.order.Ties.{texts_alike, texts_tie_total}
 use Rattle.version_texts.specs.Order.{texts_tie}
 use Rattle.version_order.specs.Keyed.{PlainKeyed}
 use Rattle.version_texts.specs.Mixed.{mixed}
-use Rattle.version_order.proofs.lemmas.Keyed.{order_by_keys}
+use Rattle.version_order.proofs.lemmas.Codes.{order_by_keys}
 use Rattle.version_schemes.proofs.lemmas.Table.{compare_by_keys, keys_some}
 use Rattle.version_schemes.specs.Scheme.{rules, scheme_number}
 use Rattle.version_order.specs.Rules.{compared}

@@ -18,9 +18,8 @@ use Rattle.scheme_semver.proofs.lemmas.Costs.{semver_cost}
 use Rattle.scheme_semver.specs.Order.{semver_bytes}
 use Rattle.scheme_semver.specs.Rules.{semver_facts}
 use Rattle.scheme_semver.specs.Texts.{semver_of}
-use Rattle.version_order.proofs.lemmas.Codes.{writes_on}
+use Rattle.version_order.proofs.lemmas.Codes.{writes_on, compares_by_keys, is_read, some_key}
 use Rattle.version_order.proofs.lemmas.Costs.{ends_cost}
-use Rattle.version_order.proofs.lemmas.Keyed.{compares_by_keys, is_read, some_key}
 use Rattle.version_order.specs.Facts.{key_room}
 use Rattle.version_order.specs.Keyed.{AreWithin}
 use Rattle.version_order.specs.Rules.{ComparesByKeys}

@@ -11,7 +11,7 @@ use Rattle.std.specs.List.Sorted.{IsStrictlySortedBy}
 use Rattle.std.specs.List.{AllByRecursion}
 use Rattle.std.specs.declared.cmp.Ordering.{Ordering}
 use Rattle.std.specs.declared.cmp.Ordering.TheVariants.{Less, Equal, Greater}
-use Rattle.version_order.specs.keys.OrderLaws.{bytes_same}
+use Rattle.version_order.specs.keys.Codes.{bytes_same}
 use Rattle.version_order.specs.keys.Lists.{bytes_cmp}
 use Rattle.version_sets.specs.Form.{AreMerged, Rise, has}
 use Rattle.version_sets.specs.Pile.{kept, merged}

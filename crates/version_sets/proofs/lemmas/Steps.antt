@@ -4,7 +4,7 @@ use Rattle.std.specs.Prelude.{⊤}
 use Rattle.std.proofs.lemmas.Bool.{cases_Bool}
 use Rattle.std.proofs.lemmas.List.{length-map}
 use Rattle.std.specs.List.{concat}
-use Rattle.version_order.proofs.lemmas.Front.Repeated.{cases_Option}
+use Rattle.version_order.proofs.lemmas.Front.{cases_Option}
 use Rattle.version_order.specs.declared.ends.End.{End}
 use Rattle.version_order.specs.texts.Front.{after_mark}
 use Rattle.version_rules.specs.requirement.Requirement.{after_word}

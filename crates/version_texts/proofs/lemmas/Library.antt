@@ -1,5 +1,5 @@
 -- Lemmas of other crates by names that an attribute can write.
-use Rattle.version_order.proofs.lemmas.Front.Runs.{take_while-all, list_all-take_while}
+use Rattle.version_order.proofs.lemmas.Front.{take_while-all, list_all-take_while}
 use Rattle.std.proofs.Common.{append-nil, length-append}
 use Rattle.std.proofs.lemmas.List.{length-take-le}
 use Rattle.std.proofs.lemmas.Bool.{eq-eqb, lt-ltb}

@@ -8,23 +8,22 @@ use Rattle.std.proofs.lemmas.Bool.Decides.{nat_tests}
 use Rattle.version_order.specs.texts.Bytes.{dot, hyphen, is_identifier_byte, is_metadata_byte, plus, is_section_byte, colon}
 use Rattle.version_order.specs.texts.Class.{is_mark}
 use Rattle.version_order.specs.texts.Front.{begins, is_run}
-use Rattle.version_order.proofs.lemmas.Front.Runs.{list_all-take_while, all_weaker, take_while-all}
+use Rattle.version_order.proofs.lemmas.Front.{list_all-take_while, all_weaker, take_while-all}
 use Rattle.version_texts.specs.Scan.{is_chunk, is_messy, is_metadata_tail, is_not_plus, is_numeral, is_released, is_tail, body_of, epoch_is_numeral, has_three_numbers, is_general, is_parts, behind_body, body_end, body_start, digits_len, from_body, has_epoch}
-use Rattle.version_order.proofs.lemmas.Runs.{and-false, not_true, run_in_section, behind_mark, larger_run}
+use Rattle.version_order.proofs.lemmas.Runs.{and-false, not_true, run_in_section, behind_mark, larger_run, begins_inner, digit_alphanumeric}
 use Rattle.version_texts.proofs.lemmas.scan.Section.{no_mark_in_run, no_dot_in_run, chunk_digits}
 use Rattle.version_order.specs.Viable.{IsLeft}
 use Rattle.version_order.proofs.lemmas.Bytes.{identifier_no_dot, dot_no_identifier, dot_no_letter}
-use Rattle.version_order.proofs.lemmas.Viable.Within.{split_pieces, split_within, and-assoc}
-use Rattle.version_order.proofs.lemmas.Viable.Left.{alone, grown, run_left, behind, is_nothing, last_piece, nothing_apart, nothing_left, run_is_run, next, next_piece, unless, wrong_piece, after_run, at_end, last_rest, next_closed, next_rest, next_tail, nothing_nil, whole_run}
+use Rattle.version_order.proofs.lemmas.Viable.Laws.{split_pieces, split_within, and-assoc}
+use Rattle.version_order.proofs.lemmas.Viable.Walks.{alone, grown, run_left, behind, is_nothing, last_piece, nothing_apart, nothing_left, run_is_run, next, next_piece, unless, wrong_piece, after_run, at_end, last_rest, next_closed, next_rest, next_tail, nothing_nil, whole_run}
 use Rattle.std.proofs.lemmas.List.{drop-drop, take-append-drop}
 use Rattle.version_order.specs.texts.DigitRun.{is_digits, starts_with_digit}
-use Rattle.version_order.specs.texts.Pieces.{pieces}
+use Rattle.version_order.specs.texts.Cuts.{pieces}
 use Rattle.version_texts.proofs.lemmas.scan.TextKind.{kind_law}
 use Rattle.version_rules.specs.declared.kind.Kind.{Kind}
 use Rattle.version_rules.specs.declared.kind.Kind.TheVariants as kind
 use Rattle.version_rules.specs.grammar.Versioning.{versioning_kind, versioning_of}
 use Rattle.std.specs.Option.{is_some, option_map}
-use Rattle.version_order.proofs.lemmas.RunsWithin.{begins_inner, digit_alphanumeric}
 use Rattle.version_texts.proofs.lemmas.scan.Shape.{has_epoch-append}
 
 -- ---- what is left of a text as a version of each kind, piece by piece

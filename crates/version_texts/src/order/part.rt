@@ -10,7 +10,7 @@ ghost use Rattle.version_order.specs.keys.Lists.{bytes_cmp, none_last_cmp};
 ghost use Rattle.version_rules.specs.key.PartKey.{part_cmp, part_key, suffix_of, numbered_cmp, split_cmp, split_of};
 ghost use Rattle.version_texts.specs.declared.order.delimiters.Run.TheVariants.{Word};
 ghost use Rattle.version_texts.specs.Key.{delimits, in_run};
-ghost use Rattle.version_order.specs.texts.Pieces.{from_first};
+ghost use Rattle.version_order.specs.texts.Cuts.{from_first};
 
 use crate::order::delimiters::{Delimiters, Run};
 use crate::order::run::compare_runs;

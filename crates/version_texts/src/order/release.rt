@@ -7,7 +7,7 @@ ghost use Rattle.std.specs.Ordering.{nat_cmp};
 ghost use Rattle.std.specs.declared.cmp.Ordering.TheVariants.{Equal, Greater};
 ghost use Rattle.version_order.specs.texts.DigitRun.{run_value};
 ghost use Rattle.version_rules.specs.order.Parts.{chunk_cmp, release_cmp};
-ghost use Rattle.version_order.specs.texts.Pieces.{behind_piece, first_piece};
+ghost use Rattle.version_order.specs.texts.Cuts.{behind_piece, first_piece};
 ghost use Rattle.version_texts.specs.Key.{chunk_of, chunks_of};
 
 use crate::order::delimiters::Delimiters;

@@ -33,7 +33,7 @@ pub fn write_inexact(list: &[u8], room: &mut [u8]) -> usize
 }
 
 // Writes these members, joined by commas.
-#[tactic(auto, using(crate::proofs::lemmas::requirement::Members::after_commas, crate::proofs::lemmas::requirement::Members::joined_after, version_order::proofs::lemmas::Taking::next_fits, version_order::proofs::lemmas::Taking::owes_all, version_order::proofs::lemmas::Taking::owes_rest, version_order::proofs::lemmas::Taking::owes_same))]
+#[tactic(auto, using(crate::proofs::lemmas::requirement::Members::after_commas, crate::proofs::lemmas::requirement::Members::joined_after, version_order::proofs::lemmas::Sinks::next_fits, version_order::proofs::lemmas::Sinks::owes_all, version_order::proofs::lemmas::Sinks::owes_rest, version_order::proofs::lemmas::Sinks::owes_same))]
 fn put_inexact<S: Sink>(sink: &mut S, list: &[u8])
     requires { S.fits sink.old (inexact_part list.now) }
     ensures { S.takes sink.old (inexact_part list.now) sink.new }

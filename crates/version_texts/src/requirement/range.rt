@@ -64,7 +64,7 @@ pub(crate) fn kept_parts(body: &[u8], kept: Kept) -> Option<&[u8]>
 
 // Writes the epoch and the kept parts of a version, by its text and its shape.
 #[inline(always)]
-#[tactic(auto, using(crate::proofs::lemmas::order::Kept::front_passes, version_order::proofs::lemmas::Taking::takes_same))]
+#[tactic(auto, using(crate::proofs::lemmas::order::Kept::front_passes, version_order::proofs::lemmas::Sinks::takes_same))]
 pub(crate) fn put_kept<S: Sink>(sink: &mut S, text: &[u8], shape: Shape, kept: Kept)
     requires shape { Fits text.now shape }
     requires fits { S.fits sink.old (begun (text_key text.now shape).epoch

@@ -4,7 +4,7 @@ ghost use Rattle.std.specs.Prelude.{◌≡◌, ◌==◌, ◌∷◌, Some, drop, 
 ghost use Rattle.version_rules.specs.grammar.Versioning.{versioning_nth};
 ghost use Rattle.version_texts.specs.VersioningRef.{body_number, chunk_number, last_number, pieces_left, section_in, version_in};
 ghost use Rattle.version_texts.specs.Scan.{shape_of};
-ghost use Rattle.version_order.specs.texts.Pieces.{pieces};
+ghost use Rattle.version_order.specs.texts.Cuts.{pieces};
 
 use crate::key::body_at;
 use crate::order::ties::is_numbered;

@@ -2,7 +2,7 @@
 use Rattle.std.proofs.Common.{◌≡◌, List, ℕ, Option, Some, Result, refl}
 use Rattle.serde_json.specs.Data.{Data, string}
 use Rattle.serde_json.specs.Find.{as_str}
-use Rattle.version_order.specs.texts.Reading.{IsPrinted}
+use Rattle.version_order.specs.texts.Grammar.{IsPrinted}
 use Rattle.versions.specs.Errors.{PlainError, ReadsOr}
 use Rattle.versions.specs.Json.{as_json, ReadsJson}
 use Rattle.versions.specs.declared.errors.ReadError.{ReadError}

@@ -14,7 +14,7 @@ use Rattle.std.specs.declared.alloc.AllocError.{AllocError}
 use Rattle.version_parts.specs.Body.{Reads}
 use Rattle.version_order.specs.texts.Front.{repeated}
 use Rattle.version_parts.proofs.lemmas.Scans.{nothing_before, read_before}
-use Rattle.version_order.proofs.lemmas.Front.Repeated.{cases_Option, repeated-None, repeated-next}
+use Rattle.version_order.proofs.lemmas.Front.{cases_Option, repeated-None, repeated-next}
 use Rattle.version_rules.proofs.lemmas.Mess.{further_shrinks, mess_front-None, mess_front-Some}
 
 -- ---- A flat messy version, step by step

@@ -1,5 +1,5 @@
 use Rattle.std.proofs.Common.{◌≡◌, ◌<◌, ◌∙◌, ℕ, Some, arith, get_or, if◌then◌else◌, refl, true}
-use Rattle.version_order.proofs.lemmas.Tables.{table_at}
+use Rattle.version_order.proofs.lemmas.Bytes.{table_at}
 use Rattle.scheme_deb.specs.Order.{rank as rank_of}
 use Rattle.scheme_deb.specs.Texts.{is_of_upstream}
 use Rattle.scheme_deb.specs.declared.rank.TheConstants.{RANKS}

@@ -3,7 +3,7 @@ use Rattle.std.specs.List.{list_all, prefix_len, take_while}
 use Rattle.version_order.specs.keys.Codes.{list_bytes}
 use Rattle.scheme_deb.specs.Order.{byte_code}
 use Rattle.scheme_deb.specs.Texts.{is_of_upstream, is_run}
-use Rattle.version_order.proofs.lemmas.Taking.{Owes}
+use Rattle.version_order.proofs.lemmas.Sinks.{Owes}
 use Rattle.scheme_deb.proofs.version.put_run.Given as goal
 
 -- what is left of the run is to be written

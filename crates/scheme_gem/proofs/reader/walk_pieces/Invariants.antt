@@ -1,5 +1,5 @@
 use Rattle.std.proofs.Common.{ℕ, Bool, List, length}
-use Rattle.version_order.specs.Walks.{Stops}
+use Rattle.version_order.specs.Viable.{Stops}
 use Rattle.scheme_gem.specs.Texts.{is_plain}
 use Rattle.scheme_gem.proofs.reader.walk_pieces.Given as goal
 

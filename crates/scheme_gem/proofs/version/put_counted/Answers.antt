@@ -1,5 +1,5 @@
 use Rattle.std.proofs.Common.{[], ◌∷◌, refl, replicate}
-use Rattle.version_order.proofs.lemmas.Taking.{next_fits, owes_all, owes_rest}
+use Rattle.version_order.proofs.lemmas.Sinks.{next_fits, owes_all, owes_rest}
 use Rattle.scheme_gem.proofs.version.put_counted.Goals as goal
 
 pub put_zeros-requires : goal.put_zeros-requires

@@ -1,5 +1,5 @@
 use Rattle.std.proofs.Common.{[], ◌∷◌, refl}
-use Rattle.version_order.proofs.lemmas.Taking.{next_fits, owes_all, owes_rest, owes_same}
+use Rattle.version_order.proofs.lemmas.Sinks.{next_fits, owes_all, owes_rest, owes_same}
 use Rattle.scheme_gem.proofs.lemmas.Segments.{one_byte}
 use Rattle.scheme_gem.proofs.version.put_zeros.Goals as goal
 

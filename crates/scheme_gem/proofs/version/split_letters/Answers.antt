@@ -1,7 +1,7 @@
 use Rattle.std.proofs.Common.{◌∙◌, ◌∷◌, ap, sym}
 use Rattle.std.specs.Char.{is_ascii_alphabetic}
 use Rattle.std.specs.List.{list_all}
-use Rattle.version_order.proofs.lemmas.Front.Runs.{list_all-take_while}
+use Rattle.version_order.proofs.lemmas.Front.{list_all-take_while}
 use Rattle.scheme_gem.proofs.lemmas.Segments.{word_first}
 use Rattle.scheme_gem.specs.Segments.{Word, segments_of}
 use Rattle.scheme_gem.proofs.version.split_letters.Goals as goal

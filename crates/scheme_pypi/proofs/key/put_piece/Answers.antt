@@ -1,6 +1,6 @@
 use Rattle.std.proofs.Common.{[], ◌∷◌, sym}
 use Rattle.scheme_pypi.proofs.lemmas.Pieces.{bytes_of_number, bytes_of_text}
-use Rattle.version_order.proofs.lemmas.Taking.{next_fits, owes_all, owes_rest}
+use Rattle.version_order.proofs.lemmas.Sinks.{next_fits, owes_all, owes_rest}
 use Rattle.scheme_pypi.proofs.key.put_piece.Goals as goal
 
 pub put_ranked-requires : goal.put_ranked-requires

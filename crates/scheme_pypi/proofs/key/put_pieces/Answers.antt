@@ -1,12 +1,12 @@
 use Rattle.std.proofs.Common.{[], ◌∷◌, ◌∙◌, ap, refl, rules, sym}
 use Rattle.std.specs.Char.{is_ascii_alphanumeric}
 use Rattle.std.specs.List.{list_all}
-use Rattle.version_order.proofs.lemmas.Front.Runs.{list_all-take_while}
+use Rattle.version_order.proofs.lemmas.Front.{list_all-take_while}
 use Rattle.version_order.specs.keys.Codes.{list_bytes}
 use Rattle.scheme_pypi.proofs.lemmas.Pieces.{no_pieces, piece_falls, pieces_step}
 use Rattle.scheme_pypi.specs.Order.{local_bytes}
 use Rattle.scheme_pypi.specs.Texts.{pieces_of, next_piece}
-use Rattle.version_order.proofs.lemmas.Taking.{next_fits, owes_all, owes_rest, owes_same}
+use Rattle.version_order.proofs.lemmas.Sinks.{next_fits, owes_all, owes_rest, owes_same}
 use Rattle.scheme_pypi.proofs.key.put_pieces.Goals as goal
 
 pub put-requires : goal.put-requires

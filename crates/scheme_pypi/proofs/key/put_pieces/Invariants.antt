@@ -2,7 +2,7 @@ use Rattle.std.proofs.Common.{Some, length}
 use Rattle.version_order.specs.keys.Codes.{list_bytes}
 use Rattle.scheme_pypi.specs.Order.{local_bytes, locals_bytes}
 use Rattle.scheme_pypi.specs.Texts.{pieces_of}
-use Rattle.version_order.proofs.lemmas.Taking.{Owes}
+use Rattle.version_order.proofs.lemmas.Sinks.{Owes}
 use Rattle.scheme_pypi.proofs.key.put_pieces.Given as goal
 
 -- the bytes of the pieces that are left are to be written

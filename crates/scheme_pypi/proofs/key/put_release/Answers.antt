@@ -3,7 +3,7 @@ use Rattle.version_order.specs.texts.DigitRun.{behind_digits, run_value}
 use Rattle.version_order.specs.keys.NumberBytes.{number_bytes}
 use Rattle.scheme_pypi.proofs.lemmas.Release.{begun, is_positive, is_zero, left_bytes, next_left, number_falls, one_more, one_written, release_end}
 use Rattle.scheme_pypi.specs.Texts.{next_number}
-use Rattle.version_order.proofs.lemmas.Taking.{next_fits, owes_rest, owes_same}
+use Rattle.version_order.proofs.lemmas.Sinks.{next_fits, owes_rest, owes_same}
 use Rattle.scheme_pypi.proofs.key.put_release.Goals as goal
 
 pub put-requires : goal.put-requires

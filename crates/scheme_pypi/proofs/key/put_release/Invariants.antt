@@ -3,7 +3,7 @@ use Rattle.version_order.specs.keys.Codes.{list_bytes}
 use Rattle.scheme_pypi.specs.Order.{number_or_end_bytes}
 use Rattle.scheme_pypi.specs.Texts.{release_of}
 use Rattle.scheme_pypi.proofs.lemmas.Release.{IsLeft, left_bytes}
-use Rattle.version_order.proofs.lemmas.Taking.{Owes}
+use Rattle.version_order.proofs.lemmas.Sinks.{Owes}
 use Rattle.scheme_pypi.proofs.key.put_release.Given as goal
 
 -- the bytes of the zeros that are held back, and of the numbers that are left, are to be written

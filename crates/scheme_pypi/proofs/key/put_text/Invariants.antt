@@ -1,8 +1,8 @@
 use Rattle.std.proofs.Common.{◌≡◌, length, map, true}
 use Rattle.std.specs.Char.{is_ascii_alphanumeric, to_ascii_lowercase}
 use Rattle.std.specs.List.{list_all}
-use Rattle.version_order.specs.keys.TextBytes.{text_bytes}
-use Rattle.version_order.proofs.lemmas.Taking.{Owes}
+use Rattle.version_order.specs.keys.NumberBytes.{text_bytes}
+use Rattle.version_order.proofs.lemmas.Sinks.{Owes}
 use Rattle.scheme_pypi.proofs.key.put_text.Given as goal
 
 -- the bytes of the text that is left are to be written

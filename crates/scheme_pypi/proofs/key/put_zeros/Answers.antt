@@ -1,6 +1,6 @@
 use Rattle.std.proofs.Common.{[], ◌∷◌, arith}
 use Rattle.scheme_pypi.proofs.lemmas.Release.{zeros_step}
-use Rattle.version_order.proofs.lemmas.Taking.{next_fits, owes_rest, owes_same}
+use Rattle.version_order.proofs.lemmas.Sinks.{next_fits, owes_rest, owes_same}
 use Rattle.scheme_pypi.proofs.key.put_zeros.Goals as goal
 
 pub put-requires : goal.put-requires

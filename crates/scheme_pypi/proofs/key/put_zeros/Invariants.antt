@@ -1,7 +1,7 @@
 use Rattle.std.proofs.Common.{replicate}
 use Rattle.version_order.specs.keys.Codes.{items_bytes}
 use Rattle.scheme_pypi.specs.Order.{number_or_end_bytes}
-use Rattle.version_order.proofs.lemmas.Taking.{Owes}
+use Rattle.version_order.proofs.lemmas.Sinks.{Owes}
 use Rattle.scheme_pypi.proofs.key.put_zeros.Given as goal
 
 -- the zeros that are left are to be written

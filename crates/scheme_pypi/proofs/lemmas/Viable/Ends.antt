@@ -7,18 +7,17 @@ use Rattle.std.specs.Char.{is_ascii_alphanumeric}
 use Rattle.std.specs.Cmp.{first_so, second_so}
 use Rattle.std.specs.List.{list_all, prefix_len, take_while}
 use Rattle.std.specs.Option.{option_map}
-use Rattle.version_order.proofs.lemmas.Front.Runs.{list_all-take_while}
+use Rattle.version_order.proofs.lemmas.Front.{list_all-take_while}
 use Rattle.version_order.specs.texts.Bytes.{plus}
 use Rattle.version_order.specs.texts.Front.{begins}
-use Rattle.version_order.proofs.lemmas.Runs.{run_cons, run_none}
-use Rattle.version_order.proofs.lemmas.RunsWithin.{no_run as no_run_of}
+use Rattle.version_order.proofs.lemmas.Runs.{run_cons, run_none, no_run as no_run_of}
 use Rattle.scheme_pypi.proofs.lemmas.Items.{joined-last, joined-more, optional-None, optional-Some}
 use Rattle.scheme_pypi.proofs.lemmas.Pieces.{local-None, local-other, piece_read, pieces_read, some_run}
 use Rattle.scheme_pypi.specs.Order.{Local}
 use Rattle.scheme_pypi.specs.Texts.{is_blank, is_separator, joined, local_front, local_of, piece_front, pieces_front, without_blanks, next_piece as next_piece_of}
 use Rattle.version_order.specs.Viable.{IsLeft}
 use Rattle.scheme_pypi.specs.Stages.{after_dev, after_plus, is_ended}
-use Rattle.version_order.proofs.lemmas.Viable.Left.{at_end, behind, empty_run, is_nothing, last_piece, next, next_piece, unless, wrong_piece}
+use Rattle.version_order.proofs.lemmas.Viable.Walks.{at_end, behind, empty_run, is_nothing, last_piece, next, next_piece, unless, wrong_piece}
 
 -- ---- blanks
 

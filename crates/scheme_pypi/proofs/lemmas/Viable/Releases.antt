@@ -10,16 +10,15 @@ use Rattle.std.specs.Prelude.{option_and_then, unwrap_or}
 use Rattle.version_order.specs.texts.Bytes.{dot, hyphen}
 use Rattle.version_order.specs.texts.DigitRun.{number_front, run_value}
 use Rattle.version_order.specs.texts.Front.{after_mark, begins, whole}
-use Rattle.version_order.proofs.lemmas.Runs.{and-false}
-use Rattle.version_order.proofs.lemmas.RunsWithin.{no_run as no_run_of}
+use Rattle.version_order.proofs.lemmas.Runs.{and-false, no_run as no_run_of}
 use Rattle.scheme_pypi.proofs.lemmas.Items.{joined-None, joined-last, joined-more}
 use Rattle.scheme_pypi.proofs.lemmas.Pieces.{some_run}
 use Rattle.scheme_pypi.proofs.lemmas.Release.{number_read, numbers_read}
 use Rattle.scheme_pypi.specs.Texts.{epoch_front, epoch_or_zero, is_blank, is_dot, pypi_of, release_front, without_blanks, without_separator, without_v, pypi_rules, next_number}
-use Rattle.version_order.proofs.lemmas.Keyed.{is_read}
+use Rattle.version_order.proofs.lemmas.Codes.{is_read}
 use Rattle.version_order.specs.Viable.{IsLeft, IsLongestViable}
 use Rattle.scheme_pypi.specs.Stages.{after_blanks, after_post, after_release, after_v, is_epoch, is_implicit, is_release}
-use Rattle.version_order.proofs.lemmas.Viable.Left.{after_run, at_end, behind, empty_run, or-false, longest, longest_alike, same, shorter_left, stays, unless, where_begins}
+use Rattle.version_order.proofs.lemmas.Viable.Walks.{after_run, at_end, behind, empty_run, or-false, longest, longest_alike, same, shorter_left, stays, unless, where_begins}
 use Rattle.scheme_pypi.proofs.lemmas.Viable.Ends.{blanks_gone, some}
 use Rattle.scheme_pypi.proofs.lemmas.Viable.Stages.{dotted_dev, post_follows, release_digit, release_follows, release_no_mark}
 

@@ -9,7 +9,7 @@ use Rattle.version_order.specs.texts.Front.{begins}
 use Rattle.scheme_pypi.specs.Texts.{after_word, left_of_word, is_separator, number_or_zero, without_separator}
 use Rattle.version_order.specs.Viable.{IsLeft}
 use Rattle.scheme_pypi.specs.Stages.{Follows, number_then, word_then, worded}
-use Rattle.version_order.proofs.lemmas.Viable.Left.{after_run, behind, stays, unless, unless_nothing}
+use Rattle.version_order.proofs.lemmas.Viable.Walks.{after_run, behind, stays, unless, unless_nothing}
 
 -- ---- words
 

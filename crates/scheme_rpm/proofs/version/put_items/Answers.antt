@@ -1,6 +1,6 @@
 use Rattle.std.proofs.Common.{◌∷◌, [], ap, rules, sym}
 use Rattle.version_order.specs.keys.Codes.{list_bytes}
-use Rattle.version_order.proofs.lemmas.Taking.{next_fits, owes_rest, owes_same}
+use Rattle.version_order.proofs.lemmas.Sinks.{next_fits, owes_rest, owes_same}
 use Rattle.scheme_rpm.specs.Order.{item_bytes}
 use Rattle.scheme_rpm.proofs.lemmas.Rpm.{bytes_first, bytes_step}
 use Rattle.scheme_rpm.proofs.version.put_items.Goals as goal

@@ -1,5 +1,5 @@
 use Rattle.std.proofs.Common.{◌∷◌, []}
-use Rattle.version_order.proofs.lemmas.Taking.{next_fits, owes_all, owes_rest}
+use Rattle.version_order.proofs.lemmas.Sinks.{next_fits, owes_all, owes_rest}
 use Rattle.scheme_rpm.proofs.lemmas.Rpm.{letters_bytes}
 use Rattle.scheme_rpm.proofs.version.put_letters.Goals as goal
 

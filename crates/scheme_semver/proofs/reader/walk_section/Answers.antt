@@ -1,6 +1,6 @@
 use Rattle.std.proofs.Common.{◌∙◌, ap, sym}
 use Rattle.std.specs.List.{list_all}
-use Rattle.version_order.proofs.lemmas.Front.Runs.{list_all-take_while}
+use Rattle.version_order.proofs.lemmas.Front.{list_all-take_while}
 use Rattle.version_order.specs.texts.Bytes.{is_identifier_byte}
 use Rattle.scheme_semver.proofs.lemmas.Walks.{last_identifier, next_identifier, not_allowed}
 use Rattle.scheme_semver.proofs.reader.walk_section.Goals as goal

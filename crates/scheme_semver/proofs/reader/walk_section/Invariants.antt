@@ -1,5 +1,5 @@
 use Rattle.std.proofs.Common.{ℕ, Bool, List, length}
-use Rattle.version_order.specs.Walks.{Stops}
+use Rattle.version_order.specs.Viable.{Stops}
 use Rattle.scheme_semver.specs.Texts.{is_section}
 use Rattle.scheme_semver.proofs.reader.walk_section.Given as goal
 

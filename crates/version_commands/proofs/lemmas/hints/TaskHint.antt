@@ -28,7 +28,7 @@ use Rattle.version_commands.specs.declared.options.Question.{Question}
 use Rattle.version_commands.specs.declared.options.Task.TheVariants.{Lines}
 use Rattle.version_commands.specs.declared.options.VersionPlace.{VersionPlace}
 use Rattle.version_lines.specs.Lines.{lines_of}
-use Rattle.version_lines.specs.NewestLine.{rows_in}
+use Rattle.version_lines.specs.Newest.{rows_in}
 use Rattle.version_lines.specs.Sort.{version_in}
 use Rattle.version_lines.specs.declared.column.Column.{Column}
 use Rattle.version_lines.specs.declared.lines.LineEnd.{LineEnd}

@@ -2,9 +2,8 @@
 use Rattle.std.proofs.Common.{◌≡◌, ◌<◌, ◌+◌, ℕ, List, [], ◌∷◌, ◌++◌, Option, length, drop, get_or, refl, sym, subst, ap, ◌∙◌, add-one, append_assoc, arith}
 use Rattle.std.proofs.lemmas.Grind.{flat_map-append}
 use Rattle.std.proofs.Math.Seq.{drop-cons}
-use Rattle.version_lines.specs.Lines.{lines_output, whole_line}
-use Rattle.version_lines.specs.Output.{AppendsProperBeginning, AppendsUpTo}
-use Rattle.version_lines.proofs.lemmas.Output.{AppendsProperBeginning-then, AppendsProperBeginning-with_more, AppendsUpTo-then}
+use Rattle.version_lines.specs.Lines.{lines_output, whole_line, AppendsProperBeginning, AppendsUpTo}
+use Rattle.version_lines.proofs.lemmas.Lines.{AppendsProperBeginning-then, AppendsProperBeginning-with_more, AppendsUpTo-then}
 
 -- the output for the lines from a place on is the line there, and then the output for those after it
 pub lines_output-next : (end : ℕ) (lines : List (List ℕ)) (i : ℕ) (line : List ℕ)

@@ -1,4 +1,4 @@
-use Rattle.version_lines.proofs.lemmas.Kept.{first_of_ties-first, newest-first}
+use Rattle.version_lines.proofs.lemmas.KeyedLines.{first_of_ties-first, newest-first}
 use Rattle.version_lines.proofs.laws.keeping.Goals as goal
 
 pub returns-clause-ties : goal.returns-clause-ties

@@ -1,6 +1,5 @@
-use Rattle.version_lines.specs.Sort.{lines_cmp}
-use Rattle.version_lines.specs.Sorting.{turned}
-use Rattle.version_lines.proofs.lemmas.Entry.{lines_ranks, lines_total}
+use Rattle.version_lines.specs.Sort.{lines_cmp, turned}
+use Rattle.version_lines.proofs.lemmas.KeyedLines.{lines_ranks, lines_total}
 use Rattle.version_lines.proofs.lemmas.Sorting.{in_order-only, in_order-permutes, in_order-sorted, in_order-stable}
 use Rattle.version_lines.proofs.laws.sorting.Goals as goal
 

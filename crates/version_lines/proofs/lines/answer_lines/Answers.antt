@@ -1,7 +1,6 @@
 use Rattle.std.proofs.Common.{◌≡◌, [], rules, drop_of_length-le}
 use Rattle.std.proofs.lemmas.Result.{err_from_is_err_and, on_err_weaker}
-use Rattle.version_lines.proofs.lemmas.Lines.{lines_output-first, lines_output-nil}
-use Rattle.version_lines.proofs.lemmas.Output.{AppendsUpTo-step, AppendsProperBeginning-step, AppendsProperBeginning-after}
+use Rattle.version_lines.proofs.lemmas.Lines.{lines_output-first, lines_output-nil, AppendsUpTo-step, AppendsProperBeginning-step, AppendsProperBeginning-after}
 use Rattle.version_lines.proofs.lines.answer_lines.Goals as goal
 
 pub returns-in_err-put_answer-clause-err : goal.returns-in_err-put_answer-clause-err

@@ -1,7 +1,6 @@
 -- Of the whole output, the buffer and the output for the remaining lines are left.
 use Rattle.std.proofs.Common.{◌++◌, length}
-use Rattle.version_lines.specs.Lines.{output_by}
-use Rattle.version_lines.specs.Output.{AppendsUpTo}
+use Rattle.version_lines.specs.Lines.{output_by, AppendsUpTo}
 use Rattle.version_lines.proofs.lines.answer_lines.Given as goal
 
 abbrev pub invariant-loop-rest : goal.invariant-loop-rest

@@ -1,5 +1,5 @@
 use Rattle.std.proofs.lemmas.Result.{on_ok_weaker, on_err_weaker, err_from_is_err_and}
-use Rattle.version_lines.proofs.lemmas.Output.{AppendsUpTo-append, AppendsUpTo-both, AppendsProperBeginning-more, AppendsProperBeginning-after}
+use Rattle.version_lines.proofs.lemmas.Lines.{AppendsUpTo-append, AppendsUpTo-both, AppendsProperBeginning-more, AppendsProperBeginning-after}
 use Rattle.version_lines.proofs.output.put.Goals as goal
 
 pub returns-in_err-write_whole-clause-err : goal.returns-in_err-write_whole-clause-err

@@ -1,6 +1,6 @@
 use Rattle.std.proofs.Common.{◌∷◌, ◌++◌, []}
 use Rattle.std.proofs.lemmas.Result.{on_ok_weaker, on_err_weaker, err_from_is_err_and}
-use Rattle.version_lines.proofs.lemmas.Output.{AppendsUpTo-then, AppendsProperBeginning-then, AppendsProperBeginning-with_more}
+use Rattle.version_lines.proofs.lemmas.Lines.{AppendsUpTo-then, AppendsProperBeginning-then, AppendsProperBeginning-with_more}
 use Rattle.version_lines.proofs.output.put_line.Goals as goal
 
 pub returns-in_err-put-clause-err : goal.returns-in_err-put-clause-err

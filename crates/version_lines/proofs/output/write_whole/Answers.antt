@@ -1,4 +1,4 @@
-use Rattle.version_lines.proofs.lemmas.Output.{AppendsUpTo-taken}
+use Rattle.version_lines.proofs.lemmas.Lines.{AppendsUpTo-taken}
 use Rattle.version_lines.proofs.output.write_whole.Goals as goal
 
 pub loop-rest-preserved : goal.loop-rest-preserved

@@ -1,6 +1,6 @@
 -- The bytes removed from `rest` were written, and each turn writes some.
 use Rattle.std.proofs.Common.{length}
-use Rattle.version_lines.specs.Output.{AppendsUpTo}
+use Rattle.version_lines.specs.Lines.{AppendsUpTo}
 use Rattle.version_lines.proofs.output.write_whole.Given as goal
 
 abbrev pub invariant-loop-rest : goal.invariant-loop-rest

@@ -1,6 +1,6 @@
 use Rattle.std.proofs.Common.{rules, ◌∙◌}
 use Rattle.std.specs.Ordering.{nat_cmp}
-use Rattle.version_order.proofs.lemmas.Eights.{eight_decide, eight_same}
+use Rattle.version_order.proofs.lemmas.Bytes.{eight_decide, eight_same}
 use Rattle.version_order.proofs.bytes.compare_bytes.Goals as goal
 
 pub returns-in_default : goal.returns-in_default

@@ -8,13 +8,12 @@ use Rattle.std.specs.List.{prefix_len, take_while}
 use Rattle.std.specs.Ordering.{nat_cmp, ordering_reverse, ordering_then}
 use Rattle.std.specs.Str.Parse.{digits_value}
 use Rattle.std.specs.declared.cmp.Ordering.TheVariants.{Greater}
-use Rattle.version_order.proofs.lemmas.Front.Runs.{list_all-take_while}
+use Rattle.version_order.proofs.lemmas.Front.{list_all-take_while}
 use Rattle.version_order.proofs.lemmas.NumberBytes.{is_zero}
 use Rattle.version_order.proofs.lemmas.NumberOrder.{numbers_compared}
 use Rattle.version_order.specs.texts.DigitRun.{run_value, starts_with_digit}
 use Rattle.version_order.specs.keys.Lists.{bytes_cmp}
-use Rattle.version_order.proofs.lemmas.Runs.{run_cons, run_none}
-use Rattle.version_order.proofs.lemmas.RunsWithin.{no_run}
+use Rattle.version_order.proofs.lemmas.Runs.{run_cons, run_none, no_run}
 use Rattle.version_order.proofs.digits.compare_if_numbers.Goals as goal
 
 abbrev digits : List ℕ → List ℕ

@@ -7,13 +7,12 @@ use Rattle.std.specs.Char.{is_ascii_digit}
 use Rattle.std.specs.List.{prefix_len, take_while}
 use Rattle.std.specs.Ordering.{nat_cmp, ordering_then}
 use Rattle.std.specs.declared.cmp.Ordering.TheVariants.{Less, Equal, Greater}
-use Rattle.version_order.proofs.lemmas.Front.Runs.{list_all-take_while}
+use Rattle.version_order.proofs.lemmas.Front.{list_all-take_while}
 use Rattle.version_order.proofs.lemmas.NumberBytes.{is_zero}
 use Rattle.version_order.proofs.lemmas.NumberOrder.{numbers_compared}
 use Rattle.version_order.specs.texts.DigitRun.{run_value, behind_digits}
 use Rattle.version_order.specs.keys.Lists.{bytes_cmp}
-use Rattle.version_order.proofs.lemmas.Runs.{run_cons, run_within}
-use Rattle.version_order.proofs.lemmas.RunsWithin.{rest_within, zero_digit}
+use Rattle.version_order.proofs.lemmas.Runs.{run_cons, run_within, rest_within, zero_digit}
 use Rattle.version_order.proofs.digits.compare_numbers.Goals as goal
 
 abbrev digits : List ℕ → List ℕ

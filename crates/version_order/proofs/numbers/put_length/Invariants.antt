@@ -1,5 +1,5 @@
 use Rattle.version_order.specs.keys.NumberBytes.{length_bytes}
-use Rattle.version_order.proofs.lemmas.Taking.{Owes}
+use Rattle.version_order.proofs.lemmas.Sinks.{Owes}
 use Rattle.version_order.proofs.numbers.put_length.Given as goal
 
 -- the bytes of what is left are to be written

@@ -1,6 +1,6 @@
 use Rattle.std.proofs.Common.{[], ◌∷◌}
-use Rattle.version_order.proofs.lemmas.RunBytes.{number_of_digit}
-use Rattle.version_order.proofs.lemmas.Taking.{next_fits, owes_all, owes_rest}
+use Rattle.version_order.proofs.lemmas.NumberBytes.{number_of_digit}
+use Rattle.version_order.proofs.lemmas.Sinks.{next_fits, owes_all, owes_rest}
 use Rattle.version_order.proofs.numbers.put_number.Goals as goal
 
 pub put-requires : goal.put-requires

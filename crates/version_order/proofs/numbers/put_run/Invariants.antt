@@ -1,7 +1,7 @@
 use Rattle.std.proofs.Common.{◌≡◌, drop, length}
 use Rattle.std.specs.List.{prefix_len, take_while}
 use Rattle.version_order.specs.texts.Class.{contains}
-use Rattle.version_order.proofs.lemmas.Taking.{Owes}
+use Rattle.version_order.proofs.lemmas.Sinks.{Owes}
 use Rattle.version_order.proofs.numbers.put_run.Given as goal
 
 -- what is left of the run is to be written

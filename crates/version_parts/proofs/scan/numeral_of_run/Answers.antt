@@ -1,7 +1,7 @@
 use Rattle.std.proofs.Common.{sym}
 use Rattle.std.specs.Char.{is_ascii_digit}
 use Rattle.version_rules.proofs.lemmas.Numeral.{numeral_large, numeral_none, numeral_run, run_spelled}
-use Rattle.version_order.proofs.lemmas.Front.Runs.{list_all-take_while, run_front-empty, run_front-some}
+use Rattle.version_order.proofs.lemmas.Front.{list_all-take_while, run_front-empty, run_front-some}
 use Rattle.version_parts.proofs.scan.numeral_of_run.Goals as goal
 
 pub returns-then-is_empty-clause-read : goal.returns-then-is_empty-clause-read

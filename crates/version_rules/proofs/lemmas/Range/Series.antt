@@ -9,10 +9,9 @@ use Rattle.std.specs.declared.cmp.Ordering.TheVariants.{Less, Equal, Greater}
 use Rattle.version_rules.proofs.lemmas.Grammar.{split_last-append}
 use Rattle.version_order.proofs.lemmas.NumberBytes.{number_writes}
 use Rattle.version_rules.proofs.lemmas.Key.{part_writes}
-use Rattle.version_order.specs.keys.Codes.{items_bytes}
+use Rattle.version_order.specs.keys.Codes.{items_bytes, then_equal}
 use Rattle.version_order.specs.keys.Lists.{bytes_cmp}
 use Rattle.version_order.specs.keys.NumberBytes.{number_bytes}
-use Rattle.version_order.specs.keys.OrderLaws.{then_equal}
 use Rattle.version_rules.specs.key.PartKey.{PartKey, Number, Word, part_bytes, part_cmp, parts_bytes}
 use Rattle.version_rules.specs.laws.Part.{part_total}
 use Rattle.version_rules.specs.key.Key.{Key, key_of_semver, key_of_version, plain, strict_body, key_bytes}

@@ -1,5 +1,5 @@
 use Rattle.std.proofs.Common.{◌∙◌, rules}
-use Rattle.version_order.proofs.lemmas.Keyed.{order_by_keys}
+use Rattle.version_order.proofs.lemmas.Codes.{order_by_keys}
 use Rattle.version_order.specs.keys.Codes.{Writes}
 use Rattle.version_schemes.proofs.any.compare.Goals as goal
 

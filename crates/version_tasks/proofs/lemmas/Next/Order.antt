@@ -15,7 +15,7 @@ use Rattle.version_rules.specs.grammar.Last.{PlainLast}
 use Rattle.version_rules.specs.key.PartKey.{PartKey, chunk_parts, list_cmp, part_key}
 use Rattle.version_rules.specs.key.Tail.{PreReleased, Bare, Released, tail_cmp}
 use Rattle.version_rules.specs.grammar.Version.{PlainVersion}
-use Rattle.version_order.specs.keys.OrderLaws.{then_equal}
+use Rattle.version_order.specs.keys.Codes.{then_equal}
 use Rattle.version_order.proofs.lemmas.NumberBytes.{above, below}
 use Rattle.version_rules.proofs.lemmas.Key.{plain_number}
 use Rattle.version_tasks.specs.Next.{IsAfter, IsBare, IsNext, IsOfForm, MayFollow, NoNext, all_of, last_number, numbers_of}

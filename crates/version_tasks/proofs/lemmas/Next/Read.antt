@@ -22,7 +22,7 @@ use Rattle.version_rules.proofs.lemmas.Chunk.{digit_alphanumeric}
 use Rattle.version_rules.proofs.lemmas.Versioning.{strict_is_general}
 use Rattle.version_rules.proofs.lemmas.Numeral.{numeral_printed}
 use Rattle.version_texts.specs.VersioningRef.{epoch_and_parts, numbers_alone, numeral_value, version_in}
-use Rattle.version_order.specs.texts.Pieces.{behind_piece, first_piece, further_pieces, is_dot, pieces}
+use Rattle.version_order.specs.texts.Cuts.{behind_piece, first_piece, further_pieces, is_dot, pieces}
 use Rattle.version_texts.specs.Scan.{is_numeral}
 use Rattle.version_texts.proofs.lemmas.order.Piece.{pieces_are}
 use Rattle.version_texts.proofs.lemmas.scan.Spelled.{NonePass, body_pieces, chunk_bytes, none_pass, numeral_passes, numeral_spells, no_numeral, pieces_give}

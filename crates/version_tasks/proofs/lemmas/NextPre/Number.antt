@@ -5,7 +5,7 @@ use Rattle.std.specs.Ordering.{nat_cmp, ordering_then}
 use Rattle.std.specs.declared.cmp.Ordering.{Ordering}
 use Rattle.std.specs.declared.cmp.Ordering.TheVariants.{Less, Equal, Greater}
 use Rattle.version_rules.specs.grammar.Chunk.{PlainChunk, Numeric, Alphanum, chunk_text}
-use Rattle.version_order.specs.keys.OrderLaws.{then_equal}
+use Rattle.version_order.specs.keys.Codes.{then_equal}
 use Rattle.version_rules.specs.laws.Release.{chunk_total, chunks_same}
 use Rattle.version_rules.specs.order.Parts.{chunk_cmp, release_cmp}
 use Rattle.version_tasks.specs.NextPre.{AreNamed}
@@ -18,7 +18,7 @@ use Rattle.version_order.specs.texts.Bytes.{dot, is_identifier_byte}
 use Rattle.version_order.specs.texts.Front.{begins, is_run}
 use Rattle.version_tasks.proofs.lemmas.NextPre.Text.{dotted, chunks_joined, release_spelled}
 use Rattle.version_tasks.specs.NextPreText.{word_text, IsLeastNumber, NonePass, Passes, is_release, is_word, word_chunks}
-use Rattle.version_order.specs.texts.Pieces.{is_dot, pieces, behind_piece, first_piece, further_pieces}
+use Rattle.version_order.specs.texts.Cuts.{is_dot, pieces, behind_piece, first_piece, further_pieces}
 use Rattle.std.proofs.lemmas.Bool.{and_parts, cases_Bool, not-true}
 use Rattle.std.proofs.lemmas.List.Folds.{list_all-append}
 use Rattle.std.specs.List.{list_all}

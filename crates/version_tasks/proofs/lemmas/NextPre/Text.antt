@@ -18,7 +18,7 @@ use Rattle.version_tasks.specs.NextPreText.{is_own, is_release, is_word, numbers
 use Rattle.version_texts.proofs.lemmas.scan.Spelled.{release_chunks, both_pass, dotted_one, split-append, dotted_passes, dotted_spells}
 use Rattle.version_order.proofs.lemmas.Bytes.{digit_identifier, identifier_no_dot}
 use Rattle.version_texts.specs.Key.{chunk_of, chunks_of}
-use Rattle.version_order.specs.texts.Pieces.{is_dot}
+use Rattle.version_order.specs.texts.Cuts.{is_dot}
 use Rattle.version_texts.specs.Scan.{is_chunk}
 
 -- a text passes the test exactly if it spells its chunks

@@ -1,5 +1,5 @@
 use Rattle.std.proofs.Common.{◌∙◌, List, ℕ, ap, length, sym}
-use Rattle.version_order.specs.texts.Pieces.{further_pieces, is_dot}
+use Rattle.version_order.specs.texts.Cuts.{further_pieces, is_dot}
 use Rattle.version_texts.proofs.lemmas.versioning_ref.VersioningRef.{spells-is}
 use Rattle.version_tasks.proofs.lemmas.Next.Read.{last_place_read}
 use Rattle.version_tasks.proofs.next.last_place.Goals as goal

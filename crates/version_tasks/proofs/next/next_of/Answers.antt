@@ -2,7 +2,7 @@ use Rattle.std.proofs.Common.{◌∙◌, ◌&&◌, if◌then◌else◌, Bool, Li
 use Rattle.std.specs.List.{list_all}
 use Rattle.version_rules.specs.grammar.Versioning.{is_prerelease}
 use Rattle.version_texts.specs.VersioningRef.{numeral_value, plain_versioning_ref}
-use Rattle.version_order.specs.texts.Pieces.{further_pieces, is_dot}
+use Rattle.version_order.specs.texts.Cuts.{further_pieces, is_dot}
 use Rattle.version_texts.proofs.lemmas.versioning_ref.VersioningRef.{spells-is}
 use Rattle.version_tasks.specs.NextText.{is_zero}
 use Rattle.version_tasks.proofs.lemmas.Next.Read.{beyond, follows, has_number, left_within, other_parts, past}

@@ -1,6 +1,6 @@
 use Rattle.std.proofs.Common.{◌≡◌, ◌≤◌, drop, length, not, true}
 use Rattle.std.specs.List.{list_all}
-use Rattle.version_order.specs.texts.Pieces.{is_dot}
+use Rattle.version_order.specs.texts.Cuts.{is_dot}
 use Rattle.version_tasks.proofs.pre.split_last_piece.Given as goal
 
 -- no dot is at the place or after it

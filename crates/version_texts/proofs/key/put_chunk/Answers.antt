@@ -3,7 +3,7 @@ use Rattle.std.specs.Char.{is_ascii_digit}
 use Rattle.std.specs.List.{list_all, prefix_len}
 use Rattle.version_texts.proofs.lemmas.key.Pieces.{number_chunk, text_chunk}
 use Rattle.version_order.proofs.lemmas.Runs.{run_is}
-use Rattle.version_order.proofs.lemmas.Taking.{next_fits, owes_all, owes_rest}
+use Rattle.version_order.proofs.lemmas.Sinks.{next_fits, owes_all, owes_rest}
 use Rattle.version_texts.proofs.key.put_chunk.Goals as goal
 
 -- a text is all digits if none of it is left after its digits

@@ -3,12 +3,12 @@ use Rattle.std.specs.List.{take_while}
 use Rattle.std.specs.Str.Parse.{digits_value}
 use Rattle.version_order.specs.keys.NumberBytes.{number_bytes}
 use Rattle.version_rules.specs.key.PartKey.{parts_bytes}
-use Rattle.version_order.proofs.lemmas.Front.Runs.{take_while-all}
+use Rattle.version_order.proofs.lemmas.Front.{take_while-all}
 use Rattle.version_texts.specs.declared.scan.shape.Shape.{Shape}
 use Rattle.version_texts.specs.Scan.{Fits, body_in, epoch_in}
 use Rattle.version_order.specs.texts.Bytes.{is_section_byte}
 use Rattle.version_texts.specs.Key.{front_bytes, parts_of, text_key}
-use Rattle.version_order.proofs.lemmas.Taking.{next_fits, owes_all, owes_rest}
+use Rattle.version_order.proofs.lemmas.Sinks.{next_fits, owes_all, owes_rest}
 use Rattle.version_texts.proofs.key.put_front.Goals as goal
 
 -- the bytes before the tail, from the pieces of the text

@@ -2,8 +2,8 @@ use Rattle.std.proofs.Common.{ℕ, List, ◌∙◌, ap, drop, sym, ◌∷◌, []
 use Rattle.std.specs.Char.{is_ascii_alphanumeric, is_ascii_digit}
 use Rattle.std.specs.List.{prefix_len, take_while}
 use Rattle.version_texts.proofs.lemmas.key.Pieces.{number_and_suffix, plain_of_run, rest_of_plain, suffixed_of_run, word_of_run}
-use Rattle.version_order.proofs.lemmas.RunsWithin.{digit_alphanumeric, rest_within}
-use Rattle.version_order.proofs.lemmas.Taking.{next_fits, owes_all, owes_rest}
+use Rattle.version_order.proofs.lemmas.Runs.{digit_alphanumeric, rest_within}
+use Rattle.version_order.proofs.lemmas.Sinks.{next_fits, owes_all, owes_rest}
 use Rattle.version_texts.proofs.key.put_part.Goals.{then-begins_with+else-not-begins_with, else-begins_with}
 use Rattle.version_rules.specs.key.PartKey.{split_bytes, split_of}
 use Rattle.version_texts.proofs.key.put_part.Goals as goal

@@ -4,7 +4,7 @@ use Rattle.version_order.specs.keys.Codes.{items_bytes}
 use Rattle.version_rules.specs.key.PartKey.{part_bytes}
 use Rattle.version_order.specs.texts.Bytes.{is_section_byte}
 use Rattle.version_texts.specs.Key.{parts_of}
-use Rattle.version_order.proofs.lemmas.Taking.{Owes}
+use Rattle.version_order.proofs.lemmas.Sinks.{Owes}
 use Rattle.version_texts.proofs.key.put_parts.Given as goal
 
 -- the bytes of the parts that are left are to be written

@@ -4,7 +4,7 @@ use Rattle.std.specs.List.{list_all}
 use Rattle.version_order.specs.texts.Bytes.{is_identifier_byte}
 use Rattle.version_texts.proofs.lemmas.key.Pieces.{chunk_and_more, chunk_of_metadata, first_chunk, last_chunk, not_dot, rest_of_metadata}
 use Rattle.version_texts.proofs.lemmas.order.Piece.{behind_shorter}
-use Rattle.version_order.proofs.lemmas.Taking.{next_fits, owes_all, owes_rest, owes_same}
+use Rattle.version_order.proofs.lemmas.Sinks.{next_fits, owes_all, owes_rest, owes_same}
 use Rattle.version_texts.proofs.key.put_release.Goals as goal
 
 pub chunks-init : goal.chunks-init

@@ -3,7 +3,7 @@ use Rattle.std.specs.List.{list_all}
 use Rattle.version_order.specs.texts.Bytes.{is_metadata_byte}
 use Rattle.version_rules.specs.order.Parts.{release_bytes}
 use Rattle.version_texts.specs.Key.{chunks_of}
-use Rattle.version_order.proofs.lemmas.Taking.{Owes}
+use Rattle.version_order.proofs.lemmas.Sinks.{Owes}
 use Rattle.version_texts.proofs.key.put_release.Given as goal
 
 -- the bytes of the chunks that are left are to be written

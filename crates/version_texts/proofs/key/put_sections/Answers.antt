@@ -3,7 +3,7 @@ use Rattle.std.proofs.lemmas.List.{nil_from_length}
 use Rattle.version_order.specs.texts.Bytes.{is_section_byte}
 use Rattle.version_texts.proofs.lemmas.key.Pieces.{behind_all, first_section, last_section, section_and_more}
 use Rattle.version_texts.proofs.lemmas.order.Piece.{behind_shorter}
-use Rattle.version_order.proofs.lemmas.Taking.{next_fits, owes_all, owes_rest, owes_same}
+use Rattle.version_order.proofs.lemmas.Sinks.{next_fits, owes_all, owes_rest, owes_same}
 use Rattle.version_texts.proofs.key.put_sections.Goals as goal
 
 pub sections-init : goal.sections-init

@@ -5,7 +5,7 @@ use Rattle.version_rules.specs.key.Tail.{section_bytes}
 use Rattle.version_texts.specs.declared.scan.shape.TailKind.TheVariants.{Sections}
 use Rattle.version_texts.specs.Scan.{is_tail_byte}
 use Rattle.version_texts.specs.Key.{sections_of}
-use Rattle.version_order.proofs.lemmas.Taking.{Owes}
+use Rattle.version_order.proofs.lemmas.Sinks.{Owes}
 use Rattle.version_texts.proofs.key.put_sections.Given as goal
 
 -- the bytes of the sections that are left are to be written

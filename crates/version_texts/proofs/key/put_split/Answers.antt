@@ -2,8 +2,8 @@ use Rattle.std.proofs.Common.{ℕ, List, ◌∙◌, ap, drop, sym, ◌∷◌, []
 use Rattle.std.specs.Char.{is_ascii_alphabetic, is_ascii_alphanumeric, is_ascii_digit}
 use Rattle.std.specs.List.{prefix_len}
 use Rattle.version_texts.proofs.lemmas.key.Pieces.{rest_of_letters, split_begun, split_of_letters, split_of_number}
-use Rattle.version_order.proofs.lemmas.RunsWithin.{digit_alphanumeric, letter_alphanumeric, rest_within}
-use Rattle.version_order.proofs.lemmas.Taking.{next_fits, owes_all, owes_rest}
+use Rattle.version_order.proofs.lemmas.Runs.{digit_alphanumeric, letter_alphanumeric, rest_within}
+use Rattle.version_order.proofs.lemmas.Sinks.{next_fits, owes_all, owes_rest}
 use Rattle.version_texts.proofs.key.put_split.Goals as goal
 
 abbrev after_run : List ℕ → List ℕ

@@ -5,7 +5,7 @@ use Rattle.version_texts.specs.declared.scan.shape.TailKind.{TailKind}
 use Rattle.version_texts.specs.declared.scan.shape.TailKind.TheVariants.{PreRelease, Release, Sections}
 use Rattle.version_texts.specs.Key.{chunks_of, tail_of}
 use Rattle.version_texts.proofs.lemmas.key.Pieces.{sections_held}
-use Rattle.version_order.proofs.lemmas.Taking.{next_fits, owes_all, owes_rest}
+use Rattle.version_order.proofs.lemmas.Sinks.{next_fits, owes_all, owes_rest}
 use Rattle.version_texts.proofs.key.put_tail.Goals as goal
 
 -- a tail begins with its rank, and what it holds follows

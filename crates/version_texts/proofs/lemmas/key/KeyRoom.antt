@@ -6,12 +6,11 @@ use Rattle.std.proofs.lemmas.List.Elements.{All-drop, All-take, All-append, All-
 use Rattle.std.specs.Char.{is_ascii_digit, is_ascii_alphanumeric}
 use Rattle.std.specs.List.{position_or_len, prefix_len, take_while, list_all}
 use Rattle.std.specs.Str.Parse.{digits_value}
-use Rattle.version_order.proofs.lemmas.Front.Runs.{list_all-take_while, all_weaker}
+use Rattle.version_order.proofs.lemmas.Front.{list_all-take_while, all_weaker}
 use Rattle.version_order.specs.texts.DigitRun.{number_front, starts_with_digit, is_digits}
-use Rattle.version_order.specs.keys.NumberBytes.{number_bytes}
+use Rattle.version_order.specs.keys.NumberBytes.{number_bytes, text_bytes}
 use Rattle.version_rules.specs.key.PartKey.{part_bytes, part_key, suffix_bytes, suffix_of, PartKey, chunk_parts, parts_bytes, section_parts, numbered_bytes, split_bytes, split_of}
-use Rattle.version_order.specs.keys.TextBytes.{text_bytes}
-use Rattle.version_order.proofs.lemmas.Lengths.{IsHigh, text_length, number_length, list_length}
+use Rattle.version_order.proofs.lemmas.NumberBytes.{IsHigh, text_length, number_length, list_length}
 use Rattle.std.proofs.lemmas.Bool.Decides.{nat_tests}
 use Rattle.std.specs.Cmp.{first_so, second_so}
 use Rattle.std.specs.Option.{option_map_or, unwrap_or}
@@ -23,13 +22,12 @@ use Rattle.version_rules.specs.grammar.Body.{PlainBody, SpellsBody}
 use Rattle.version_order.specs.texts.Bytes.{dot, hyphen, is_identifier_byte, is_metadata_byte}
 use Rattle.version_rules.specs.grammar.Chunk.{Numeric, Alphanum, PlainChunk, SpellsChunk, SpellsChunkOf, SpellsPart, chunk_text}
 use Rattle.version_order.specs.keys.Codes.{items_bytes}
-use Rattle.version_order.specs.texts.Grammar.{SpellsDotted, SpellsEach, SpellsOptional}
+use Rattle.version_order.specs.texts.Grammar.{SpellsDotted, SpellsEach, SpellsOptional, Colon, Hyphen, Plus, Underscore, Tilde}
 use Rattle.version_rules.specs.grammar.Last.{last_text}
 use Rattle.version_rules.specs.grammar.MChunk.{Digits, Rev, Plain, PlainMChunk, SpellsMChunk, mchunk_text}
 use Rattle.version_rules.specs.grammar.Numeral.{SpellsNumeral}
 use Rattle.version_rules.specs.grammar.Release.{SpellsRelease}
 use Rattle.version_rules.specs.order.Parts.{chunk_bytes, release_bytes}
-use Rattle.version_order.specs.texts.Sep.{Colon, Hyphen, Plus, Underscore, Tilde}
 use Rattle.version_rules.specs.key.Key.{key_behind_epoch, key_of, key_of_mess, key_of_sections, key_of_semver, key_of_version, plain, section_epoch, sections_tail, Key, key_bytes}
 use Rattle.version_rules.specs.grammar.Mess.{Further, PlainMess, Section, SpellsFurther, SpellsMess, SpellsSection}
 use Rattle.version_rules.specs.grammar.SemVer.{PlainSemVer, SpellsSemVer}

@@ -11,20 +11,18 @@ use Rattle.version_order.specs.keys.Codes.{items_bytes, list_bytes}
 use Rattle.version_order.specs.texts.DigitRun.{run_value, is_digits}
 use Rattle.version_order.specs.texts.Front.{begins}
 use Rattle.version_order.specs.keys.Lists.{with_end}
-use Rattle.version_order.specs.keys.NumberBytes.{number_bytes}
+use Rattle.version_order.specs.keys.NumberBytes.{number_bytes, text_bytes}
 use Rattle.version_rules.specs.key.PartKey.{part_bytes, part_key, PartKey, suffix_bytes, suffix_of, parts_bytes, split_bytes, split_of}
 use Rattle.version_rules.specs.order.Parts.{chunk_bytes, release_bytes}
-use Rattle.version_order.proofs.lemmas.Front.Runs.{take_while-all, begins-drop, list_all-take_while, all_weaker}
+use Rattle.version_order.proofs.lemmas.Front.{take_while-all, begins-drop, list_all-take_while, all_weaker}
 use Rattle.version_texts.specs.Key.{chunk_of, chunks_of, parts_of, sections_of, tail_of, tail_of_sections}
-use Rattle.version_order.specs.texts.Pieces.{pieces}
-use Rattle.version_order.proofs.lemmas.Runs.{last_piece, next_piece, not_false, not_true, run_cons, run_none, split_end, split_mark, all_behind, split_some}
+use Rattle.version_order.specs.texts.Cuts.{pieces}
+use Rattle.version_order.proofs.lemmas.Runs.{last_piece, next_piece, not_false, not_true, run_cons, run_none, split_end, split_mark, all_behind, split_some, no_run, rest_within, begins_inner, begins_neither, digit_alphanumeric, letter_alphanumeric, run_and_more}
 use Rattle.version_order.proofs.lemmas.Bytes.{alphanumeric_no_dot, alphanumeric_section, alphanumeric_identifier, letter_other}
-use Rattle.version_order.proofs.lemmas.RunsWithin.{no_run, rest_within, begins_inner, begins_neither, digit_alphanumeric, letter_alphanumeric, run_and_more}
-use Rattle.version_order.proofs.lemmas.RunBytes.{text_of_run}
-use Rattle.version_order.specs.keys.TextBytes.{text_bytes}
+use Rattle.version_order.proofs.lemmas.NumberBytes.{text_of_run}
 use Rattle.version_rules.proofs.lemmas.Numeral.{split_of-digits, split_of-no_digit}
 use Rattle.version_rules.proofs.lemmas.Key.{part_key-digits, part_key-word}
-use Rattle.version_order.specs.texts.Sep.{is_sep}
+use Rattle.version_order.specs.texts.Grammar.{is_sep}
 use Rattle.version_rules.specs.key.Tail.{held_bytes, section_bytes}
 use Rattle.version_texts.specs.declared.scan.shape.TailKind.TheVariants.{Sections}
 use Rattle.version_texts.specs.Scan.{is_tail_byte}

@@ -13,7 +13,7 @@ use Rattle.version_texts.proofs.lemmas.requirement.EndOrder.{further, parts_are}
 use Rattle.version_texts.proofs.lemmas.order.Piece.{pieces_are, further_of_more, further_of_none, chain}
 use Rattle.version_texts.specs.Order.{difference_of, first_differing, key_difference}
 use Rattle.version_texts.specs.Key.{first_part, parts_of}
-use Rattle.version_order.specs.texts.Pieces.{behind_piece, is_dot}
+use Rattle.version_order.specs.texts.Cuts.{behind_piece, is_dot}
 use Rattle.version_texts.specs.declared.order.difference.Difference.{Difference}
 use Rattle.version_texts.specs.declared.order.difference.Difference.TheVariants.{Same, Tie, Epoch, Part, Tail}
 use Rattle.std.specs.Cmp.{Equal-is, IsTotalOrder, tied_itself}

@@ -12,7 +12,7 @@ use Rattle.version_rules.specs.key.PartKey.{PartKey, part_key}
 use Rattle.version_rules.proofs.lemmas.Grammar.{split_last-append}
 use Rattle.version_rules.specs.requirement.Range.{but_last, but_last_or_only, or_others, through_other}
 use Rattle.version_rules.specs.requirement.VersionMatch.{is_plain_zero}
-use Rattle.version_order.specs.texts.Pieces.{behind_piece, first_piece, is_dot, pieces}
+use Rattle.version_order.specs.texts.Cuts.{behind_piece, first_piece, is_dot, pieces}
 use Rattle.version_texts.specs.Key.{parts_of}
 use Rattle.version_texts.proofs.lemmas.order.Piece.{parts_begin, piece_ends, piece_grows}
 use Rattle.version_texts.proofs.lemmas.scan.Spelled.{NonePass, split-append}

@@ -19,7 +19,7 @@ use Rattle.version_order.specs.keys.Lists.{bytes_cmp}
 use Rattle.version_rules.specs.grammar.Numeral.{SpellsNumeral}
 use Rattle.version_rules.specs.key.PartKey.{Number, PartKey, Word, part_key, suffix_of, Split, split_of}
 use Rattle.version_rules.proofs.lemmas.Numeral.{split_of-digits, split_of-no_digit}
-use Rattle.version_order.proofs.lemmas.Front.Runs.{list_all-take_while, prefix_len-append}
+use Rattle.version_order.proofs.lemmas.Front.{list_all-take_while, prefix_len-append}
 use Rattle.version_rules.proofs.lemmas.Last.{last_of-only}
 use Rattle.version_rules.proofs.lemmas.Order.{last_plain_equal}
 use Rattle.version_rules.proofs.lemmas.Key.{part_key-digits, plain_number}
@@ -34,7 +34,7 @@ use Rattle.std.specs.Ordering.{MatchOrdering, nat_cmp, ordering_then}
 use Rattle.std.specs.declared.cmp.Ordering.{Ordering}
 use Rattle.version_order.specs.texts.Bytes.{dot, is_section_byte}
 use Rattle.version_order.proofs.lemmas.Orders.{then_assoc}
-use Rattle.version_order.specs.texts.Pieces.{is_dot, pieces}
+use Rattle.version_order.specs.texts.Cuts.{is_dot, pieces}
 use Rattle.version_texts.proofs.lemmas.order.Piece.{pieces_are}
 use Rattle.version_texts.proofs.lemmas.key.Pieces.{next_part, only_part, rest_and_more, rest_of_last, no_digits}
 

@@ -6,13 +6,13 @@ use Rattle.std.proofs.lemmas.Bool.{cases_Bool}
 use Rattle.std.specs.Char.{is_ascii_digit}
 use Rattle.std.specs.List.{before_first, list_all, slice_split, take_while, prefix_len}
 use Rattle.std.specs.Str.Parse.{digits_value}
-use Rattle.version_order.proofs.lemmas.Front.Runs.{take_while-all}
+use Rattle.version_order.proofs.lemmas.Front.{take_while-all}
 use Rattle.version_rules.specs.grammar.Chunk.{Alphanum, Numeric}
 use Rattle.version_order.specs.texts.DigitRun.{number_front, run_value, starts_with_digit, behind_digits}
 use Rattle.version_rules.specs.key.PartKey.{split_of, numbered_cmp, split_cmp, Word, Number, part_key, suffix_of, part_cmp}
 use Rattle.version_order.proofs.lemmas.Runs.{run_is, run_cons, not_false, not_true, run_none}
 use Rattle.version_order.proofs.lemmas.Bytes.{digit_no_dot}
-use Rattle.version_order.specs.texts.Pieces.{behind_piece, first_piece, from_first, further_pieces, is_dot}
+use Rattle.version_order.specs.texts.Cuts.{behind_piece, first_piece, from_first, further_pieces, is_dot}
 use Rattle.version_texts.specs.Key.{chunk_of, parts_of, sections_of, tail_of_sections, delimits, sign_of}
 use Rattle.std.proofs.lemmas.Cmp.{nat_cmp_total, tied_itself}
 use Rattle.std.proofs.lemmas.Map.Lookups.{exact_bytes}

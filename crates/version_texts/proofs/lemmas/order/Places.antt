@@ -11,10 +11,9 @@ use Rattle.std.specs.Ordering.{nat_cmp, on, ordering_then, then_cmp}
 use Rattle.std.specs.declared.cmp.Ordering.{Ordering}
 use Rattle.std.specs.declared.cmp.Ordering.TheVariants.{Less, Greater}
 use Rattle.version_order.specs.texts.Bytes.{dot}
-use Rattle.version_order.specs.texts.Grammar.{SpellsDotted, SpellsEach}
+use Rattle.version_order.specs.texts.Grammar.{SpellsDotted, SpellsEach, PlainSep, Colon, is_sep, sep_byte, sep_plain_cmp, sep_rank}
 use Rattle.version_order.specs.keys.Lists.{bytes_cmp}
 use Rattle.version_rules.specs.grammar.MChunk.{PlainMChunk, SpellsMChunk, mchunk_text}
-use Rattle.version_order.specs.texts.Sep.{PlainSep, Colon, is_sep, sep_byte, sep_plain_cmp, sep_rank}
 use Rattle.version_order.proofs.lemmas.Orders.{then_assoc}
 use Rattle.version_rules.proofs.lemmas.MChunk.{mchunk_printed, spelled_run}
 use Rattle.version_rules.specs.grammar.Mess.{Further, PlainMess, Section, SpellsFurther, SpellsMess, SpellsSection, further_text, joined_section, mess_text}

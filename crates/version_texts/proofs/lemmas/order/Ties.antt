@@ -31,7 +31,7 @@ use Rattle.version_rules.specs.key.Key.{Key, key_of_version, key_of, precedence,
 use Rattle.version_rules.specs.grammar.Version.{PlainVersion, SpellsVersion, epoch_text}
 use Rattle.version_rules.specs.order.Kinds.{version_plain_cmp}
 use Rattle.version_texts.specs.Key.{parts_of}
-use Rattle.version_order.specs.texts.Pieces.{pieces}
+use Rattle.version_order.specs.texts.Cuts.{pieces}
 use Rattle.version_texts.proofs.lemmas.scan.Spelled.{body_parts, body_pieces}
 use Rattle.version_texts.proofs.lemmas.scan.Shape.{version_cut, IsCut, from_body-is, printed_epoch}
 use Rattle.version_texts.proofs.lemmas.order.Lasts.{number_apart, numbers_same, run_cut, tied_lasts, IsNonempty, parts_then}
@@ -42,7 +42,7 @@ use Rattle.version_texts.proofs.lemmas.order.Variants.{messy_decides}
 use Rattle.version_rules.specs.declared.kind.Kind.TheVariants as kind
 use Rattle.version_rules.specs.order.Orders.{versioning_cmp}
 use Rattle.version_rules.specs.declared.kind.Kind.{Kind}
-use Rattle.version_order.specs.keys.OrderLaws.{then_equal}
+use Rattle.version_order.specs.keys.Codes.{then_equal}
 use Rattle.version_rules.proofs.lemmas.Key.{ties_alike}
 use Rattle.version_rules.proofs.lemmas.Versioning.{versioning_of-spells}
 

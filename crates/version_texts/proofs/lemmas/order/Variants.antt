@@ -14,20 +14,20 @@ use Rattle.std.specs.declared.cmp.Ordering.TheVariants.{Less, Equal, Greater}
 use Rattle.version_order.specs.texts.DigitRun.{is_digits, number_front, run_value, starts_with_digit, behind_digits}
 use Rattle.version_order.specs.keys.Lists.{bytes_cmp}
 use Rattle.version_rules.specs.grammar.MChunk.{Digits, Plain, PlainMChunk, Rev, SpellsDigits, SpellsMChunk, SpellsRevision, mchunk_plain_cmp, mchunk_text}
-use Rattle.version_order.specs.keys.OrderLaws.{then_first, bytes_same}
+use Rattle.version_order.specs.keys.Codes.{then_first, bytes_same}
 use Rattle.version_rules.specs.key.PartKey.{Number, Word, part_key, suffix_of, PartKey, section_parts, Split, split_of}
 use Rattle.version_rules.proofs.lemmas.Numeral.{split_of-digits}
-use Rattle.version_order.proofs.lemmas.Front.Runs.{all_weaker, take_while-all}
+use Rattle.version_order.proofs.lemmas.Front.{all_weaker, take_while-all}
 use Rattle.version_rules.proofs.lemmas.MChunk.{spelled_run}
 use Rattle.version_rules.proofs.lemmas.Key.{part_key-digits, part_key-word}
 use Rattle.version_order.proofs.lemmas.NumberOrder.{numbers_compared}
 use Rattle.version_order.proofs.lemmas.NumberBytes.{is_zero}
-use Rattle.version_order.specs.texts.Pieces.{from_first}
+use Rattle.version_order.specs.texts.Cuts.{from_first}
 use Rattle.version_order.proofs.lemmas.Runs.{run_is}
 use Rattle.std.specs.Cmp.Lexicographic.{lists_total, nat_list_cmp_total, slice_cmp}
 use Rattle.std.specs.declared.cmp.Ordering.{Ordering}
 use Rattle.version_rules.specs.laws.Last.{sep_total}
-use Rattle.version_order.specs.texts.Sep.{Colon, sep_plain_cmp}
+use Rattle.version_order.specs.texts.Grammar.{Colon, sep_plain_cmp}
 use Rattle.version_order.proofs.lemmas.Orders.{then_decided}
 use Rattle.version_rules.specs.key.Key.{Key, key_of_mess, key_of_sections, mess_epoch, precedence, section_epoch, sections_tail}
 use Rattle.version_rules.specs.grammar.Mess.{Further, PlainMess, Section, SpellsMess, further_plain_cmp, mess_plain_cmp, section_plain_cmp}

@@ -23,9 +23,9 @@ use Rattle.version_order.specs.declared.ends.End.{End}
 use Rattle.version_texts.proofs.lemmas.order.Piece.{pieces_are, decided, further_of_more, further_of_none}
 use Rattle.version_texts.specs.Range.{Begins, IsOfPart, after_key, behind_parts, fixed_bytes, is_key, kept_of, mark_of}
 use Rattle.version_texts.specs.Key.{parts_behind, parts_of, room_for}
-use Rattle.version_order.specs.texts.Pieces.{first_piece, behind_piece, further_pieces, is_dot}
+use Rattle.version_order.specs.texts.Cuts.{first_piece, behind_piece, further_pieces, is_dot}
 use Rattle.version_order.specs.declared.ends.End.TheVariants as end
-use Rattle.version_order.proofs.lemmas.Front.Repeated.{cases_Option}
+use Rattle.version_order.proofs.lemmas.Front.{cases_Option}
 use Rattle.version_rules.specs.grammar.Versioning.{PlainVersioning, versioning_of}
 use Rattle.version_order.specs.Keyed.{AreWithin, end_of}
 use Rattle.version_texts.specs.Mixed.{mixed}

@@ -7,7 +7,7 @@ use Rattle.std.specs.Cmp.{Equal-is}
 use Rattle.std.specs.Ordering.{is_eq, is_ge, nat_cmp, ordering_then}
 use Rattle.std.specs.declared.cmp.Ordering.TheVariants.{Equal}
 use Rattle.version_order.proofs.lemmas.NumberBytes.{above, below}
-use Rattle.version_order.specs.keys.OrderLaws.{then_equal}
+use Rattle.version_order.specs.keys.Codes.{then_equal}
 use Rattle.version_rules.specs.key.PartKey.{PartKey, list_cmp, part_cmp}
 use Rattle.version_rules.proofs.lemmas.Matching.{not_less, same_decides, tilde_decides}
 use Rattle.version_rules.specs.key.Key.{plain, strict_body, Key, key_of}

@@ -8,12 +8,10 @@ use Rattle.std.specs.List.{list_all, slice_split}
 use Rattle.std.specs.Str.Parse.{digits_value}
 use Rattle.version_order.specs.texts.Bytes.{dot, is_section_byte, colon}
 use Rattle.version_order.specs.texts.DigitRun.{is_digits}
-use Rattle.version_order.specs.texts.Grammar.{SpellsDotted, SpellsEach}
+use Rattle.version_order.specs.texts.Grammar.{SpellsDotted, SpellsEach, EndsRun, PlainSep, Colon, is_sep, sep_byte}
 use Rattle.version_rules.specs.key.PartKey.{section_parts}
-use Rattle.version_order.specs.texts.Reading.{EndsRun}
-use Rattle.version_order.specs.texts.Sep.{PlainSep, Colon, is_sep, sep_byte}
 use Rattle.version_rules.proofs.lemmas.MChunk.{mchunk_printed, section_printed, byte_of_sep, mchunk_sound, spelled_run, spelled_some}
-use Rattle.version_order.proofs.lemmas.Front.Runs.{all_weaker, run_front-reads}
+use Rattle.version_order.proofs.lemmas.Front.{all_weaker, run_front-reads, cases_Option}
 use Rattle.version_rules.specs.key.Key.{section_epoch, key_behind_epoch, key_from_first, key_of_sections, mess_epoch, sections_tail}
 use Rattle.version_rules.specs.grammar.Mess.{Further, Section, SpellsFurther, SpellsSection, PlainMess, SpellsMess, joined_section, mess_of}
 use Rattle.version_order.specs.texts.Class.{is_mark}
@@ -31,7 +29,6 @@ use Rattle.version_order.specs.texts.Front.{begins, run_front, is_run}
 use Rattle.version_rules.specs.declared.kind.Kind.TheVariants as kind
 use Rattle.std.specs.Char.{is_ascii_alphanumeric}
 use Rattle.version_rules.specs.grammar.MChunk.{PlainMChunk, SpellsMChunk, chunk_before, mchunk_front}
-use Rattle.version_order.proofs.lemmas.Front.Repeated.{cases_Option}
 use Rattle.version_rules.proofs.lemmas.Mess.{mess_of-Some, mess_of-spells}
 use Rattle.version_texts.proofs.lemmas.scan.Section.{no_mark_in_run}
 

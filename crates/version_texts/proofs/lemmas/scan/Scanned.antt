@@ -14,13 +14,13 @@ use Rattle.version_order.specs.texts.DigitRun.{starts_with_digit, is_digits}
 use Rattle.version_order.specs.texts.Front.{begins, is_run}
 use Rattle.version_rules.specs.declared.kind.Kind.TheVariants.{Complex}
 use Rattle.version_texts.specs.Scan.{behind_body, body_end, body_start, digits_len, from_body, has_epoch, shape_at, are_marked_runs, body_of, is_general, is_messy, kind_in, section_end, section_pieces, epoch_is_numeral, has_three_numbers, is_chunk, is_numeral}
-use Rattle.version_order.specs.texts.Pieces.{pieces}
+use Rattle.version_order.specs.texts.Cuts.{pieces}
 use Rattle.version_texts.specs.declared.scan.shape.TailKind.TheVariants.{Nothing, Sections}
 use Rattle.version_texts.proofs.lemmas.scan.Section.{messy_empty, messy_next, empty_piece, end_last, end_next, pieces_last, pieces_next, run_some, chunk_digits, begun_some}
 use Rattle.version_order.proofs.lemmas.Runs.{behind_mark, behind_run, larger_run, and-false}
 use Rattle.std.proofs.lemmas.Bool.Decides.{nat_tests}
 use Rattle.std.proofs.lemmas.List.Splits.{join_with_byte-slice_split, slice_split_none}
-use Rattle.version_order.proofs.lemmas.Front.Runs.{begins-drop, list_all-take_while}
+use Rattle.version_order.proofs.lemmas.Front.{begins-drop, list_all-take_while}
 use Rattle.version_texts.proofs.lemmas.scan.Spelled.{none_pass}
 use Rattle.version_texts.proofs.lemmas.scan.Shape.{has_epoch-append}
 

@@ -4,7 +4,7 @@ use Rattle.std.proofs.lemmas.Bool.{cases_Bool, eq-eqb, eqb-true, ne_eqb, and_fro
 use Rattle.std.proofs.lemmas.Bool.Decides.{nat_tests}
 use Rattle.std.specs.Char.{is_ascii_alphanumeric, is_ascii_digit}
 use Rattle.std.specs.List.{list_all, prefix_len, take_while}
-use Rattle.version_order.proofs.lemmas.Front.Runs.{begins-drop, list_all-take_while}
+use Rattle.version_order.proofs.lemmas.Front.{begins-drop, list_all-take_while}
 use Rattle.version_order.specs.texts.Bytes.{dot, is_section_byte, colon, hyphen, plus, is_metadata_byte}
 use Rattle.version_order.specs.texts.Front.{begins, is_run}
 use Rattle.version_texts.specs.Scan.{section_end, section_pieces, is_chunk, is_numeral, are_marked_runs, is_messy, is_metadata_tail}

@@ -11,8 +11,8 @@ use Rattle.std.specs.List.{list_all, prefix_len}
 use Rattle.version_order.specs.texts.Bytes.{colon, is_section_byte, hyphen, is_metadata_byte, plus}
 use Rattle.version_order.specs.texts.DigitRun.{is_digits}
 use Rattle.version_order.specs.texts.Front.{begins}
-use Rattle.version_order.specs.texts.Reading.{EndsRun}
-use Rattle.version_order.proofs.lemmas.Front.Runs.{prefix_len-append, all_weaker}
+use Rattle.version_order.specs.texts.Grammar.{EndsRun, SpellsOptional}
+use Rattle.version_order.proofs.lemmas.Front.{prefix_len-append, all_weaker}
 use Rattle.version_order.proofs.lemmas.Runs.{run_cons, run_none}
 use Rattle.version_texts.specs.Scan.{behind_body, body_end, body_start, digits_len, from_body, has_epoch, Fits, TailFits, is_tail_byte, shape_at, tail_in, is_not_plus}
 use Rattle.std.proofs.lemmas.List.Sums.{prefix_len-le-length}
@@ -20,7 +20,6 @@ use Rattle.std.specs.Option.{unwrap_or}
 use Rattle.std.specs.Prelude.{slice_range}
 use Rattle.std.specs.Str.Parse.{digits_value}
 use Rattle.version_rules.specs.grammar.Chunk.{PlainChunk}
-use Rattle.version_order.specs.texts.Grammar.{SpellsOptional}
 use Rattle.version_rules.specs.grammar.Release.{SpellsMetadata, SpellsRelease}
 use Rattle.version_rules.specs.declared.kind.Kind.{Kind}
 use Rattle.version_rules.specs.grammar.Conversions.{version_of_semver}

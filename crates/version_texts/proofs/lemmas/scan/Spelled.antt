@@ -18,8 +18,8 @@ use Rattle.version_rules.specs.grammar.Release.{SpellsRelease}
 use Rattle.version_rules.proofs.lemmas.Chunk.{digit_alphanumeric, part_printed}
 use Rattle.version_rules.proofs.lemmas.Last.{last_printed}
 use Rattle.version_rules.proofs.lemmas.MChunk.{mchunk_printed, spelled_run}
-use Rattle.version_order.proofs.lemmas.Front.Runs.{all_weaker}
-use Rattle.version_order.specs.texts.Pieces.{is_dot, pieces}
+use Rattle.version_order.proofs.lemmas.Front.{all_weaker}
+use Rattle.version_order.specs.texts.Cuts.{is_dot, pieces}
 use Rattle.version_texts.specs.Key.{chunk_of, chunks_of, parts_of}
 use Rattle.version_order.proofs.lemmas.Bytes.{digit_identifier, identifier_no_dot, alphanumeric_no_dot, alphanumeric_section}
 use Rattle.std.proofs.lemmas.Bool.{and_from, cases_Bool, eq-eqb, le-ltb, ne_eqb, eqb-false, and_parts, eqb-true, lt-ltb, ltb-true, not-true, or_cases, or_left, or_right}

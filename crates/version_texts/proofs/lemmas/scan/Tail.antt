@@ -12,8 +12,8 @@ use Rattle.version_rules.specs.grammar.Chunk.{PlainChunk}
 use Rattle.version_order.specs.texts.Front.{begins, is_run}
 use Rattle.version_order.specs.texts.Grammar.{SpellsOptional}
 use Rattle.version_rules.specs.grammar.Release.{SpellsMetadata, SpellsRelease}
-use Rattle.version_order.proofs.lemmas.Front.Runs.{prefix_len-append, all_weaker}
-use Rattle.version_order.specs.texts.Pieces.{pieces}
+use Rattle.version_order.proofs.lemmas.Front.{prefix_len-append, all_weaker}
+use Rattle.version_order.specs.texts.Cuts.{pieces}
 use Rattle.version_texts.specs.Scan.{is_chunk, is_metadata_tail, is_not_plus, is_tail, is_released}
 use Rattle.version_texts.proofs.lemmas.scan.Spelled.{dotted_passes, dotted_spells, run_from, run_some, release_bytes}
 use Rattle.version_order.proofs.lemmas.Bytes.{digit_identifier, identifier_no_dot}

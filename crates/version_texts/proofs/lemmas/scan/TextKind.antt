@@ -16,13 +16,12 @@ use Rattle.version_rules.specs.grammar.Last.{last_of, IsLastOf}
 use Rattle.version_order.specs.keys.Lists.{split_last}
 use Rattle.version_rules.proofs.lemmas.Body.{split_last-whole}
 use Rattle.version_rules.proofs.lemmas.Chunk.{digit_alphanumeric}
-use Rattle.version_order.proofs.lemmas.Front.Repeated.{cases_Option}
+use Rattle.version_order.proofs.lemmas.Front.{cases_Option, prefix_len-append}
 use Rattle.version_rules.proofs.lemmas.Last.{last_of-is}
-use Rattle.version_order.proofs.lemmas.Front.Runs.{prefix_len-append}
 use Rattle.version_rules.specs.grammar.Version.{PlainVersion, SpellsEpoch, SpellsVersion, version_of}
 use Rattle.version_rules.proofs.lemmas.Version.{version_of-Some, version_of-spells}
 use Rattle.version_texts.specs.Scan.{behind_body, body_end, body_start, digits_len, from_body, has_epoch, shape_at, shape_of, body_of, epoch_is_numeral, is_chunk, is_general, is_numeral, is_tail, has_three_numbers, is_messy, kind_in}
-use Rattle.version_order.specs.texts.Pieces.{pieces, is_dot}
+use Rattle.version_order.specs.texts.Cuts.{pieces, is_dot}
 use Rattle.version_texts.proofs.lemmas.scan.Spelled.{dotted_passes, dotted_spells, numeral_passes, numeral_spells, told_by_test, digits_from, JoinedBy, split-append, split_is_joined, split_run}
 use Rattle.version_order.proofs.lemmas.Bytes.{alphanumeric_no_dot, digit_no_dot}
 use Rattle.version_texts.proofs.lemmas.scan.Shape.{IsCut, behind_body-is, from_body-is, version_cut}

@@ -15,7 +15,7 @@ use Rattle.version_order.specs.texts.Grammar.{SpellsOptional}
 use Rattle.version_rules.specs.grammar.Release.{SpellsMetadata, SpellsRelease, release_text}
 use Rattle.version_rules.proofs.lemmas.Chunk.{release_printed}
 use Rattle.version_rules.proofs.lemmas.Numeral.{numeral_printed}
-use Rattle.version_order.proofs.lemmas.Front.Runs.{prefix_len-append}
+use Rattle.version_order.proofs.lemmas.Front.{prefix_len-append}
 use Rattle.version_rules.specs.grammar.Conversions.{version_of_semver}
 use Rattle.version_rules.specs.key.Key.{versioning_epoch}
 use Rattle.version_rules.specs.grammar.Versioning.{versioning_kind, PlainVersioning, Ideal, General, Complex, SpellsVersioning}

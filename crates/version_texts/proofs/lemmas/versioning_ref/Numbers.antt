@@ -18,7 +18,7 @@ use Rattle.version_rules.proofs.lemmas.Last.{last_of-is, last_of-only}
 use Rattle.version_order.proofs.lemmas.Bytes.{alphanumeric_no_dot}
 use Rattle.version_texts.specs.VersioningRef.{body_number, last_number, numeral_value, chunk_number, section_in, version_in}
 use Rattle.version_order.specs.texts.DigitRun.{starts_with_digit}
-use Rattle.version_order.specs.texts.Pieces.{is_dot, pieces}
+use Rattle.version_order.specs.texts.Cuts.{is_dot, pieces}
 use Rattle.version_texts.specs.Scan.{body_in, shape_at, shape_of}
 use Rattle.version_texts.proofs.lemmas.scan.Spelled.{NonePass, chunk_bytes, none_pass, pieces_give, digits_from, numeral_passes}
 use Rattle.version_texts.proofs.lemmas.scan.Section.{digits_not}

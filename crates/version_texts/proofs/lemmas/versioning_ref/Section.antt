@@ -8,17 +8,14 @@ use Rattle.std.specs.List.{before_first, prefix_len, slice_get, slice_split}
 use Rattle.std.specs.Option.{option_and_then}
 use Rattle.version_order.specs.texts.Bytes.{colon, is_section_byte}
 use Rattle.version_order.specs.texts.Front.{begins}
-use Rattle.version_order.specs.texts.Grammar.{SpellsEach}
+use Rattle.version_order.specs.texts.Grammar.{SpellsEach, PlainSep, Colon, Hyphen, Plus, Tilde, Underscore, is_sep, sep_byte}
 use Rattle.version_rules.specs.grammar.MChunk.{PlainMChunk, SpellsMChunk, digits_number, value_of_digits, value_of_revision, variant_of}
-use Rattle.version_order.specs.texts.Sep.{PlainSep, Colon, Hyphen, Plus, Tilde, Underscore, is_sep, sep_byte}
-use Rattle.version_order.proofs.lemmas.Front.Repeated.{cases_Option}
-use Rattle.version_order.proofs.lemmas.Front.Runs.{begins-drop, list_all-take_while, prefix_len-append, all_weaker}
+use Rattle.version_order.proofs.lemmas.Front.{cases_Option, begins-drop, list_all-take_while, prefix_len-append, all_weaker}
 use Rattle.version_rules.proofs.lemmas.MChunk.{spelled_run, spelled_variant}
 use Rattle.version_rules.specs.grammar.Mess.{Further, PlainMess, Section, SpellsFurther, SpellsMess, SpellsSection, behind_colons, nth_number}
 use Rattle.version_texts.specs.VersioningRef.{chunk_number, is_other_sign, last_piece, section_in, body_number, last_number}
-use Rattle.version_order.specs.texts.Pieces.{from_first, is_dot, pieces, behind_piece, first_piece, further_pieces}
-use Rattle.version_order.proofs.lemmas.Runs.{not_false}
-use Rattle.version_order.proofs.lemmas.RunsWithin.{run_and_more}
+use Rattle.version_order.specs.texts.Cuts.{from_first, is_dot, pieces, behind_piece, first_piece, further_pieces}
+use Rattle.version_order.proofs.lemmas.Runs.{not_false, run_and_more}
 use Rattle.version_texts.proofs.lemmas.order.Piece.{piece_ends, piece_grows, pieces_are}
 use Rattle.version_texts.proofs.lemmas.scan.Spelled.{NonePass, none_pass, pieces_give, section_bytes}
 use Rattle.version_order.proofs.lemmas.Bytes.{alphanumeric_no_dot}

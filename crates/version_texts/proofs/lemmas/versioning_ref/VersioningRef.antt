@@ -29,7 +29,7 @@ use Rattle.std.specs.Cmp.{first_so, second_so}
 use Rattle.std.specs.Str.{IsUtf8}
 use Rattle.std.specs.declared.cmp.Ordering.TheVariants.{Equal}
 use Rattle.version_order.specs.texts.Front.{begins}
-use Rattle.version_order.proofs.lemmas.Front.Repeated.{cases_Option}
+use Rattle.version_order.proofs.lemmas.Front.{cases_Option}
 use Rattle.version_texts.specs.declared.scan.shape.Shape.{Shape}
 use Rattle.version_texts.specs.VersioningRef.{version_in, major_text}
 use Rattle.std.proofs.lemmas.Bool.{cases_Bool, eqb-true}
@@ -46,7 +46,7 @@ use Rattle.version_rules.specs.requirement.Requirement.{PlainRequirement}
 use Rattle.version_rules.specs.requirement.Requirements.{Keeps}
 use Rattle.version_rules.specs.requirement.SemVerMatch.{Numbers, numbers}
 use Rattle.version_order.proofs.lemmas.Bytes.{digit_no_dot}
-use Rattle.version_order.specs.texts.Pieces.{is_dot}
+use Rattle.version_order.specs.texts.Cuts.{is_dot}
 use Rattle.version_texts.specs.Requirement.{IsFront}
 use Rattle.version_rules.specs.declared.op.Op.TheVariants as op
 use Rattle.version_rules.specs.requirement.SemVerMatch as strict

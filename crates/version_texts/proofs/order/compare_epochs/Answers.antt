@@ -3,7 +3,7 @@ use Rattle.std.specs.Char.{is_ascii_digit}
 use Rattle.std.specs.List.{list_all}
 use Rattle.std.specs.Ordering.{nat_cmp}
 use Rattle.std.specs.Str.Parse.{digits_value}
-use Rattle.version_order.proofs.lemmas.Front.Runs.{take_while-all}
+use Rattle.version_order.proofs.lemmas.Front.{take_while-all}
 use Rattle.version_order.specs.texts.DigitRun.{run_value}
 use Rattle.version_texts.proofs.order.compare_epochs.Goals as goal
 

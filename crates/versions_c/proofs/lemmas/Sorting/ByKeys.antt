@@ -13,7 +13,7 @@ use Rattle.std.specs.Option.{unwrap_or}
 use Rattle.std.specs.Ordering.{is_lt, nat_cmp, ordering_reverse, ordering_then}
 use Rattle.std.specs.declared.cmp.Ordering.{Ordering}
 use Rattle.std.specs.declared.cmp.Ordering.TheVariants.{Equal}
-use Rattle.version_order.specs.keys.OrderLaws.{then_second}
+use Rattle.version_order.specs.keys.Codes.{then_second}
 use Rattle.version_order.specs.keys.Lists.{bytes_cmp, none_last_cmp}
 use Rattle.version_schemes.specs.Scheme.{rules}
 use Rattle.version_schemes.specs.declared.scheme.Scheme.{Scheme}

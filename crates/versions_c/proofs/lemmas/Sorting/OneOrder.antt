@@ -10,7 +10,7 @@ use Rattle.std.specs.List.{All, Contains, range_with_len}
 use Rattle.std.specs.Ordering.{nat_cmp}
 use Rattle.std.specs.declared.cmp.Ordering.{Ordering}
 use Rattle.std.specs.declared.cmp.Ordering.TheVariants.{Less}
-use Rattle.version_order.specs.keys.OrderLaws.{none_last_total}
+use Rattle.version_order.specs.keys.Codes.{none_last_total}
 use Rattle.version_rules.specs.laws.Key.{versioning_cmp_total}
 use Rattle.version_rules.specs.grammar.Versioning.{versioning_of}
 use Rattle.version_schemes.specs.Scheme.{is_mixed, rules}

@@ -1,5 +1,5 @@
 use Rattle.std.proofs.Common.{refl}
-use Rattle.version_order.proofs.lemmas.Taking.{next_fits, owes_all, owes_rest}
+use Rattle.version_order.proofs.lemmas.Sinks.{next_fits, owes_all, owes_rest}
 use Rattle.scheme_rpm.proofs.version.RpmSchemeVersion.put_key.Goals as goal
 
 pub put_items-requires : goal.put_items-requires

@@ -1,5 +1,5 @@
 use Rattle.std.proofs.Common.{◌∷◌, [], ap, refl}
-use Rattle.version_order.proofs.lemmas.Taking.{next_fits, owes_all, owes_rest, owes_same}
+use Rattle.version_order.proofs.lemmas.Sinks.{next_fits, owes_all, owes_rest, owes_same}
 use Rattle.scheme_semver.specs.Order.{pre_release_bytes}
 use Rattle.scheme_semver.specs.Texts.{identifiers_of}
 use Rattle.scheme_semver.proofs.version.SemVerSchemeVersion.put_key.Goals as goal

@@ -2,7 +2,7 @@ use Rattle.std.proofs.Common.{ℕ, List, Bor, Option, None, map, ap, subst, sym,
 use Rattle.version_commands.specs.lines.Picked.{bad_lines, kept_lines}
 use Rattle.version_lines.specs.Lines.{lines_of}
 use Rattle.version_lines.specs.Sort.{version_in}
-use Rattle.version_lines.specs.NewestLine.{newest_alone}
+use Rattle.version_lines.specs.Newest.{newest_alone}
 use Rattle.version_commands.proofs.lemmas.faults.Ends.{ends-weaker}
 use Rattle.version_commands.proofs.lemmas.lines.Ordered.{is-arranged, put-faults}
 use Rattle.version_commands.specs.hints.TaskHint.{first_of, IsOfNewest}

@@ -1,7 +1,6 @@
 -- Of the lines, the buffer and those from the place on are left.
 use Rattle.std.proofs.Common.{◌≡◌, ◌++◌, drop, length}
-use Rattle.version_lines.specs.Lines.{lines_output, whole_line}
-use Rattle.version_lines.specs.Output.{AppendsUpTo}
+use Rattle.version_lines.specs.Lines.{lines_output, whole_line, AppendsUpTo}
 use Rattle.version_commands.proofs.lines.rows.put_rows.Given as goal
 
 abbrev pub invariant-loop-place : goal.invariant-loop-place

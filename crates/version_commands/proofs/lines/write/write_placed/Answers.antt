@@ -1,5 +1,5 @@
 use Rattle.std.proofs.lemmas.Result.{on_err_weaker}
-use Rattle.version_lines.proofs.lemmas.Output.{AppendsProperBeginning-after}
+use Rattle.version_lines.proofs.lemmas.Lines.{AppendsProperBeginning-after}
 use Rattle.version_commands.proofs.lines.write.write_placed.Goals as goal
 
 pub returns-clause-err : goal.returns-clause-err

@@ -4,7 +4,7 @@ use Rattle.std.proofs.lemmas.List.Sorted.{ranks_by}
 use Rattle.version_lines.specs.Placed.{placed_start}
 use Rattle.version_lines.specs.declared.sort.newest.Placed.{Placed}
 use Rattle.version_lines.proofs.lemmas.Newest.{placed_total}
-use Rattle.version_lines.proofs.lemmas.Sorting.Places as places
+use Rattle.version_lines.proofs.lemmas.Sorting as places
 use Rattle.version_lines.proofs.sort.newest.put_newest_first.Goals as goal
 
 pub returns : goal.returns

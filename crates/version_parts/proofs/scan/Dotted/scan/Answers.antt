@@ -1,7 +1,7 @@
 use Rattle.std.proofs.Common.{rules, arith, sym}
 use Rattle.version_order.specs.texts.Bytes.{dot}
 use Rattle.version_order.specs.texts.Front.{behind}
-use Rattle.version_order.proofs.lemmas.Front.Dotted.{behind_dot_shrinks, unlisted}
+use Rattle.version_order.proofs.lemmas.Front.{behind_dot_shrinks, unlisted}
 use Rattle.version_parts.proofs.lemmas.Scans.{nothing_before, read_before, scanned_all, scanned_first, scanned_next}
 use Rattle.version_parts.proofs.scan.Dotted.scan.Goals as goal
 

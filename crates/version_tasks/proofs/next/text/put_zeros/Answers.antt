@@ -1,7 +1,6 @@
 use Rattle.std.proofs.Common.{◌≡◌, arith, sym}
 use Rattle.version_tasks.proofs.lemmas.Next.Text.{one_more_zero, zeros_begun}
-use Rattle.version_order.proofs.lemmas.Taking.{next_fits, owes_all, owes_rest}
-use Rattle.version_order.proofs.lemmas.Taking.{takes_same}
+use Rattle.version_order.proofs.lemmas.Sinks.{next_fits, owes_all, owes_rest, takes_same}
 use Rattle.version_tasks.proofs.next.text.put_zeros.Goals as goal
 
 pub loop-init : goal.loop-init

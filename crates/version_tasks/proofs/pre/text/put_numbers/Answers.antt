@@ -1,5 +1,5 @@
 use Rattle.std.proofs.Common.{refl}
-use Rattle.version_order.proofs.lemmas.Taking.{next_fits, owes_all, owes_rest}
+use Rattle.version_order.proofs.lemmas.Sinks.{next_fits, owes_all, owes_rest}
 use Rattle.version_tasks.proofs.pre.text.put_numbers.Goals as goal
 
 pub put_decimal-requires : goal.put_decimal-requires

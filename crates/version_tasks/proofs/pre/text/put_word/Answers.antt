@@ -1,5 +1,5 @@
 use Rattle.std.proofs.Common.{◌∙◌, ◌++◌, List, ℕ, ap, sym}
-use Rattle.version_order.proofs.lemmas.Taking.{next_fits, owes_all, owes_rest}
+use Rattle.version_order.proofs.lemmas.Sinks.{next_fits, owes_all, owes_rest}
 use Rattle.version_tasks.proofs.lemmas.NextPre.Number.{dot_fits}
 use Rattle.version_tasks.proofs.pre.text.put_word.Goals as goal
 

@@ -3,7 +3,7 @@ use Rattle.std.specs.List.{before_first}
 use Rattle.version_order.specs.keys.Lists.{bytes_cmp}
 use Rattle.version_texts.proofs.lemmas.order.Piece.{digits_same, digit_no_end, decides, leaves, numbered_compared, tied}
 use Rattle.version_texts.specs.Key.{delimits}
-use Rattle.version_order.specs.texts.Pieces.{from_first}
+use Rattle.version_order.specs.texts.Cuts.{from_first}
 use Rattle.version_texts.proofs.order.part.compare_numbered.Goals as goal
 
 pub returns-then-ne-clause-order : goal.returns-then-ne-clause-order

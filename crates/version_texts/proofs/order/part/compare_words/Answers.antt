@@ -2,7 +2,7 @@ use Rattle.std.proofs.Common.{◌≡◌, ◌∙◌, ℕ, List, ap, drop, refl, s
 use Rattle.std.specs.List.{before_first, prefix_len, take_while}
 use Rattle.std.specs.Option.{option_cmp}
 use Rattle.std.specs.Ordering.{ordering_then}
-use Rattle.version_order.proofs.lemmas.Front.Runs.{begins-drop}
+use Rattle.version_order.proofs.lemmas.Front.{begins-drop}
 use Rattle.version_order.specs.texts.DigitRun.{number_front}
 use Rattle.version_order.specs.texts.Front.{begins}
 use Rattle.version_order.specs.keys.Lists.{bytes_cmp}
@@ -11,7 +11,7 @@ use Rattle.version_texts.specs.declared.order.delimiters.Delimiters.{Delimiters}
 use Rattle.version_texts.specs.declared.order.delimiters.Run.TheVariants.{Word}
 use Rattle.version_texts.proofs.lemmas.order.Piece.{decides, leaves, tied, run_is_word}
 use Rattle.version_texts.specs.Key.{delimits, in_run}
-use Rattle.version_order.specs.texts.Pieces.{from_first}
+use Rattle.version_order.specs.texts.Cuts.{from_first}
 use Rattle.version_texts.proofs.order.part.compare_words.Goals as goal
 
 abbrev behind_word : Delimiters → List ℕ → List ℕ

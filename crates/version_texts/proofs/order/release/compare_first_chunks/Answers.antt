@@ -5,7 +5,7 @@ use Rattle.std.specs.declared.cmp.Ordering.TheVariants.{Less, Equal, Greater}
 use Rattle.version_order.specs.texts.DigitRun.{run_value}
 use Rattle.version_rules.specs.laws.Release.{chunk_total}
 use Rattle.version_texts.proofs.lemmas.order.Piece.{behind_number, digits_alone, both_numbers, both_texts, not_tied, number_first, number_second}
-use Rattle.version_order.specs.texts.Pieces.{first_piece}
+use Rattle.version_order.specs.texts.Cuts.{first_piece}
 use Rattle.version_texts.specs.Key.{chunk_of}
 use Rattle.version_texts.proofs.order.release.compare_first_chunks.Goals as goal
 

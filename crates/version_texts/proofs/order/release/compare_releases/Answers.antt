@@ -3,7 +3,7 @@ use Rattle.std.specs.Ordering.{ordering_index}
 use Rattle.std.specs.declared.cmp.Ordering.TheVariants.{Equal}
 use Rattle.version_rules.specs.order.Parts.{chunk_cmp, release_cmp}
 use Rattle.version_texts.proofs.lemmas.order.Piece.{further_of_more, further_of_none, above, below, compared, left, decided, tied}
-use Rattle.version_order.specs.texts.Pieces.{behind_piece, first_piece, further_pieces, is_dot}
+use Rattle.version_order.specs.texts.Cuts.{behind_piece, first_piece, further_pieces, is_dot}
 use Rattle.version_texts.specs.Key.{chunk_of, chunks_of}
 use Rattle.version_texts.proofs.order.release.compare_releases.Goals as goal
 

@@ -3,7 +3,7 @@ use Rattle.std.specs.declared.cmp.Ordering.TheVariants.{Equal}
 use Rattle.version_texts.proofs.lemmas.requirement.EndOrder.{by_marks, front, fronts_compare, further_is, left_is_shorter, one_ended}
 use Rattle.version_texts.proofs.lemmas.order.Piece.{decided, tied}
 use Rattle.version_texts.specs.Key.{parts_behind}
-use Rattle.version_order.specs.texts.Pieces.{behind_piece}
+use Rattle.version_order.specs.texts.Cuts.{behind_piece}
 use Rattle.version_texts.proofs.requirement.end_order.compare_fronts.Goals as goal
 
 pub returns-in_default : goal.returns-in_default

@@ -1,7 +1,7 @@
 use Rattle.std.proofs.Common.{[], ◌∷◌, ap}
 use Rattle.version_rules.specs.requirement.Requirements.{comma}
 use Rattle.version_texts.proofs.lemmas.requirement.Members.{after_commas}
-use Rattle.version_order.proofs.lemmas.Taking.{next_fits, owes_rest, owes_same}
+use Rattle.version_order.proofs.lemmas.Sinks.{next_fits, owes_rest, owes_same}
 use Rattle.version_texts.proofs.requirement.inexact.put_inexact.Goals as goal
 
 pub put-requires : goal.put-requires

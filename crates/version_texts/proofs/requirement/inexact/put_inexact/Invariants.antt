@@ -1,7 +1,7 @@
 use Rattle.std.proofs.Common.{length}
 use Rattle.version_texts.proofs.lemmas.requirement.Members.{after_commas}
 use Rattle.version_texts.specs.Requirement.{inexact_part, inexact_pieces, pieces_of}
-use Rattle.version_order.proofs.lemmas.Taking.{Owes}
+use Rattle.version_order.proofs.lemmas.Sinks.{Owes}
 use Rattle.version_texts.proofs.requirement.inexact.put_inexact.Given as goal
 
 -- the bytes of the members that are left are to be written

@@ -1,4 +1,4 @@
-use Rattle.version_order.specs.texts.Pieces.{pieces}
+use Rattle.version_order.specs.texts.Cuts.{pieces}
 use Rattle.version_texts.proofs.lemmas.versioning_ref.Section.{next_left}
 use Rattle.version_texts.proofs.versioning_ref.numbers.from_piece.Goals as goal
 

@@ -1,6 +1,6 @@
 use Rattle.std.proofs.Common.{◌∙◌, ℕ, List, ap, drop}
 use Rattle.version_texts.specs.VersioningRef.{chunk_number}
-use Rattle.version_order.specs.texts.Pieces.{pieces}
+use Rattle.version_order.specs.texts.Cuts.{pieces}
 use Rattle.version_texts.proofs.lemmas.versioning_ref.Numbers.{messy_nth}
 use Rattle.version_texts.proofs.lemmas.versioning_ref.VersioningRef.{shape_fits}
 use Rattle.version_texts.proofs.versioning_ref.numbers.nth.Goals as goal

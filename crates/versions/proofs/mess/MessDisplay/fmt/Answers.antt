@@ -3,7 +3,7 @@ use Rattle.std.proofs.Common.{◌≡◌, ◌∷◌, ◌++◌, [], append-nil, re
 use Rattle.std.proofs.lemmas.Grind.{put_three}
 use Rattle.std.specs.Fmt.{HasWritten}
 use Rattle.version_parts.specs.Sep.{plain_sep}
-use Rattle.version_order.specs.texts.Sep.{sep_byte}
+use Rattle.version_order.specs.texts.Grammar.{sep_byte}
 use Rattle.version_rules.specs.grammar.Mess.{joined_section}
 use Rattle.versions.specs.Mess.{plain_mess}
 use Rattle.versions.proofs.lemmas.Mess.{ends, first_is, goes_on}

@@ -1,5 +1,5 @@
 use Rattle.std.proofs.Common.{◌≡◌, ◌≤◌, refl, rules}
-use Rattle.version_lines.proofs.lemmas.Entry.{short-tie}
+use Rattle.version_lines.proofs.lemmas.KeyedLines.{short-tie}
 use Rattle.version_lines.specs.Entry.{key_length}
 use Rattle.version_lines.proofs.sort.entry.Entry.is_short_tie.Goals as goal
 

@@ -1,7 +1,7 @@
 use Rattle.std.proofs.Common.{◌≡◌, ◌∙◌, ◌-◌, ap, drop, length, rules, subst, take}
 use Rattle.std.specs.Int.{from_be_bytes, w64}
-use Rattle.version_order.proofs.lemmas.Eights.{AreBytes}
-use Rattle.version_lines.proofs.lemmas.Entry.{holds-last, key-part}
+use Rattle.version_order.proofs.lemmas.Bytes.{AreBytes}
+use Rattle.version_lines.proofs.lemmas.KeyedLines.{holds-last, key-part}
 use Rattle.version_schemes.specs.any.AnyVersion.{plain_any}
 use Rattle.version_lines.proofs.sort.entry.Entry.read.Goals as goal
 

@@ -1,7 +1,7 @@
 use Rattle.std.proofs.Common.{ℕ, List, map, ap, subst, sym, ◌∙◌}
 use Rattle.std.specs.List.{All}
 use Rattle.version_lines.specs.Entry.{entry_line, IsRead}
-use Rattle.version_lines.proofs.lemmas.Entry.{lines-ordered}
+use Rattle.version_lines.proofs.lemmas.KeyedLines.{lines-ordered}
 use Rattle.version_lines.proofs.sort.keyed_lines.KeyedLines.put_in_order.Goals as goal
 
 pub returns-clause-lines : goal.returns-clause-lines

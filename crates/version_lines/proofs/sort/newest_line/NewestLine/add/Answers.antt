@@ -1,5 +1,5 @@
 use Rattle.std.proofs.Common.{◌++◌, ◌∷◌, [], is_gt, sym, subst, ap, ◌∙◌}
-use Rattle.version_lines.specs.NewestLine.{IsNewestOf}
+use Rattle.version_lines.specs.Newest.{IsNewestOf}
 use Rattle.version_lines.proofs.lemmas.NewestLine.{newest-above, newest-stays}
 use Rattle.version_lines.proofs.sort.newest_line.NewestLine.add.Goals as goal
 

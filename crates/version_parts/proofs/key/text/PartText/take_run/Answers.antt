@@ -1,6 +1,6 @@
 use Rattle.std.proofs.lemmas.List.Sums.{prefix_len-le-length}
 use Rattle.version_order.specs.texts.Class.{contains}
-use Rattle.version_order.proofs.lemmas.Front.Runs.{list_all-take_while}
+use Rattle.version_order.proofs.lemmas.Front.{list_all-take_while}
 use Rattle.version_parts.proofs.key.text.PartText.take_run.Goals as goal
 
 pub split_at-requires : goal.split_at-requires

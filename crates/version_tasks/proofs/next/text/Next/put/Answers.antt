@@ -1,7 +1,7 @@
 use Rattle.std.proofs.Common.{◌∙◌, ◌++◌, List, ℕ, ap, sym}
 use Rattle.version_tasks.specs.NextText.{zeros_text}
 use Rattle.version_tasks.proofs.lemmas.Next.Text.{printed}
-use Rattle.version_order.proofs.lemmas.Taking.{next_fits, owes_all, owes_rest}
+use Rattle.version_order.proofs.lemmas.Sinks.{next_fits, owes_all, owes_rest}
 use Rattle.version_tasks.proofs.next.text.Next.put.Goals as goal
 
 pub put_all-requires : goal.put_all-requires

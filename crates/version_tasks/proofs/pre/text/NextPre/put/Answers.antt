@@ -1,5 +1,5 @@
 use Rattle.version_tasks.proofs.lemmas.Next.Text.{printed}
-use Rattle.version_order.proofs.lemmas.Taking.{next_fits, owes_all, owes_rest}
+use Rattle.version_order.proofs.lemmas.Sinks.{next_fits, owes_all, owes_rest}
 use Rattle.version_tasks.proofs.pre.text.NextPre.put.Goals as goal
 
 pub put_numbers-requires : goal.put_numbers-requires

@@ -9,12 +9,12 @@ use Rattle.version_order.specs.texts.DigitRun.{starts_with_digit}
 use Rattle.version_order.specs.texts.Front.{begins}
 use Rattle.version_rules.specs.key.PartKey.{PartKey, list_cmp, part_cmp, part_key}
 use Rattle.version_rules.specs.key.Tail.{sections_cmp}
-use Rattle.version_order.proofs.lemmas.Front.Runs.{begins-drop}
+use Rattle.version_order.proofs.lemmas.Front.{begins-drop}
 use Rattle.version_texts.specs.declared.order.delimiters.Delimiters.{Delimiters}
 use Rattle.version_texts.proofs.lemmas.order.Piece.{digit_no_end, dot_no_sign, dot_or_sign, leaves, tied, run_is_piece, part_of_number, part_of_word, piece_ends, piece_grows, pieces_are}
 use Rattle.version_order.proofs.lemmas.Runs.{not_false}
 use Rattle.version_texts.specs.Key.{delimits, sign_of, parts_of}
-use Rattle.version_order.specs.texts.Pieces.{from_first, further_pieces, is_dot}
+use Rattle.version_order.specs.texts.Cuts.{from_first, further_pieces, is_dot}
 
 in_turn : (o p q : Ordering)
     → ordering_then (ordering_then o p) q ≡ ordering_then o (ordering_then p q)

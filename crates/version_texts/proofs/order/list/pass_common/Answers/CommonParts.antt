@@ -7,7 +7,7 @@ use Rattle.version_order.specs.texts.Bytes.{dot}
 use Rattle.version_rules.specs.key.PartKey.{PartKey, list_cmp, part_key}
 use Rattle.version_rules.specs.laws.Part.{list_total, part_total}
 use Rattle.version_texts.proofs.lemmas.scan.Spelled.{split-append}
-use Rattle.version_order.specs.texts.Pieces.{is_dot, pieces}
+use Rattle.version_order.specs.texts.Cuts.{is_dot, pieces}
 use Rattle.version_texts.specs.Key.{parts_of}
 
 -- a common front of two lists does not count

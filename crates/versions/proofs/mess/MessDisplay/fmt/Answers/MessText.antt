@@ -1,7 +1,7 @@
 -- A messy version printed, section by section.
 use Rattle.std.proofs.Common.{◌≡◌, ◌∙◌, ℕ, List, [], ◌∷◌, ◌++◌, append_assoc}
 use Rattle.std.specs.List.{flat_map}
-use Rattle.version_order.specs.texts.Sep.{sep_byte}
+use Rattle.version_order.specs.texts.Grammar.{sep_byte}
 use Rattle.version_rules.specs.grammar.Mess.{Further, further_text, joined_section}
 
 -- one more further section is written: its sign, and its chunks

@@ -3,7 +3,7 @@ use Rattle.std.proofs.Common.{◌≡◌, ◌∙◌, ℕ, List, ◌∷◌, ◌++�
 use Rattle.std.proofs.lemmas.List.Sums.{fold-append}
 use Rattle.std.specs.Hash.{HashWrites, fed_then}
 use Rattle.std.specs.List.{flat_map, fold}
-use Rattle.version_order.specs.texts.Sep.{PlainSep}
+use Rattle.version_order.specs.texts.Grammar.{PlainSep}
 use Rattle.version_parts.specs.Sep.{sep_fed}
 use Rattle.version_rules.specs.grammar.Mess.{Further, Section}
 use Rattle.versions.specs.Mess.{further_fed, section_fed}
