@@ -2,7 +2,7 @@ use Rattle.std.proofs.Common.{◌<◌, ◌≤◌, ◌^◌, arith, length}
 use Rattle.version_tasks.specs.NextRef.{plain_next}
 use Rattle.version_tasks.specs.Next.{IsOfForm}
 use Rattle.version_texts.specs.versioning_ref.VersioningRef.{plain_versioning_ref}
-use Rattle.versions_c.proofs.lemmas.Next.{next_written}
+use Rattle.versions_c.proofs.lemmas.Written.{next_written}
 use Rattle.versions_c.proofs.next.versions_next.Goals as goal
 
 pub returns-clause-next : goal.returns-clause-next
