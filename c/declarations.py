@@ -9,6 +9,8 @@ FORM is one of these:
   symbols     debian/libversions0.symbols
   rust        rust/src/declarations.rs
   each_scheme rust/src/each_scheme.rs
+  python      python/versions/_schemes.py
+  typescript  javascript/schemes.d.ts
   manual      the manual page versions(3), within c/versions.3.in
 What isn't written as the rest of the header is an error.
 """
@@ -172,18 +174,60 @@ def rust(header):
     return made
 
 
+class Scheme(NamedTuple):
+    number: str
+    name: str
+    others: list  # what else people call it
+    said: str
+
+
+def schemes(header):
+    """The schemes, each by the meaning of its number: its name, perhaps others in parentheses, and what it is."""
+    (numbers,) = (numbers for heading, numbers in header.numbers.items() if heading.startswith("The schemes"))
+    for number, _, meaning in numbers:
+        name, others, said = re.fullmatch(r"(\w+)(?: \((.*?)\))?: (.*)", meaning).groups()
+        yield Scheme(number.removeprefix("VERSIONS_"), name, others.split(", ") if others else [], said)
+
+
 def each_scheme(header):
     """A macro of Rust with a row for each scheme."""
-    (schemes,) = (numbers for heading, numbers in header.numbers.items() if heading.startswith("The schemes"))
     made = [
         "//! The schemes that `versions.h` declares, as `c/declarations.py each_scheme` writes them.", "",
         "/// Passes to a macro of each scheme its type, its number, its name, and what it is.", "macro_rules! each_scheme {",
         "    ($then:ident) => {", "        $then! {",
     ]
-    for number, _, meaning in schemes:
-        name, said = meaning.split(": ", 1)
-        made.append(f'            {name.capitalize()} {number.removeprefix("VERSIONS_")} "{name}" "`{name}`: {said}."')
+    for number, name, _, said in schemes(header):
+        made.append(f'            {name.capitalize()} {number} "{name}" "`{name}`: {said}."')
     return [*made, "        }", "    };", "}"]
+
+
+def python(header):
+    """The types of the names of schemes, for Python."""
+    names, others = ([f'"{name}"' for name in names] for names in names_of(header))
+    return [
+        '"""The names of the schemes that `versions.h` declares, as `c/declarations.py python` writes them."""', "",
+        "from typing import Literal", "", f"Scheme = Literal[{', '.join(names)}]", "",
+        "# What names a scheme: also the names that people know its system by. The library takes each in any case.",
+        "SchemeName = Literal[", "    Scheme,", *(f"    {other}," for other in others), "]",
+    ]
+
+
+def typescript(header):
+    """The same for TypeScript."""
+    names, others = ([f'"{name}"' for name in names] for names in names_of(header))
+    return [
+        "/* The names of the schemes that versions.h declares, as c/declarations.py typescript writes them. */", "",
+        "/** An order of versions, with the texts that it reads: that of this project, or of another system. */",
+        f"export type Scheme = {' | '.join(names)};",
+        "/** What names a scheme: also the names that people know its system by. The library takes each in any case. */",
+        "export type SchemeName =", "  | Scheme", *(f"  | {other}" for other in others[:-1]), f"  | {others[-1]};",
+    ]
+
+
+def names_of(header):
+    """The names of the schemes, and then what else people call them."""
+    each = list(schemes(header))
+    return [scheme.name for scheme in each], [other for scheme in each for other in scheme.others]
 
 
 def safe(call):
@@ -253,7 +297,10 @@ def roff(text, parameters=()):
     return re.sub(passed, lambda found: rf"\fI{found[0].strip('`')}\fR", text)
 
 
-FORMS = {form.__name__: form for form in (calls, prototypes, functions, statuses, symbols, rust, each_scheme, manual)}
+FORMS = {
+    form.__name__: form
+    for form in (calls, prototypes, functions, statuses, symbols, rust, each_scheme, python, typescript, manual)
+}
 
 if __name__ == "__main__":
     if len(sys.argv) != 2 or sys.argv[1] not in FORMS:

@@ -134,11 +134,11 @@ extern "C" {
 
 /* The schemes: which texts are versions, and how these compare. */
 #define VERSIONS_MIXED 1 /* mixed: every version, in the one order of all kinds */
-#define VERSIONS_DEB 2 /* deb: Debian's versions (Debian Policy, 5.6.12) */
-#define VERSIONS_RPM 3 /* rpm: RPM's versions (rpm-version(7)) */
-#define VERSIONS_PYPI 4 /* pypi: Python's versions (PEP 440) */
-#define VERSIONS_SEMVER 5 /* semver: SemVer 2.0.0 in full */
-#define VERSIONS_GEM 6 /* gem: RubyGems' versions (Gem::Version) */
+#define VERSIONS_DEB 2 /* deb (debian, ubuntu): Debian's versions (Debian Policy, 5.6.12) */
+#define VERSIONS_RPM 3 /* rpm (redhat, fedora, suse): RPM's versions (rpm-version(7)) */
+#define VERSIONS_PYPI 4 /* pypi (python, pip, pep440): Python's versions (PEP 440) */
+#define VERSIONS_SEMVER 5 /* semver (npm, cargo, crates.io): SemVer 2.0.0 in full */
+#define VERSIONS_GEM 6 /* gem (rubygems, ruby): RubyGems' versions (Gem::Version) */
 
 /* Why a text is not a version: what ends, or stands, at the place up to which it could become one. */
 #define VERSIONS_WRONG_EMPTY 1             /* the text is empty */
@@ -278,8 +278,7 @@ int versions_sort(uint32_t scheme, const char *texts, size_t texts_len, const in
 
 /*
  * Finds the scheme that a text names in upper or lower case: by its name, such as deb, or by what else people call it,
- * such as debian and ubuntu for deb; redhat, fedora and suse for rpm; python, pip and pep440 for pypi; npm, cargo and
- * crates.io for semver; rubygems and ruby for gem. Sets *scheme to its number.
+ * such as debian, which stands in parentheses where the schemes have their numbers. Sets *scheme to its number.
  *
  * Returns VERSIONS_OK or VERSIONS_NO_SCHEME.
  */

@@ -9,20 +9,13 @@
  * `VersionSet` of another scheme is a TypeError.
  */
 
+import type { Scheme, SchemeName } from "./schemes.js";
+
+export type { Scheme, SchemeName };
 /** strict, as SemVer 2.0 describes it, general, or messy */
 export type Kind = "ideal" | "general" | "complex";
 /** How stable a version is, by the words in it: by habit, not by SemVer 2.0. */
 export type Stability = "dev" | "alpha" | "beta" | "rc" | "stable";
-/** An order of versions, with the texts that it reads: that of this project, or of another system. */
-export type Scheme = "mixed" | "deb" | "rpm" | "pypi" | "semver" | "gem";
-/** What names a scheme: also the names that people know its system by. The library takes each in any case. */
-export type SchemeName =
-  | Scheme
-  | "debian" | "ubuntu"
-  | "redhat" | "fedora" | "suse"
-  | "python" | "pip" | "pep440"
-  | "npm" | "cargo" | "crates.io"
-  | "rubygems" | "ruby";
 export type Text = string | Version;
 /** What stands for no text: the calls for many texts answer null for it, as for a text that is not a version. */
 export type Missing = null | undefined;

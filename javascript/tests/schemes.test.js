@@ -60,7 +60,7 @@ const NAMES = new Map(rowsOf("scheme").map(([scheme, , ...others]) => [scheme, o
 test("the names of all schemes", () => {
   assert.ok(Object.isFrozen(SCHEMES));
   assert.deepEqual(SCHEMES, [...NAMES.keys()]);
-  const [, union] = readFileSync(`${folder}/index.d.ts`, "utf8").match(/^export type Scheme = (.*);$/m);
+  const [, union] = readFileSync(`${folder}/schemes.d.ts`, "utf8").match(/^export type Scheme = (.*);$/m);
   assert.deepEqual(union.split(" | "), SCHEMES.map((name) => JSON.stringify(name)));
   for (const [name, call] of Object.entries(CALLS)) {
     for (const scheme of SCHEMES) {
@@ -75,7 +75,7 @@ test("the names of all schemes", () => {
 });
 
 test("the names of people, in any case", () => {
-  const [, union] = readFileSync(`${folder}/index.d.ts`, "utf8").match(/^export type SchemeName =\n {2}\| Scheme\n(.*?);$/ms);
+  const [, union] = readFileSync(`${folder}/schemes.d.ts`, "utf8").match(/^export type SchemeName =\n {2}\| Scheme\n(.*?);$/ms);
   const all = [...NAMES.values()].flat();
   assert.ok(all.length > 12);
   assert.deepEqual([...union.matchAll(/"(.*?)"/g)].map((found) => found[1]), all);

@@ -29,8 +29,8 @@ from ._library import (
 )
 from ._library import sorted as sorted
 from ._requirement import Mismatch, Range, Reason, Requirement
+from ._schemes import Scheme, SchemeName
 from ._set import VersionSet
-from ._value import Scheme, SchemeName
 from ._version import Difference, DifferenceKind, Kind, Stability, Version
 
 # Without `sorted`, which would hide Python's own from `from versions import *`.

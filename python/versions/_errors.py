@@ -5,7 +5,7 @@ from __future__ import annotations
 from typing import Optional
 
 from . import _library
-from ._value import Scheme
+from ._schemes import Scheme
 
 
 class _Invalid(ValueError):

@@ -5,8 +5,8 @@ from typing import Any, Callable, Iterable, Literal, Optional, Protocol, TypeVar
 from typing_extensions import Self
 
 from ._requirement import Requirement
+from ._schemes import Scheme, SchemeName
 from ._set import VersionSet
-from ._value import Scheme, SchemeName
 from ._version import Kind, Stability, Version
 
 class ArrowArray(Protocol):

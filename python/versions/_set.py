@@ -5,7 +5,8 @@ from __future__ import annotations
 from typing import TYPE_CHECKING, Any, Iterable, Optional, SupportsIndex, Union, overload
 
 from . import _library
-from ._value import SchemeName, shown_scheme
+from ._schemes import SchemeName
+from ._value import shown_scheme
 
 if TYPE_CHECKING:
     from typing_extensions import Self

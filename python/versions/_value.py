@@ -2,27 +2,7 @@
 
 from __future__ import annotations
 
-from typing import Any, Literal, SupportsIndex, Union
-
-Scheme = Literal["mixed", "deb", "rpm", "pypi", "semver", "gem"]
-
-# What names a scheme: also the names that people know its system by. The library takes each in any case.
-SchemeName = Literal[
-    Scheme,
-    "debian",
-    "ubuntu",
-    "redhat",
-    "fedora",
-    "suse",
-    "python",
-    "pip",
-    "pep440",
-    "npm",
-    "cargo",
-    "crates.io",
-    "rubygems",
-    "ruby",
-]
+from typing import Any, SupportsIndex, Union
 
 
 def shown_scheme(scheme: str) -> str:

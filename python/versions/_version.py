@@ -8,7 +8,8 @@ from typing import TYPE_CHECKING, Any, Callable, Literal, NamedTuple, Optional, 
 
 from . import _library
 from ._errors import InvalidVersion
-from ._value import Scheme, Value, shown_scheme
+from ._schemes import Scheme
+from ._value import Value, shown_scheme
 
 if TYPE_CHECKING:
     from typing_extensions import Self

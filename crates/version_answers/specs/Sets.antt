@@ -4,6 +4,10 @@ use Rattle.std.specs.Option.{option_map}
 use Rattle.version_answers.specs.declared.set.WrongSet.{WrongSet}
 use Rattle.version_schemes.specs.Scheme.{rules}
 use Rattle.version_schemes.specs.declared.scheme.Scheme.{Scheme}
+use Rattle.version_order.specs.Rules.{Rules}
+use Rattle.version_sets.specs.Excluding.{leave_out, AreLeft}
+use Rattle.version_sets.specs.declared.read.excluding.Span.{Span}
+use Rattle.version_sets.specs.declared.read.pieces.Pieces.{Pieces}
 use Rattle.version_sets.specs.Reading.{Member, Reading, Right, Wrong, fault_of, read_set, set_has}
 use Rattle.std.specs.Fmt.{decimal}
 use Rattle.version_answers.specs.message.Quote.{quoted}
@@ -29,6 +33,12 @@ keys_of scheme word = option_map set_has (set_of scheme word)
 pub record IsWrongSet (scheme : Scheme) (word : List ℕ) (wrong : WrongSet) : Type 0 where
   pub word_is : wrong.word.now ≡ word
   pub fault_is : fault_of (reading_of scheme word) ≡ Some (wrong.place, wrong.reason)
+
+-- of the alternatives before, the next that leaves a key out does so by this member, and these stand behind it
+pub record LeavesOut (by : Rules) (key : List ℕ) (before after : Option Pieces) (span : Span) : Type 0 where
+  pub first : (all : List (List Member)) → AreLeft by.read_as by.facts.operators before all
+      → (rest : List (List Member)) × AreLeft by.read_as by.facts.operators after rest
+      × (leave_out key all ≡ span ∷ leave_out key rest)
 
 -- whether a set has any key
 abbrev pub HasAny : Bool → (List ℕ → Bool) → Type 0

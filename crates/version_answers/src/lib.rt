@@ -14,6 +14,7 @@ mod two;
 
 pub use message::quote::{Shown, quoted, shown_front};
 pub use message::remark::{NoVersion, Others, Remark};
+pub use message::schemes::SchemeNames;
 pub use one::json::add_json;
 pub use one::key::add_key_line;
 pub use one::next::{Step, add_next};

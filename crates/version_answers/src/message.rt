@@ -2,3 +2,4 @@
 
 pub(crate) mod quote;
 pub(crate) mod remark;
+pub(crate) mod schemes;

@@ -1,7 +1,7 @@
 //! Sets of versions that words are.
 
 ghost use Rattle.std.specs.Prelude.{◌≡◌, ◌<◌, ◌∷◌, [], get_or, length, List, Some, IfErr, IfNone, IfOk, IfSome, ℕ};
-ghost use Rattle.version_answers.specs.Sets.{keys_of, reading_of, HasAny, IsWrongSet};
+ghost use Rattle.version_answers.specs.Sets.{keys_of, reading_of, HasAny, IsWrongSet, LeavesOut};
 ghost use Rattle.version_schemes.specs.Scheme.{rules, scheme_number};
 ghost use Rattle.version_schemes.specs.any.AnyVersion.{plain_any};
 ghost use Rattle.version_sets.specs.Form.{has, IsPart, Meet, Rise, form_bytes, form_ends};
@@ -145,12 +145,8 @@ pub(crate) fn next_excluding<'t>(
     version: &AnyVersion<'t>,
     room: &mut [u8],
 ) -> Result<Option<Span>, NoRoom>
-    ensures some { IfOk result (λ found. IfSome found (λ span. (all : List (List Member))
-        → AreLeft (rules (plain_any version.now).scheme).read_as (rules (plain_any version.now).scheme).facts.operators
-        alternatives.old.left all → (rest : List (List Member))
-        × AreLeft (rules (plain_any version.now).scheme).read_as (rules (plain_any version.now).scheme).facts.operators
-        alternatives.new.left rest
-        × (leave_out (plain_any version.now).key all ≡ span ∷ leave_out (plain_any version.now).key rest))) }
+    ensures some { IfOk result (λ found. IfSome found (LeavesOut (rules (plain_any version.now).scheme)
+        (plain_any version.now).key alternatives.old.left alternatives.new.left)) }
     ensures none { IfOk result (λ found. IfNone found ((all : List (List Member))
         → AreLeft (rules (plain_any version.now).scheme).read_as (rules (plain_any version.now).scheme).facts.operators
         alternatives.old.left all → leave_out (plain_any version.now).key all ≡ [])) }
@@ -167,10 +163,8 @@ fn next_of<'t, V: SchemeVersion<'t>>(
     alternatives: &mut Alternatives<'t>,
     room: &mut [u8],
 ) -> Result<Option<Span>, NoRoom>
-    ensures some { IfOk result (λ found. IfSome found (λ span. (all : List (List Member))
-        → AreLeft V.rules.read_as V.rules.facts.operators alternatives.old.left all → (rest : List (List Member))
-        × AreLeft V.rules.read_as V.rules.facts.operators alternatives.new.left rest
-        × (leave_out (V.plain version.now).key all ≡ span ∷ leave_out (V.plain version.now).key rest))) }
+    ensures some { IfOk result (λ found. IfSome found (LeavesOut V.rules (V.plain version.now).key
+        alternatives.old.left alternatives.new.left)) }
     ensures none { IfOk result (λ found. IfNone found ((all : List (List Member))
         → AreLeft V.rules.read_as V.rules.facts.operators alternatives.old.left all
         → leave_out (V.plain version.now).key all ≡ [])) }

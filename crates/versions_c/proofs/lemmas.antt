@@ -3,7 +3,6 @@ pub mod Inexact
 pub mod Keys
 pub mod Matching
 pub mod Newest
-pub mod Next
 pub mod Ranges
 pub mod Schemes
 pub mod Sorting

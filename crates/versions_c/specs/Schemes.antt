@@ -11,7 +11,7 @@ abbrev pub key_by : (List ℕ → Option PlainKeyed) → List ℕ → Option (Li
 key_by read_as text = option_map (λ v. v.key) (read_as text)
 
 -- what a text is read as, where a set is asked for, and the size of a buffer that is enough for the set
-abbrev pub reading_by : Rules → List ℕ → Reading
+unfoldable pub reading_by : Rules → List ℕ → Reading
 reading_by rules = read_set rules.read_as rules.facts.operators
 
 abbrev pub room_by : Rules → List ℕ → ℕ

@@ -84,7 +84,7 @@ fn newest_place<'a>(
     ensures none { IfNone result
         (NoVersion (λ i. IsWanted wanted.now (text_at texts.now offsets.now i)) count) }
 {
-    let asked = Asked {
+    let asked = CandidateTexts {
         texts,
         offsets,
         count,
@@ -96,7 +96,7 @@ fn newest_place<'a>(
 
 // The texts, of which those that are asked for are candidates.
 #[derive(Clone, Copy)]
-struct Asked<'a> {
+struct CandidateTexts<'a> {
     texts: &'a [u8],
     offsets: &'a [u64],
     count: usize,
@@ -104,7 +104,7 @@ struct Asked<'a> {
     ghost fit: { AreOffsets offsets.now (length texts.now) count },
 }
 
-impl<'a> Candidates for Asked<'a> {
+impl<'a> Candidates for CandidateTexts<'a> {
     ghost length = { λ asked. asked.count };
 
     ghost has = { λ asked place v. IsWanted asked.wanted

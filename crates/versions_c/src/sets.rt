@@ -1,23 +1,24 @@
 //! Sets of versions, read from texts: their forms in the caller's buffers, and why a text is none.
 
-ghost use Rattle.std.specs.Prelude.{◌≡◌, ◌≢◌, None, IfSome};
+ghost use Rattle.std.specs.Prelude.{◌≡◌, ◌≢◌, ◌<◌, None, IfErr, IfOk, IfSome, length};
 ghost use Rattle.std.specs.Option.{option_map};
 ghost use Rattle.version_schemes.specs.Scheme.{numbered, rules, scheme_number};
 ghost use Rattle.version_sets.specs.Comparison.{ends_with};
 ghost use Rattle.version_sets.specs.Form.{form_bytes};
+ghost use Rattle.version_sets.specs.Reader.{IsUnread};
 ghost use Rattle.version_sets.specs.Reading.{fault_of};
 ghost use Rattle.version_sets.specs.Set.{reason_text};
 ghost use Rattle.version_sets.specs.declared.read.comparison.Comparison.TheVariants.{Equal};
 ghost use Rattle.version_order.specs.keys.Sinks.{saturated};
 ghost use Rattle.versions_c.specs.Schemes.{reading_by, room_by};
-ghost use Rattle.versions_c.specs.Sets.{reason_code, wrong_set_status, IsRead};
+ghost use Rattle.versions_c.specs.Sets.{reason_code, wrong_set_status, IsForm, IsRead};
 ghost use Rattle.versions_c.specs.Written.{IsWritten};
 
 use crate::schemes::write_text;
 use crate::status::{NO_ROOM, NO_SCHEME, NO_SET, NO_VERSION, NO_WRONG_MEMBER, OK};
 use version_order::SchemeVersion;
 use version_schemes::{Scheme, by_scheme};
-use version_sets::{Fault, Reason, Slip, find_fault, read_set, set_room, write_tied};
+use version_sets::{Fault, Reason, Slip, Unread, find_fault, read_set, set_room, write_tied};
 
 /// A member has to come.
 pub const NO_MEMBER: u32 = 1;
@@ -72,29 +73,42 @@ fn put_set(scheme: Scheme, text: &[u8], form: &mut [u8], form_len: &mut usize) -
     ensures kept { result ≢ OK → result ≢ NO_ROOM → form.new ≡ form.old }
     ensures no_length { result ≢ OK → result ≢ NO_ROOM → form_len.new ≡ form_len.old }
 {
-    by_scheme!(scheme, put_set_of(text, form, form_len))
-}
-
-// Writes the form of a set that a text is.
-fn put_set_of<'t, V: SchemeVersion<'t>>(
-    text: &'t [u8],
-    form: &mut [u8],
-    form_len: &mut usize,
-) -> i32
-    ensures set { IsRead V.rules V.rules.facts.number text.now form.old form.new form_len.new result }
-    ensures kept { result ≢ OK → result ≢ NO_ROOM → form.new ≡ form.old }
-    ensures no_length { result ≢ OK → result ≢ NO_ROOM → form_len.new ≡ form_len.old }
-{
     // A set is read into the buffer, so a text that is none has to be known before.
-    if find_fault::<V>(text).is_some() {
+    if fault_in(scheme, text).is_some() {
         return NO_SET;
     }
-    let Ok(length) = read_set::<V>(V::facts().number, text, form) else {
-        *form_len = set_room::<V>(text);
+    let Ok(length) = read_by(scheme, text, form) else {
+        *form_len = room_by(scheme, text);
         return NO_ROOM;
     };
     *form_len = length;
     OK
+}
+
+// Reads a set of a scheme into a buffer.
+fn read_by(scheme: Scheme, text: &[u8], form: &mut [u8]) -> Result<usize, Unread>
+    ensures ok { IfOk result (IsForm (scheme_number scheme) (reading_by (rules scheme) text.now) form.new) }
+    ensures wrong { IfErr result (λ unread. IsUnread unread (reading_by (rules scheme) text.now)
+        (length form.old < room_by (rules scheme) text.now)) }
+{
+    by_scheme!(scheme, read_form(text, form))
+}
+
+// Reads a set into a buffer.
+#[tactic(auto, unfolding(crate::specs::Schemes::reading_by))]
+fn read_form<'t, V: SchemeVersion<'t>>(text: &'t [u8], form: &mut [u8]) -> Result<usize, Unread>
+    ensures ok { IfOk result (IsForm V.rules.facts.number (reading_by V.rules text.now) form.new) }
+    ensures wrong { IfErr result (λ unread. IsUnread unread (reading_by V.rules text.now)
+        (length form.old < room_by V.rules text.now)) }
+{
+    read_set::<V>(V::facts().number, text, form)
+}
+
+// Returns a size of buffer that is enough for the form of a text.
+fn room_by(scheme: Scheme, text: &[u8]) -> usize
+    ensures { result ≡ saturated (room_by (rules scheme) text.now) }
+{
+    by_scheme!(scheme, set_room(text))
 }
 
 /// Writes a size of buffer that is enough for the form of a text.
@@ -107,7 +121,7 @@ pub extern "C" fn versions_set_bound(scheme: u32, text: &[u8], bound: &mut usize
     let Some(scheme) = Scheme::of_number(scheme) else {
         return NO_SCHEME;
     };
-    *bound = by_scheme!(scheme, set_room(text));
+    *bound = room_by(scheme, text);
     OK
 }
 
@@ -154,7 +168,15 @@ fn fault_in(scheme: Scheme, text: &[u8]) -> Option<Fault>
     ensures { option_map (λ fault. (fault.place, fault.reason)) result
         ≡ fault_of (reading_by (rules scheme) text.now) }
 {
-    by_scheme!(scheme, find_fault(text))
+    by_scheme!(scheme, fault_by(text))
+}
+
+// Returns where a text is no set, and why, or None if it is one.
+#[tactic(auto, unfolding(crate::specs::Schemes::reading_by))]
+fn fault_by<'t, V: SchemeVersion<'t>>(text: &'t [u8]) -> Option<Fault>
+    ensures { option_map (λ fault. (fault.place, fault.reason)) result ≡ fault_of (reading_by V.rules text.now) }
+{
+    find_fault::<V>(text)
 }
 
 /// Writes why a text is no set of a scheme, as a sentence.

@@ -95,7 +95,7 @@ fn put_order(
     if status != OK {
         return status;
     }
-    let keys = Pieces {
+    let keys = Slices {
         bytes: keys,
         offsets: key_offsets,
         count,
@@ -139,12 +139,12 @@ fn put_mixed_order(
     if !put_places(texts, offsets, keys, key_offsets, order) {
         return NO_ROOM;
     }
-    let texts = Pieces {
+    let texts = Slices {
         bytes: texts,
         offsets,
         count,
     };
-    let keys = Pieces {
+    let keys = Slices {
         bytes: keys,
         offsets: key_offsets,
         count,
@@ -187,17 +187,17 @@ fn put_places(
     put_keys(texts, offsets, count, keys, key_offsets, order)
 }
 
-// Many pieces in one buffer, each from one offset up to the next.
+// Many slices of one buffer, each from one offset up to the next.
 #[derive(Clone, Copy)]
-struct Pieces<'a> {
+struct Slices<'a> {
     bytes: &'a [u8],
     offsets: &'a [u64],
     count: usize,
     ghost fit: { AreOffsets offsets.now (length bytes.now) count },
 }
 
-impl<'a> Pieces<'a> {
-    // Returns the piece at a place, which is empty after the last piece.
+impl<'a> Slices<'a> {
+    // Returns the slice at a place, which is empty after the last.
     #[inline(always)]
     fn at(&self, place: u64) -> &'a [u8]
         ensures { result.now ≡ text_at self.now.bytes.now self.now.offsets.now place }
@@ -210,7 +210,7 @@ impl<'a> Pieces<'a> {
 }
 
 // Sorts places, on which the kinds of their texts are marked, by their keys.
-fn sort(texts: &Pieces<'_>, keys: &Pieces<'_>, order: &mut [u64])
+fn sort(texts: &Slices<'_>, keys: &Slices<'_>, order: &mut [u64])
     ensures places { IsPermutation order.old order.new }
     ensures sorted { IsSorted (keyed_cmp texts.now.bytes.now texts.now.offsets.now
         keys.now.bytes.now keys.now.offsets.now) order.new }
@@ -228,7 +228,7 @@ fn remove_marks(order: &mut [u64])
 }
 
 // Compares two marked places by their keys, then by what breaks the tie, then as numbers.
-fn compare_marked(texts: &Pieces<'_>, keys: &Pieces<'_>, a: u64, b: u64) -> Ordering
+fn compare_marked(texts: &Slices<'_>, keys: &Slices<'_>, a: u64, b: u64) -> Ordering
     ensures { result ≡ keyed_cmp texts.now.bytes.now texts.now.offsets.now
         keys.now.bytes.now keys.now.offsets.now a b }
 {
@@ -240,7 +240,7 @@ fn compare_marked(texts: &Pieces<'_>, keys: &Pieces<'_>, a: u64, b: u64) -> Orde
 
 // Compares two marked places whose keys tie by what breaks the tie, then as numbers.
 #[inline(never)]
-fn compare_tied(texts: &Pieces<'_>, a: u64, b: u64) -> Ordering
+fn compare_tied(texts: &Slices<'_>, a: u64, b: u64) -> Ordering
     ensures { result ≡ tied_cmp texts.now.bytes.now texts.now.offsets.now a b }
 {
     let (place, other) = (marked_number(a), marked_number(b));
@@ -262,7 +262,7 @@ fn compare_empty_last(a: &[u8], b: &[u8]) -> Ordering
 }
 
 // Writes the places of pieces in their order: empty ones come last, and places of those that are the same rise.
-fn sort_places(keys: &Pieces<'_>, order: &mut [u64])
+fn sort_places(keys: &Slices<'_>, order: &mut [u64])
     ensures places { IsPermutation (range_with_len 0 (length order.old)) order.new }
     ensures sorted { IsSorted (lying_cmp keys.now.bytes.now keys.now.offsets.now) order.new }
 {
@@ -280,7 +280,7 @@ fn put_places_of(order: &mut [u64])
 }
 
 // Sorts places by their keys.
-fn sort_by_keys(keys: &Pieces<'_>, order: &mut [u64])
+fn sort_by_keys(keys: &Slices<'_>, order: &mut [u64])
     ensures places { IsPermutation order.old order.new }
     ensures sorted { IsSorted (lying_cmp keys.now.bytes.now keys.now.offsets.now) order.new }
 {
@@ -288,7 +288,7 @@ fn sort_by_keys(keys: &Pieces<'_>, order: &mut [u64])
 }
 
 // Compares two places by their keys, then as numbers.
-fn compare_places(keys: &Pieces<'_>, a: u64, b: u64) -> Ordering
+fn compare_places(keys: &Slices<'_>, a: u64, b: u64) -> Ordering
     ensures { result ≡ lying_cmp keys.now.bytes.now keys.now.offsets.now a b }
 {
     match compare_empty_last(keys.at(a), keys.at(b)) {

@@ -7,6 +7,7 @@ use Rattle.std.specs.List.{list_all, position_or_len}
 use Rattle.std.specs.Option.{option_map}
 use Rattle.version_answers.specs.Spelling.{found_text}
 use Rattle.version_answers.specs.message.Quote.{quoted}
+use Rattle.version_answers.specs.message.Schemes.{scheme_names}
 use Rattle.version_answers.specs.declared.spelling.Naming.{Naming}
 use Rattle.version_answers.specs.declared.spelling.Naming.TheVariants.{Tag}
 use Rattle.version_answers.specs.declared.spelling.Spelling.{Spelling}
@@ -78,6 +79,6 @@ no_version_text (Some (Prefix count)) text more =
     quoted text ++ (codes ": --prefix " ++ (quoted (take count text) ++ more))
 no_version_text (Some NoColumn) text more = quoted text ++ (codes ": no such column" ++ more)
 no_version_text (Some NoScheme) text more = quoted text
-    ++ (codes ": no scheme is named, of mixed, deb (debian, ubuntu), rpm (redhat, fedora, suse), pypi (python, pip, pep440), semver (npm, cargo, crates.io), gem (rubygems, ruby)" ++ more)
+    ++ (codes ": no scheme is named, of " ++ (scheme_names ++ more))
 no_version_text (Some (Flaw reason pointed)) text more =
     reason_text reason ++ (more ++ (10 ∷ (codes "  " ++ (quoted text ++ pointer_line pointed))))

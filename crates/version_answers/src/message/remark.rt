@@ -6,6 +6,7 @@ ghost use Rattle.std.proofs.Math.ListN.{replicate};
 ghost use Rattle.version_answers.specs.message.Remark.{begins_plain, digit_place, is_plain, no_version_text, others_text, pointed_place, pointer_line, prefix_length, remark_on_none, IsFlawOfRest, IsRemark};
 
 use crate::message::quote::{SHOWN, Shown};
+use crate::message::schemes::SchemeNames;
 use crate::spelling::{Naming, Spelling};
 use std::fmt;
 use version_schemes::{AnyVersion, Flaw, Reason, Scheme};
@@ -140,10 +141,10 @@ impl fmt::Display for NoVersion<'_> {
                 write!(f, "{shown}: --prefix {prefix}{others}")
             }
             Some(Remark::NoColumn) => write!(f, "{shown}: no such column{others}"),
-            Some(Remark::NoScheme) => write!(
-                f,
-                "{shown}: no scheme is named, of mixed, deb (debian, ubuntu), rpm (redhat, fedora, suse), pypi (python, pip, pep440), semver (npm, cargo, crates.io), gem (rubygems, ruby){others}"
-            ),
+            Some(Remark::NoScheme) => {
+                let names = SchemeNames;
+                write!(f, "{shown}: no scheme is named, of {names}{others}")
+            }
             Some(Remark::Flaw { reason, pointed }) => {
                 let (why, pointer) = (reason.text(), Pointer { place: pointed });
                 write!(f, "{why}{others}\n  {shown}{pointer}")

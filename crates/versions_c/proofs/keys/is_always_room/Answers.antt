@@ -1,6 +1,6 @@
 use Rattle.std.proofs.Common.{◌-◌, ◌*◌, ◌/◌, ◌≤◌, get_or, arith}
 use Rattle.std.proofs.lemmas.Bool.Decides.{nat_tests}
-use Rattle.versions_c.proofs.lemmas.Keys.Rooms.{all_within}
+use Rattle.versions_c.proofs.lemmas.Keys.{all_within}
 use Rattle.versions_c.proofs.keys.is_always_room.Goals as goal
 
 pub returns-then-fives-room : goal.returns-then-fives-room

@@ -3,7 +3,7 @@ use Rattle.version_tasks.specs.NextPre.{plain_next_pre, IsOfPreForm}
 use Rattle.version_tasks.specs.Next.{IsLeastAfter}
 use Rattle.version_texts.specs.VersioningRef.{plain_versioning_ref}
 use Rattle.versions_c.specs.Next.{given_word}
-use Rattle.versions_c.proofs.lemmas.Next.{next_written}
+use Rattle.versions_c.proofs.lemmas.Written.{next_written}
 use Rattle.versions_c.proofs.next.versions_next_pre.Goals as goal
 
 pub returns-clause-next : goal.returns-clause-next

@@ -1,7 +1,7 @@
 use Rattle.std.proofs.Common.{◌<◌, ◌≤◌, ◌^◌, arith, length}
 use Rattle.version_tasks.specs.Next.{plain_next, IsOfForm, last_place}
 use Rattle.version_texts.specs.VersioningRef.{plain_versioning_ref}
-use Rattle.versions_c.proofs.lemmas.Next.{next_written}
+use Rattle.versions_c.proofs.lemmas.Written.{next_written}
 use Rattle.versions_c.proofs.next.versions_next_release.Goals as goal
 
 pub returns-clause-next : goal.returns-clause-next
