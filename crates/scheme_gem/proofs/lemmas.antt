@@ -1,4 +1,3 @@
-pub mod Canonical
 pub mod Costs
 pub mod Segments
 pub mod Walks

@@ -1,10 +1,16 @@
--- The segments of a version, `Gem::Version#segments`, and the entries that they make.
-use Rattle.std.specs.Prelude.{◌==◌, ◌&&◌, ◌||◌, ℕ, zero, suc, Bool, true, false, List, [], ◌∷◌, codes, if◌then◌else◌, not}
+-- The segments of a version, `Gem::Version#segments`, the entries that they make, and RubyGems' own comparison of them.
+use Rattle.std.specs.Prelude.{◌==◌, ◌&&◌, ◌||◌, ℕ, zero, suc, Bool, true, false, List, [], ◌∷◌, codes, if◌then◌else◌, not, ◌++◌, drop, ◌≡◌, Option, None, Some, ⊤}
 use Rattle.std.specs.Char.{is_ascii_alphabetic, is_ascii_digit}
-use Rattle.std.specs.List.{flat_map, take_while}
+use Rattle.std.specs.List.{flat_map, take_while, prefix_len, list_all}
 use Rattle.version_order.specs.texts.Bytes.{dot, hyphen}
-use Rattle.version_order.specs.texts.DigitRun.{run_value}
+use Rattle.version_order.specs.texts.DigitRun.{run_value, behind_digits}
 use Rattle.scheme_gem.specs.Order.{Entry, Letters, Number}
+use Rattle.std.specs.Ordering.{nat_cmp, on, ordering_then}
+use Rattle.std.specs.declared.cmp.Ordering.{Ordering}
+use Rattle.std.specs.declared.cmp.Ordering.TheVariants.{Less, Equal, Greater}
+use Rattle.version_order.specs.keys.Lists.{bytes_cmp}
+use Rattle.scheme_gem.specs.declared.version.Next.{Next}
+use Rattle.scheme_gem.specs.declared.version.Next.TheVariants as next
 
 -- letters, or a number
 pub data Segment : Type 0 where
@@ -55,3 +61,67 @@ entries_of = entries_after false 0
 -- the entries of a text, after letters or before any
 abbrev pub entries_in : Bool → List ℕ → List Entry
 entries_in lettered text = entries_after lettered 0 (segments_of text)
+
+-- ---- what is found in a text one after another
+
+-- the entry that comes next, if one does
+abbrev pub entry_of : Next → Option Entry
+entry_of (next.Letters count letters rest) = Some (Letters count letters.now)
+entry_of (next.Number count text) = Some (Number count (run_value text.now))
+entry_of next.End = None
+
+-- the entries from the next one on, after letters or before any
+abbrev pub entries_from : Bool → Next → List Entry
+entries_from lettered (next.Letters count letters rest) = Letters count letters.now ∷ entries_in true rest.now
+entries_from lettered (next.Number count text) =
+    Number count (run_value text.now) ∷ entries_in lettered (behind_digits text.now)
+entries_from lettered next.End = []
+
+-- letters are letters alone
+abbrev pub HasLetters : Next → Type 0
+HasLetters (next.Letters count letters rest) = list_all is_ascii_alphabetic letters.now ≡ true
+HasLetters other = ⊤
+
+-- ---- RubyGems' own comparison, as its source has it: segment by segment, of the segments that count
+
+-- a list without the items at its end that pass
+abbrev pub without_last : {A : Type 0} → (A → Bool) → List A → List A
+without_last test [] = []
+without_last test (x ∷ xs) = if list_all test (x ∷ xs) then [] else x ∷ without_last test xs
+
+abbrev pub is_integer : Segment → Bool
+is_integer (Integer n) = true
+is_integer (Word text) = false
+
+abbrev pub is_zero : Segment → Bool
+is_zero (Integer zero) = true
+is_zero segment = false
+
+-- `Gem::Version#canonical_segments`: the numbers before the first letters, and the segments from these on, each without
+-- the zeros at its end
+abbrev pub canonical : List Segment → List Segment
+canonical segments =
+    without_last is_zero (take_while is_integer segments)
+    ++ without_last is_zero (drop (prefix_len is_integer segments) segments)
+
+-- letters before numbers
+abbrev pub segment_cmp : Segment → Segment → Ordering
+segment_cmp (Word s) (Word t) = bytes_cmp s t
+segment_cmp (Word s) (Integer n) = Less
+segment_cmp (Integer m) (Word t) = Greater
+segment_cmp (Integer m) (Integer n) = nat_cmp m n
+
+-- nothing more and these segments: what is missing is a zero
+abbrev pub missing_cmp : List Segment → Ordering
+missing_cmp [] = Equal
+missing_cmp (y ∷ ys) = ordering_then (segment_cmp (Integer 0) y) (missing_cmp ys)
+
+-- segment by segment
+abbrev pub segments_cmp : List Segment → List Segment → Ordering
+segments_cmp [] ys = missing_cmp ys
+segments_cmp (x ∷ xs) [] = ordering_then (segment_cmp x (Integer 0)) (segments_cmp xs [])
+segments_cmp (x ∷ xs) (y ∷ ys) = ordering_then (segment_cmp x y) (segments_cmp xs ys)
+
+-- `Gem::Version#<=>`
+abbrev pub canonical_cmp : List Segment → List Segment → Ordering
+canonical_cmp = on canonical segments_cmp

@@ -10,16 +10,11 @@ use Rattle.version_order.specs.texts.Front.{begins}
 use Rattle.version_order.specs.texts.Cuts.{is_dot, cut_first}
 use Rattle.version_order.specs.Rules.{compared}
 use Rattle.scheme_gem.specs.Order.{Entry, gem_cmp}
-use Rattle.scheme_gem.specs.Segments.{entries_in}
+use Rattle.scheme_gem.specs.Segments.{entries_in, without_last}
 
 -- a blank or a byte that ends a line or a page: Ruby's `\s`
 abbrev pub is_blank : ℕ → Bool
 is_blank byte = is_in_range 9 13 byte || byte == 32
-
--- a list without the items at its end that pass
-abbrev pub without_last : {A : Type 0} → (A → Bool) → List A → List A
-without_last test [] = []
-without_last test (x ∷ xs) = if list_all test (x ∷ xs) then [] else x ∷ without_last test xs
 
 -- a text without the blanks around it
 abbrev pub trimmed : List ℕ → List ℕ

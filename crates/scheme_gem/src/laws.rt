@@ -5,10 +5,9 @@ ghost use Rattle.std.specs.declared.cmp.Ordering.TheVariants.{Equal, Greater, Le
 ghost use Rattle.version_order.specs.Rules.{ComparesByKeys};
 ghost use Rattle.version_order.specs.Viable.{IsViable};
 ghost use Rattle.version_order.specs.keys.Codes.{Writes};
-ghost use Rattle.scheme_gem.specs.Canonical.{canonical_cmp};
 ghost use Rattle.scheme_gem.specs.Order.{gem_bytes, gem_cmp};
 ghost use Rattle.scheme_gem.specs.Rules.{gem_rules};
-ghost use Rattle.scheme_gem.specs.Segments.{Segment, entries_in, entries_of};
+ghost use Rattle.scheme_gem.specs.Segments.{Segment, canonical_cmp, entries_in, entries_of};
 ghost use Rattle.scheme_gem.specs.Texts.{gem_of, texts_cmp};
 
 // Keys compare as the order does, whatever bytes follow them, and so do texts by their keys. No key is empty, and nothing

@@ -7,9 +7,8 @@ ghost use Rattle.std.specs.declared.cmp.Ordering.TheVariants.{Equal};
 ghost use Rattle.version_order.specs.Viable.{IsLongestViable};
 ghost use Rattle.version_order.specs.texts.DigitRun.{run_value, behind_digits};
 ghost use Rattle.version_order.specs.texts.Front.{begins};
-ghost use Rattle.scheme_gem.specs.Next.{HasLetters, entries_from, entry_of};
 ghost use Rattle.scheme_gem.specs.Order.{Letters, Number, entry_bytes, gem_bytes, gem_cmp, rank};
-ghost use Rattle.scheme_gem.specs.Segments.{Word, entries_in, is_lettered, segments_of};
+ghost use Rattle.scheme_gem.specs.Segments.{HasLetters, Word, entries_from, entries_in, entry_of, is_lettered, segments_of};
 ghost use Rattle.scheme_gem.specs.Texts.{gem_of, is_gem};
 
 use crate::reader::read;

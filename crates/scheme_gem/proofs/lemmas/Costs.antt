@@ -11,8 +11,8 @@ use Rattle.version_order.specs.texts.DigitRun.{behind_digits, run_value, starts_
 use Rattle.scheme_gem.proofs.lemmas.Segments.{letters_text, digits_shorter, hyphen_first, number_first, other_first, word_first}
 use Rattle.scheme_gem.proofs.lemmas.Walks.{version_digit}
 use Rattle.scheme_gem.specs.Order.{Letters, gem_bytes}
-use Rattle.scheme_gem.specs.Segments.{Integer, Segment, Word, entries_after, entries_in, segments_of}
-use Rattle.scheme_gem.specs.Texts.{gem_of, is_blank, is_gem, trimmed, without_last}
+use Rattle.scheme_gem.specs.Segments.{Integer, Segment, Word, entries_after, entries_in, segments_of, without_last}
+use Rattle.scheme_gem.specs.Texts.{gem_of, is_blank, is_gem, trimmed}
 
 -- ---- a segment after so many zeros, and those behind it, which take at most so many bytes beside these zeros
 

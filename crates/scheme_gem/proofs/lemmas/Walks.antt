@@ -19,7 +19,8 @@ use Rattle.version_order.specs.texts.Bytes.{dot, hyphen, is_identifier_byte, is_
 use Rattle.version_order.specs.texts.DigitRun.{is_digits}
 use Rattle.version_order.specs.texts.Front.{begins}
 use Rattle.version_order.specs.texts.Cuts.{is_dot}
-use Rattle.scheme_gem.specs.Texts.{are_pieces, is_blank, is_gem, is_hyphenated, is_not_hyphen, is_piece, is_plain, is_release, is_version, without_last}
+use Rattle.scheme_gem.specs.Texts.{are_pieces, is_blank, is_gem, is_hyphenated, is_not_hyphen, is_piece, is_plain, is_release, is_version}
+use Rattle.scheme_gem.specs.Segments.{without_last}
 
 -- ---- bytes
 

@@ -541,14 +541,14 @@ module _ {class mark : ℕ → Bool} {good test inner tail : List ℕ → Bool}
     (by : IsSplit class mark good test inner tail)
     (text run rest : List ℕ) (run_is : run ≡ take_while class text)
     (rest_is : rest ≡ drop (prefix_len class text) text) where
-  whole : text ≡ run ++ rest
-  whole = sym (take-append-drop (prefix_len class text) text) ∙ (λ i. sym run_is i ++ sym rest_is i)
+  joined_run : text ≡ run ++ rest
+  joined_run = sym (take-append-drop (prefix_len class text) text) ∙ (λ i. sym run_is i ++ sym rest_is i)
 
-  ends : begins class rest ≡ false
-  ends = ap (begins class) rest_is ∙ begins-drop class text
+  run_ends : begins class rest ≡ false
+  run_ends = ap (begins class) rest_is ∙ begins-drop class text
 
-  at_run : (after : List ℕ) → begins class after ≡ false → test (run ++ after) ≡ (good run && next mark inner tail after)
-  at_run after apart =
+  at_piece : (after : List ℕ) → begins class after ≡ false → test (run ++ after) ≡ (good run && next mark inner tail after)
+  at_piece after apart =
       let all = ap (list_all class) run_is ∙ list_all-take_while class text in
       let count = prefix_len-append class run after all apart in
       let front = ap (λ (n : ℕ). take n (run ++ after)) count ∙ take_at run after _ refl in
@@ -560,22 +560,22 @@ module _ {class mark : ℕ → Bool} {good test inner tail : List ℕ → Bool}
   stops_at_piece fails more passes = record {
     left = record {
       begun = run;
-      whole = whole;
+      whole = joined_run;
       viable = record { rest = more; passes = passes };
       stuck = λ byte behind e after.
-          at_run (byte ∷ after) (ap (begins class) (sym e) ∙ ends)
+          at_piece (byte ∷ after) (ap (begins class) (sym e) ∙ run_ends)
           ∙ ap (λ (b : Bool). b && next mark inner tail (byte ∷ after)) fails;
     };
-    is = ap test (sym (append-nil run)) ∙ at_run [] refl ∙ ap (λ (b : Bool). b && next mark inner tail []) fails;
+    is = ap test (sym (append-nil run)) ∙ at_piece [] refl ∙ ap (λ (b : Bool). b && next mark inner tail []) fails;
   }
 
   module _ (is : good run ≡ true) where
     abbrev either : ℕ → Bool
     either byte = class byte || mark byte
 
-    neither : (l : List ℕ) → begins class l ≡ false → begins mark l ≡ false → begins either l ≡ false
-    neither [] e f = refl
-    neither (byte ∷ l) e f = rw (e, f) refl
+    neither_begins : (l : List ℕ) → begins class l ≡ false → begins mark l ≡ false → begins either l ≡ false
+    neither_begins [] e f = refl
+    neither_begins (byte ∷ l) e f = rw (e, f) refl
 
     class_apart : (l : List ℕ) → begins either l ≡ false → begins class l ≡ false
     class_apart [] e = refl
@@ -589,20 +589,20 @@ module _ {class mark : ℕ → Bool} {good test inner tail : List ℕ → Bool}
     pub stops_in_tail : begins mark rest ≡ false → (left : List ℕ) (passes : Bool) → Stops tail rest left passes
         → Stops test text left passes
     stops_in_tail unmarked left passes stops =
-        subst (λ (l : List ℕ). Stops test l left passes) (sym whole)
+        subst (λ (l : List ℕ). Stops test l left passes) (sym joined_run)
         (stops_after either test tail run
-        (λ t e. at_run t (class_apart t e) ∙ ap (λ (b : Bool). b && next mark inner tail t) is
+        (λ t e. at_piece t (class_apart t e) ∙ ap (λ (b : Bool). b && next mark inner tail t) is
         ∙ next_tail mark inner tail t (mark_no t e))
-        (λ t e. neither t (by.tail_apart t e).0 (by.tail_apart t e).1) rest left passes (neither rest ends unmarked) stops)
+        (λ t e. neither_begins t (by.tail_apart t e).0 (by.tail_apart t e).1) rest left passes (neither_begins rest run_ends unmarked) stops)
 
     -- a mark follows it, and then what is walked over next
     pub stops_in_next : (byte : ℕ) (more : List ℕ) → rest ≡ byte ∷ more → mark byte ≡ true
         → (left : List ℕ) (passes : Bool) → Stops inner more left passes → Stops test text left passes
     stops_in_next byte more cut marked left passes stops =
         subst (λ (l : List ℕ). Stops test l left passes)
-        (append_assoc run (byte ∷ []) more ∙ ap (λ (l : List ℕ). run ++ l) (sym cut) ∙ sym whole)
+        (append_assoc run (byte ∷ []) more ∙ ap (λ (l : List ℕ). run ++ l) (sym cut) ∙ sym joined_run)
         (stops_behind test inner (run ++ byte ∷ [])
-        (λ t. ap test (append_assoc run (byte ∷ []) t) ∙ at_run (byte ∷ t) (by.mark_apart byte marked)
+        (λ t. ap test (append_assoc run (byte ∷ []) t) ∙ at_piece (byte ∷ t) (by.mark_apart byte marked)
         ∙ ap (λ (b : Bool). b && next mark inner tail (byte ∷ t)) is
         ∙ ap (λ (b : Bool). if b then inner t else tail (byte ∷ t)) marked) more left passes stops)
 

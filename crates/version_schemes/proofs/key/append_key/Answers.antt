@@ -1,4 +1,4 @@
-use Rattle.std.proofs.Common.{rules, ◌≡◌, ◌∙◌, ◌+◌, ◌-◌, ◌≤◌, ◌++◌, List, ℕ, OnErr, OnOk, ap, arith, length, refl, replicate, subst, sym, take}
+use Rattle.std.proofs.Common.{rules, ◌≡◌, ◌∙◌, ◌+◌, ◌-◌, ◌≤◌, ◌++◌, List, ℕ, OnErr, OnOk, ap, arith, length, refl, replicate, subst, take}
 use Rattle.version_order.proofs.lemmas.Sinks.{appended}
 use Rattle.version_order.specs.keys.Sinks.{put_at}
 use Rattle.version_schemes.proofs.lemmas.Front.{taken_back}

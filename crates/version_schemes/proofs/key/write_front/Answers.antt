@@ -1,4 +1,4 @@
-use Rattle.std.proofs.Common.{arith, refl, rules}
+use Rattle.std.proofs.Common.{refl, rules}
 use Rattle.version_schemes.proofs.lemmas.Front.{ended, written}
 use Rattle.version_schemes.proofs.key.write_front.Goals as goal
 

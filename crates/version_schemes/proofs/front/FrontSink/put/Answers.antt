@@ -1,4 +1,4 @@
-use Rattle.std.proofs.Common.{◌≡◌, ◌∙◌, ◌+◌, ◌≤◌, ◌∷◌, ◌||◌, arith, length, min, nat_lt, refl, set, sym}
+use Rattle.std.proofs.Common.{◌≡◌, ◌∙◌, ◌+◌, ◌≤◌, ◌∷◌, ◌||◌, arith, length, min, nat_lt, refl, sym}
 use Rattle.version_order.proofs.lemmas.Sinks.{put_first}
 use Rattle.version_schemes.proofs.lemmas.Front.{length-set, put_past, too_much}
 use Rattle.version_schemes.proofs.front.FrontSink.put.Goals as goal
