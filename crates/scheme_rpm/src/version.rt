@@ -108,6 +108,7 @@ impl<'t> Rpm<'t> {
     }
 
     /// Compares it with another version.
+    #[inline(always)]
     pub fn compare(&self, other: &Rpm<'_>) -> Ordering
         ensures { result ≡ rpm_cmp (plain_rpm self.now) (plain_rpm other.now) }
     {
