@@ -1,5 +1,5 @@
 -- Hints that are so of a part of a run are so of the whole.
-use Rattle.std.proofs.Common.{◌≡◌, inl, inr, ◌+◌, ◌-◌, ℕ, Bool, true, false, List, [], ◌∷◌, Bor, length, Option, None, Some, is_some, IfSome, arith, refl, sym, subst}
+use Rattle.std.proofs.Common.{◌≡◌, inl, inr, ◌+◌, ◌-◌, ℕ, Bool, true, List, [], ◌∷◌, Bor, length, Option, None, Some, arith, refl, sym, subst}
 use Rattle.std.specs.List.{flat_map}
 use Rattle.std.specs.Option.{option_map}
 use Rattle.version_commands.proofs.lemmas.lines.Ordered.{lines-alike}

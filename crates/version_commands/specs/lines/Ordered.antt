@@ -1,6 +1,6 @@
 -- What `sort`, `newest` and `filter` write.
 use Rattle.std.proofs.Common.{Bor}
-use Rattle.std.specs.Prelude.{◌≡◌, ◌++◌, ◌∷◌, ℕ, Bool, false, List, [], map, Option, None, Some, if◌then◌else◌}
+use Rattle.std.specs.Prelude.{◌≡◌, ◌++◌, ◌∷◌, ℕ, Bool, false, List, [], Option, None, Some, if◌then◌else◌}
 use Rattle.version_commands.specs.lines.Arranged.{arranged, placed, policy}
 use Rattle.version_commands.specs.lines.BySchemes.{arranged_by_schemes, version_by}
 use Rattle.version_commands.specs.lines.Choice.{keeps_of}

@@ -83,16 +83,16 @@ module _ (options : LineOptions) (keeps : PlainAny → Bool) (whole : List ℕ) 
 
   module _ {F T : Type 0} {puts : F → F → List ℕ → List ℕ → Type 0} {refuses : F → List ℕ → Type 0}
       {alters : F → F → List ℕ → Type 0} {files left : F} {old new : Option (List ℕ)} {result : Result T TaskFault} where
-    -- the same of these parts
-    abbrev Writes : LineOptions → List ℕ → List ℕ → Type 0
-    Writes o head body = Finishes puts refuses alters files left old new o
-        (IsArranged (versions_in o) o head body (ordered_in keeps o body)) (ComesOfArranged (versions_in o) o body) result
-
     pub finishes-in : (made : LineOptions) (head body : List ℕ) → made ≡ options_in options whole
-        → head ≡ head_of options whole → body ≡ body_of options whole → Writes made head body
+        → head ≡ head_of options whole → body ≡ body_of options whole
+        → Finishes puts refuses alters files left old new made
+        (IsArranged (versions_in made) made head body (ordered_in keeps made body)) (ComesOfArranged (versions_in made) made body)
+        result
         → Finishes puts refuses alters files left old new options (IsArrangedIn options keeps whole)
         (ComesOfInput options whole) result
     finishes-in made head body made_is head_is body_is writes =
+        let Writes : LineOptions → List ℕ → List ℕ → Type 0 = λ o h b. Finishes puts refuses alters files left old new o
+        (IsArranged (versions_in o) o h b (ordered_in keeps o b)) (ComesOfArranged (versions_in o) o b) result in
         let by = options_in options whole in
         let numbered = subst (λ (o : LineOptions). Writes o head body) made_is writes in
         let behind = subst (λ (h : List ℕ). Writes by h body) head_is numbered in

@@ -1,7 +1,7 @@
 -- The lines that are written, in their order.
 use Rattle.std.proofs.Common.{◌≡◌, ◌∙◌, ◌++◌, ◌∷◌, List, [], ℕ, Bool, true, false, Option, None, Some, Result, flat_map, map, refl, subst, sym, ap, Bor, arith}
 use Rattle.version_commands.specs.Files.{Leaves, counts_before_last, is_open, joined, names_read, AreInputs, Reading}
-use Rattle.version_commands.specs.lines.Arranged.{policy}
+use Rattle.version_commands.specs.lines.Arranged.{arranged, policy}
 use Rattle.version_commands.specs.lines.LineRun.{Arranges, Finishes}
 use Rattle.version_commands.proofs.lemmas.Faults.{ends-weaker}
 use Rattle.version_commands.specs.declared.lines.pick.BadLines.{BadLines}
@@ -13,13 +13,16 @@ use Rattle.version_commands.proofs.lemmas.Files.{texts-apart}
 use Rattle.std.specs.List.{list_any}
 use Rattle.version_commands.specs.lines.Ordered.{arranged_in, kept_in, kept_line, IsArranged, IsArrangedIn, IsOrdered, IsPlaced}
 use Rattle.version_commands.specs.lines.Picked.{Versions, bad_lines, has, kept_lines}
-use Rattle.version_commands.specs.lines.Place.{reads_of}
+use Rattle.version_commands.specs.lines.Place.{group_text, reads_of}
 use Rattle.version_commands.specs.declared.faults.bad.Blamed.{Blamed}
 use Rattle.version_commands.specs.declared.faults.TaskFault.{TaskFault}
 use Rattle.version_commands.specs.declared.faults.TaskFault.TheVariants.{NotVersion, NotRequirement, NotSet, NotTested, NotTestedSet, BadLine, NoNext, NoColumn, Unclosed, Memory, Read, Write}
+use Rattle.version_commands.specs.declared.options.Arrangement.{Arrangement}
+use Rattle.version_commands.specs.declared.options.Arrangement.TheVariants.{Filter}
 use Rattle.version_commands.specs.declared.options.Invalid.TheVariants.{Fail, Skip}
 use Rattle.version_commands.specs.declared.options.LineOptions.{LineOptions}
 use Rattle.version_lines.specs.Lines.{lines_of, lines_output, output_by, whole_line}
+use Rattle.version_lines.specs.Sort.{Reads, version_in}
 use Rattle.version_lines.proofs.lemmas.Sorting.{by_test}
 use Rattle.version_schemes.specs.any.Order.{PlainAny}
 use Rattle.version_schemes.specs.declared.scheme.Scheme.TheVariants.{Mixed}
@@ -89,6 +92,13 @@ module _ (options : LineOptions) (keeps : PlainAny → Bool) (input : List ℕ)
   pub lines-alike : arranged_in (record { scheme = Mixed; text_of = λ line. line }) (λ v. true) options input
       ≡ arranged_in (reads_of options.place) keeps options input
   lines-alike = sym (λ i. arranged_in (whole i) (λ v. all v i) options input)
+
+-- a filter leaves the lines that are kept in their order
+pub filter-arranged : (reads : Reads) (keeps : PlainAny → Bool) (options : LineOptions) (input : List ℕ)
+    (set : Option (Bor (List ℕ))) (inverted : Bool) → options.arrangement ≡ Filter set inverted
+    → kept_in (version_in reads) keeps options input ≡ arranged_in reads keeps options input
+filter-arranged reads keeps options input set inverted is =
+    ap (λ (a : Arrangement). arranged reads (group_text options.place.crlf) a (kept_in (version_in reads) keeps options input)) (sym is)
 
 -- the end of a run whose inputs were read in turn, by how it ends with these
 module _ (options : LineOptions) (names : List (List ℕ)) (files : Reading) (Refuses : List ℕ → Type 0) (fails : Bool)

@@ -1,5 +1,7 @@
-use Rattle.std.proofs.Common.{◌≡◌, ◌||◌, ℕ, Bool, true, false, List, Option, Result, Err, map, refl, rules, subst, sym}
+use Rattle.std.proofs.Common.{◌≡◌, ◌||◌, ℕ, Bool, Bor, true, false, List, Option, Result, Err, Ok, ap, map, refl, rules, subst, sym}
 use Rattle.version_commands.specs.faults.Ends.{Ends}
+use Rattle.version_commands.specs.Hints.{IsOfRun}
+use Rattle.version_commands.specs.lines.FirstWord.{HoldsByWords}
 use Rattle.version_commands.specs.declared.faults.TaskFault.{TaskFault}
 use Rattle.version_commands.proofs.lemmas.Hints.{of-run}
 use Rattle.version_commands.proofs.program.serve.Goals as goal
@@ -26,7 +28,8 @@ returns-in_err-served-in-Lines-clause-ends g c =
 
 pub returns-in_ok-served-in-Lines-clause-ends : goal.returns-in_ok-served-in-Lines-clause-ends
 returns-in_ok-served-in-Lines-clause-ends g c =
-    rw c.in-Lines.is (rw c.as_slice.ensures.value at c.in_ok-served-in-Lines.ensures.served.ends)
+    let served : c.serve_by_words-served.result ≡ Ok tt = search rules in
+    rw c.in-Lines.is (subst (Ends _ _ _ _) served (rw c.as_slice.ensures.value at c.serve_by_words-served.ensures.served.ends))
 
 pub returns-in_ok-served-in-Lines-clause-unread : goal.returns-in_ok-served-in-Lines-clause-unread
 returns-in_ok-served-in-Lines-clause-unread g c =
@@ -46,5 +49,8 @@ pub serve_by_words-served-requires : goal.serve_by_words-served-requires
 serve_by_words-served-requires g c = record {
   hints = λ hint so. c.requires.hints hint (rw c.in-Lines.is (of-run c.in-Lines.options
       (map (λ name. name.now) c.in-Lines.names.items) (g.F.Files.reads c.args.files.now) (g.F.Files.finds c.args.files.now) (g.F.Files.refuses c.args.files.now)
-      (g.R.Source.may_fail c.args.reader.now) (g.R.Source.remaining c.args.reader.now) hint so));
+      (g.R.Source.may_fail c.args.reader.now) (g.R.Source.remaining c.args.reader.now) hint
+      (subst (λ (names : List (List ℕ)). HoldsByWords (g.F.Files.finds c.args.files.now) (λ with given. IsOfRun with given
+      (g.F.Files.reads c.args.files.now) (g.R.Source.remaining c.args.reader.now) hint) c.in-Lines.options names)
+      (ap (map (λ (name : Bor (List ℕ)). name.now)) c.as_slice.ensures.value) so)));
 }

@@ -40,8 +40,8 @@ returns g c = λ whole head_is body_is.
           (λ (none : (head ≡ []) × (body ≡ [])). missing-not options whole head body head_is body_is none.0 none.1)
           (c.is_empty.ensures.none (search rules))
     ] in
-    let made_is = c.options_by-options.ensures ∙ ap (λ (l : List ℕ). options_by l options) is in
-    finishes-in options (is_kept c.args.chooser.now) whole has c.options_by-options.result head body made_is head_is body_is
+    let made_is = c.options_by.ensures ∙ ap (λ (l : List ℕ). options_by l options) is in
+    finishes-in options (is_kept c.args.chooser.now) whole has c.options_by.result head body made_is head_is body_is
     c.write.ensures
 
 pub write-requires : goal.write-requires
@@ -52,6 +52,6 @@ write-requires g c =
     let is = header-is options whole c.args.input.head.now c.args.input.body.now head_is body_is header
     c.names_line-header.ensures in
     record {
-      hints = λ hint so. told hint (hints-in options c.options_by-options.result (is_kept c.args.chooser.now) whole
-          c.args.input.body.now (c.options_by-options.ensures ∙ ap (λ (l : List ℕ). options_by l options) is) body_is hint so);
+      hints = λ hint so. told hint (hints-in options c.options_by.result (is_kept c.args.chooser.now) whole
+          c.args.input.body.now (c.options_by.ensures ∙ ap (λ (l : List ℕ). options_by l options) is) body_is hint so);
     }

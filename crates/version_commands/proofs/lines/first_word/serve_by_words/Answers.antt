@@ -1,9 +1,11 @@
 use Rattle.std.proofs.Common.{◌≡◌, ◌∷◌, ℕ, false, Bor, List, [], map, ap, inl, inr, refl, IfNone, IfSome, subst, ◌∙◌, sym}
 use Rattle.std.specs.List.{list_any}
 use Rattle.std.specs.Option.{option_map_or}
-use Rattle.version_commands.specs.Files.{AltersAtMost, is_standard, names_read, reads_standard}
+use Rattle.version_commands.specs.faults.Cause.{ComesOfArranging}
+use Rattle.version_commands.specs.Files.{AltersAtMost, Leaves, is_standard, names_read, reads_standard}
+use Rattle.version_commands.specs.Hints.{IsOfRun}
 use Rattle.version_commands.specs.lines.FirstWord.{without_set, Finding, HoldsByWords, IsFirstFile, StaysWord}
-use Rattle.version_commands.specs.lines.Ordered.{bad_file}
+use Rattle.version_commands.specs.lines.Ordered.{bad_file, IsOrdered}
 use Rattle.version_commands.specs.declared.options.LineOptions.{LineOptions}
 use Rattle.version_commands.proofs.lemmas.Faults.{ends-weaker}
 use Rattle.version_commands.proofs.lemmas.Hints.{comes-of-first}
@@ -31,11 +33,19 @@ returns-in_ok-names-in-Some-clause-served g c =
     let made_is = c.without_set-options.ensures in
     let given_is = ap (map (λ (name : Bor (List ℕ)). name.now)) c.as_slice.ensures.value ∙ c.in_ok-names-in-Some.ensures in
     let served = c.serve_lines.ensures.served in
+    let reads = g.F.Files.reads c.args.files.now in
+    let Refuses = g.F.Files.refuses c.args.files.now in
+    let fails = g.R.Source.may_fail c.args.reader.now in
+    let old = g.R.Source.remaining c.args.reader.now in
+    let new = g.R.Source.remaining c.serve_lines.new.reader in
+    let leaves = Leaves g.F.Files.puts c.args.files.now c.serve_lines.new.files in
     record {
       ends = ends-weaker _ _ _ _ _ _ c.serve_lines.result
-          (λ output ordered. as-file finds _ options made names given c.in-Some.name first made_is given_is ordered)
-          (λ fault comes. comes-of-first finds options names _ _ _ _ fault
-          (as-file finds _ options made names given c.in-Some.name first made_is given_is comes))
+          (λ output ordered. as-file finds (λ with files. IsOrdered with files reads old new leaves output) options made names given
+          c.in-Some.name first made_is given_is ordered)
+          (λ fault comes. comes-of-first finds options names reads fails old Refuses fault
+          (as-file finds (λ with files. ComesOfArranging with files reads fails old Refuses fault) options made names given
+          c.in-Some.name first made_is given_is comes))
           served.ends;
       files_are = subst (λ (o : LineOptions). AltersAtMost g.F.Files.alters (bad_file o) c.args.files.now c.serve_lines.new.files)
           made_is served.files_are;
@@ -63,7 +73,8 @@ serve_lines-requires g c =
     let first = subst (λ found. IfSome found (IsFirstFile finds options)) c.in-Some.is c.in_ok-name.ensures.file in
     let given_is = ap (map (λ (name : Bor (List ℕ)). name.now)) c.as_slice.ensures.value ∙ c.in_ok-names-in-Some.ensures in
     record {
-      hints = λ hint so. c.requires.hints hint (as-file finds _ options c.without_set-options.result
+      hints = λ hint so. c.requires.hints hint (as-file finds (λ with files. IsOfRun with files (g.F.Files.reads c.args.files.now)
+          (g.R.Source.remaining c.args.reader.now) hint) options c.without_set-options.result
           (map (λ name. name.now) c.args.names.now) (map (λ name. name.now) c.as_slice.result.now) c.in-Some.name first
           c.without_set-options.ensures given_is so);
     }
