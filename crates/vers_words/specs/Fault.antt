@@ -1,13 +1,13 @@
 -- What `vers` prints of a fault, and the status that it ends with.
 use Rattle.std.specs.Prelude.{ℕ, List, ◌++◌, codes, decimal}
 use Rattle.version_commands.specs.faults.Fault as task
-use Rattle.version_commands.specs.declared.faults.Fault as commands
-use Rattle.version_commands.specs.declared.faults.Fault.TheVariants.{NotVersion, NotRequirement, BadLine, Read}
+use Rattle.version_commands.specs.declared.faults.TaskFault as commands
+use Rattle.version_commands.specs.declared.faults.TaskFault.TheVariants.{NotVersion, NotRequirement, BadLine, Read}
 use Rattle.vers_words.specs.declared.faults.Fault.{Fault}
 use Rattle.vers_words.specs.declared.faults.Fault.TheVariants.{Usage, Task}
 
 -- the text of the fault of a task: words stand there whole, and nothing more of a line than its number
-abbrev pub task_fault_text : commands.Fault → List ℕ
+abbrev pub task_fault_text : commands.TaskFault → List ℕ
 task_fault_text (NotVersion word remark) = codes "not a version: " ++ word.now
 task_fault_text (NotRequirement word) = codes "not a requirement: " ++ word.now
 task_fault_text (BadLine bad) =

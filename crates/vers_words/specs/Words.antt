@@ -3,7 +3,7 @@ use Rattle.std.specs.Prelude.{◌≡◌, ◌||◌, ⊤, ℕ, Bool, true, false, 
 use Rattle.std.specs.Str.{bytes_eq}
 use Rattle.vers_words.specs.declared.faults.Fault.{Fault}
 use Rattle.vers_words.specs.declared.faults.Fault.TheVariants.{Usage, Task}
-use Rattle.version_commands.specs.declared.faults.Fault.TheVariants.{Memory}
+use Rattle.version_commands.specs.declared.faults.TaskFault.TheVariants.{Memory}
 use Rattle.version_commands.specs.declared.files.NoFiles.{NoFiles}
 use Rattle.version_commands.specs.declared.options.Arrangement.TheVariants.{Sort}
 use Rattle.version_commands.specs.declared.options.EachOptions.{EachOptions}
@@ -27,13 +27,14 @@ are_command (name ∷ word ∷ []) = bytes_eq name (codes "key") || bytes_eq nam
 are_command (name ∷ first ∷ second ∷ []) = bytes_eq name (codes "cmp")
 are_command (name ∷ first ∷ second ∷ third ∷ others) = false
 
--- Lines are those of standard input, each of which has to be a version.
+-- Lines are sorted, each of which has to be a version.
 pub record ArePlain (options : LineOptions) : Type 0 where
+  pub arrangement_is : options.arrangement ≡ Sort false false
   pub end_is : options.end ≡ plain_end line_feed
   pub crlf_is : options.place.crlf ≡ false
   pub column_is : options.place.column ≡ None
-  pub naming_is : options.place.naming ≡ Bare
-  pub scheme_is : options.place.scheme ≡ Mixed
+  pub naming_is : options.place.spelling.naming ≡ Bare
+  pub scheme_is : options.place.spelling.scheme ≡ Mixed
   pub header_is : options.header ≡ 0
   pub scheme_column_is : options.scheme_column ≡ None
   pub version_name_is : options.names.version ≡ None
@@ -44,7 +45,6 @@ pub record ArePlain (options : LineOptions) : Type 0 where
   pub invalid_is : options.invalid ≡ Fail
   pub invalid_to_is : options.invalid_to ≡ None
   pub progress_is : options.progress ≡ false
-  pub files_are : options.files.items ≡ []
 
 -- one version is asked
 pub record AsksOne (version : List ℕ) (options : EachOptions) : Type 0 where
@@ -62,8 +62,7 @@ abbrev pub Means : List (List ℕ) → options.Task → Type 0
 Means [] (Label Strict) = ⊤
 Means (name ∷ []) (Label Strict) = IsName (codes "ideal") name
 Means (name ∷ []) (Label Every) = IsName (codes "show") name
-Means (name ∷ []) (Lines (Sort reverse unique) options) =
-    IsName (codes "sort") name × (reverse ≡ false) × (unique ≡ false) × ArePlain options
+Means (name ∷ []) (Lines options files) = IsName (codes "sort") name × ArePlain options × (files.items ≡ [])
 Means (name ∷ word ∷ []) (Each (Key scheme) options) =
     IsName (codes "key") name × (scheme ≡ Mixed) × AsksOne word options
 Means (name ∷ word ∷ []) (Match list) = IsName (codes "match") name × (list.now ≡ word)

@@ -41,13 +41,7 @@ fn task_of_name<'w>(alloc: Global, name: &str) -> Option<Task<'w>>
     match name {
         "ideal" => Some(Task::Label(Labels::Strict)),
         "show" => Some(Task::Label(Labels::Every)),
-        "sort" => {
-            let arrangement = Arrangement::Sort {
-                reverse: false,
-                unique: false,
-            };
-            Some(Task::Lines(arrangement, options(alloc)))
-        }
+        "sort" => Some(Task::Lines(sort_options(), Vec::new(alloc))),
         _ => None,
     }
 }
@@ -67,11 +61,15 @@ fn key_task<'w>(alloc: Global, version: &'w str) -> Result<Task<'w>, AllocError>
     Ok(Task::Each(Question::Key(Scheme::Mixed), options))
 }
 
-// Returns the options of a command over lines, each of which has to be a version.
-fn options<'w>(alloc: Global) -> LineOptions<'w>
+// Returns the options of a command that sorts lines, each of which has to be a version.
+fn sort_options<'w>() -> LineOptions<'w>
     ensures { ArePlain result }
 {
     LineOptions {
+        arrangement: Arrangement::Sort {
+            reverse: false,
+            unique: false,
+        },
         end: LineEnd {
             byte: b'\n',
             csv: None,
@@ -80,8 +78,10 @@ fn options<'w>(alloc: Global) -> LineOptions<'w>
         place: VersionPlace {
             crlf: false,
             column: None,
-            naming: Naming::Bare,
-            scheme: Scheme::Mixed,
+            spelling: Spelling {
+                naming: Naming::Bare,
+                scheme: Scheme::Mixed,
+            },
         },
         scheme_column: None,
         names: ColumnNames {
@@ -100,6 +100,5 @@ fn options<'w>(alloc: Global) -> LineOptions<'w>
         invalid: Invalid::Fail,
         invalid_to: None,
         progress: false,
-        files: Vec::new(alloc),
     }
 }

@@ -1,7 +1,6 @@
-pub mod Changes
+pub mod Each
+pub mod Faults
+pub mod Files
+pub mod Hints
 pub mod Lists
-pub mod faults
-pub mod files
-pub mod hints
 pub mod lines
-pub mod words

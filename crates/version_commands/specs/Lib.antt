@@ -1,8 +1,8 @@
+pub mod Files
+pub mod Hints
 pub mod Lists
 pub mod Output
 pub mod Run
 pub mod faults
-pub mod files
-pub mod hints
 pub mod lines
 pub mod words

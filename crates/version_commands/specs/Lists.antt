@@ -8,13 +8,13 @@ use Rattle.std.specs.Ordering.{nat_cmp}
 use Rattle.std.specs.Str.{bytes_eq}
 use Rattle.std.specs.declared.cmp.Ordering.{Ordering}
 use Rattle.std.specs.declared.cmp.Ordering.TheVariants.{Less, Equal, Greater}
-use Rattle.version_commands.specs.files.Inputs.{lines_within}
+use Rattle.version_commands.specs.Files.{lines_within}
 use Rattle.version_commands.specs.lines.Picked.{bad_lines}
 use Rattle.version_commands.specs.lines.Place.{column_text, line_text, reads_of}
 use Rattle.version_commands.specs.declared.lists.Named.{Named}
 use Rattle.version_commands.specs.declared.lists.Names.{Names}
-use Rattle.version_commands.specs.declared.lists.Side.{Side}
-use Rattle.version_commands.specs.declared.lists.Side.TheVariants.{Old, New}
+use Rattle.version_commands.specs.declared.lists.WhichList.{WhichList}
+use Rattle.version_commands.specs.declared.lists.WhichList.TheVariants.{Old, New}
 use Rattle.version_commands.specs.declared.options.Lists.{Lists}
 use Rattle.version_lines.specs.Lines.{lines_of, whole_line}
 use Rattle.version_lines.specs.Sort.{version_in}
@@ -80,7 +80,7 @@ change_line end row v Greater =
 change_line end row v Equal = []
 
 -- the line for a name of one of the lists, by its version in the other
-abbrev pub name_line : Side → ℕ → Row → Option PlainAny → List ℕ
+abbrev pub name_line : WhichList → ℕ → Row → Option PlainAny → List ℕ
 name_line Old end row None = whole_line end (row_text (codes "removed ") row)
 name_line Old end row (Some v) = change_line end row v (any_precedence row.1 v)
 name_line New end row None = whole_line end (row_text (codes "added ") row)

@@ -6,7 +6,7 @@ use Rattle.version_answers.specs.two.Difference.{difference_line}
 use Rattle.version_commands.specs.words.Each.{are_versions, IsAnswered, IsAsked}
 use Rattle.version_answers.specs.two.Explain.{explained_line}
 use Rattle.version_commands.specs.lines.FirstWord.{may_be_standard, Finding, HoldsByWords}
-use Rattle.version_commands.specs.files.Inputs.{ended, is_open, names_read, reads_standard, AreInputs, Reading}
+use Rattle.version_commands.specs.Files.{ended, is_open, names_read, reads_standard, AreInputs, Reading}
 use Rattle.version_commands.specs.lines.Label.{AreLabelled}
 use Rattle.version_commands.specs.Lists.{bad_lines_of, difference_text, names_of, rows_of}
 use Rattle.version_commands.specs.lines.Ordered.{bad_file, IsOrdered}
@@ -61,8 +61,8 @@ Answers other answer = answer ≡ true
 -- after, and what it leaves of its files.
 abbrev pub IsOutput : Task → Reading → Finding → Option (List ℕ) → Option (List ℕ)
     → (Option (List ℕ × List ℕ) → Type 0) → List ℕ → Type 0
-IsOutput (task.Lines arrangement options) reads finds old new leaves output =
-    HoldsByWords finds (λ asked with. IsOrdered asked with reads old new leaves output) arrangement options
+IsOutput (task.Lines options names) reads finds old new leaves output = HoldsByWords finds
+    (λ with given. IsOrdered with given reads old new leaves output) options (map (λ name. name.now) names.items)
 IsOutput (task.Each question options) reads finds old new leaves output =
     IsAnswered question options old new output
 IsOutput (task.TestTwo spelling a operator b) reads finds old new leaves output = output ≡ []
@@ -84,9 +84,8 @@ IsOutput (task.Say text) reads finds old new leaves output = output ≡ string_b
 
 -- whether a task reads standard input: no other task changes the reader
 abbrev pub asks_reader : Task → Bool
-asks_reader (task.Lines arrangement options) =
-    reads_standard (names_read (map (λ name. name.now) options.files.items))
-    || may_be_standard arrangement options.choice
+asks_reader (task.Lines options names) = reads_standard (names_read (map (λ name. name.now) names.items))
+    || may_be_standard options.arrangement options.choice
 asks_reader (task.Each question options) = length options.versions.items == 0
 asks_reader (task.Lists lists) = reads_standard (names_of lists)
 asks_reader (task.Label labels) = true
@@ -95,5 +94,5 @@ asks_reader other = false
 
 -- the file that a task writes: no other task changes the files
 abbrev pub file_of : Task → Option (List ℕ)
-file_of (task.Lines arrangement options) = bad_file options
+file_of (task.Lines options names) = bad_file options
 file_of other = None

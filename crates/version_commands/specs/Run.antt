@@ -2,17 +2,15 @@
 use Rattle.std.specs.Prelude.{◌≡◌, ◌⊎◌, ℕ, Bool, false, List, Option, Result, Ok, Err, IfOk, IsErrAnd, MatchResult}
 use Rattle.std.specs.Io.KnownBytes.{Keeps}
 use Rattle.version_commands.specs.faults.Cause.{ComesOf}
-use Rattle.version_commands.specs.faults.Early.{IfOfWord, UnlessLate}
-use Rattle.version_commands.specs.faults.Ends.{Ends}
-use Rattle.version_commands.specs.files.Files.{AltersAtMost, Leaves}
+use Rattle.version_commands.specs.faults.Ends.{IfOfWord, UnlessLate, Ends}
+use Rattle.version_commands.specs.Files.{AltersAtMost, Leaves, Reading}
 use Rattle.version_commands.specs.lines.FirstWord.{Finding}
-use Rattle.version_commands.specs.files.Inputs.{Reading}
 use Rattle.version_commands.specs.Output.{asks_reader, file_of, Answers, IsOutput}
-use Rattle.version_commands.specs.declared.faults.Fault.{Fault}
+use Rattle.version_commands.specs.declared.faults.TaskFault.{TaskFault}
 use Rattle.version_commands.specs.declared.options.Task.{Task}
 
 -- a run ends as its task did, and has its fault
-abbrev pub EndsAs : {T E : Type 0} → (Fault → E) → Result T Fault → Result T E → Type 0
+abbrev pub EndsAs : {T E : Type 0} → (TaskFault → E) → Result T TaskFault → Result T E → Type 0
 EndsAs of_task served result =
     MatchResult served (λ value. result ≡ Ok value) (λ fault. result ≡ Err (of_task fault))
 
@@ -23,7 +21,7 @@ module _ {F R : Type 0} (reads : F → Reading) (finds : F → Finding) (puts : 
   where
     -- A task was done: it answered, wrote what the task asks for, and left the reader and the files as they
     -- were where the task doesn't ask for these, or a fault came before.
-    pub record Does (task : Task) (result : Result Bool Fault) : Type 0 where
+    pub record Does (task : Task) (result : Result Bool TaskFault) : Type 0 where
       pub ends : Ends (IsOutput task (reads files) (finds files) (remaining reader) (remaining after)
           (Leaves puts files left)) (ComesOf task (reads files) (finds files) (refuses files) (may_fail reader)
           (remaining reader)) old new result
@@ -41,8 +39,8 @@ module _ {F R : Type 0} (reads : F → Reading) (finds : F → Finding) (puts : 
 
     -- The words mean a task, which was done, and its fault is that of the run; or they mean none, this
     -- fault says why, and nothing was done.
-    abbrev pub RunsBy : {E : Type 0} → (Task → Type 0) → (E → Type 0) → (Fault → E) → Result Bool E → Type 0
+    abbrev pub RunsBy : {E : Type 0} → (Task → Type 0) → (E → Type 0) → (TaskFault → E) → Result Bool E → Type 0
     RunsBy Means IsWrong of_task result =
         (IsErrAnd result IsWrong × DoesNothing)
-        ⊎ ((task : Task) × (served : Result Bool Fault) × Means task × Does task served
+        ⊎ ((task : Task) × (served : Result Bool TaskFault) × Means task × Does task served
         × EndsAs of_task served result)

@@ -4,6 +4,7 @@ pub mod Choice
 pub mod FirstWord
 pub mod Header
 pub mod Label
+pub mod LineRun
 pub mod Matched
 pub mod Ordered
 pub mod Picked

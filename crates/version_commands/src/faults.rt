@@ -15,7 +15,7 @@ use version_lines::NotWritten;
 /// Why a task failed. It prints as what the program `versions` writes to standard error, after its name. Of a word, a line or the name of a file a message shows what is UTF-8 in front of the first
 /// sixty bytes, with control characters escaped.
 #[derive(Debug, PartialEq, Eq, Drop)]
-pub enum Fault<'w> {
+pub enum TaskFault<'w> {
     /// The first word that should be a version but is not.
     NotVersion(&'w str, Option<Remark>),
     /// The word that should be a list of requirements but is not.
@@ -43,7 +43,7 @@ pub enum Fault<'w> {
     Write(Option<&'w str>),
 }
 
-impl Fault<'_> {
+impl TaskFault<'_> {
     ghost use Rattle.std.specs.Prelude.{◌≡◌};
     ghost use Rattle.version_commands.specs.faults.Fault.{status_of};
 
@@ -53,20 +53,20 @@ impl Fault<'_> {
         ensures { result ≡ status_of self.now }
     {
         match self {
-            Fault::NotVersion(..)
-            | Fault::NotRequirement(_)
-            | Fault::NotSet(_)
-            | Fault::BadLine(_)
-            | Fault::NoNext(_)
-            | Fault::NoColumn(_)
-            | Fault::Unclosed(..) => 1,
-            Fault::NotTested(..) | Fault::NotTestedSet(_) => 2,
-            Fault::Memory | Fault::Read(_) | Fault::Write(_) => 3,
+            TaskFault::NotVersion(..)
+            | TaskFault::NotRequirement(_)
+            | TaskFault::NotSet(_)
+            | TaskFault::BadLine(_)
+            | TaskFault::NoNext(_)
+            | TaskFault::NoColumn(_)
+            | TaskFault::Unclosed(..) => 1,
+            TaskFault::NotTested(..) | TaskFault::NotTestedSet(_) => 2,
+            TaskFault::Memory | TaskFault::Read(_) | TaskFault::Write(_) => 3,
         }
     }
 }
 
-impl fmt::Display for Fault<'_> {
+impl fmt::Display for TaskFault<'_> {
     ghost use Rattle.std.specs.Prelude.{Some};
     ghost use Rattle.version_commands.specs.faults.Fault.{fault_text};
 
@@ -74,7 +74,7 @@ impl fmt::Display for Fault<'_> {
 
     fn fmt<W: fmt::Write>(&self, f: &mut fmt::Formatter<W>) -> fmt::Result {
         match self {
-            Fault::NotVersion(word, remark) | Fault::NotTested(word, remark) => {
+            TaskFault::NotVersion(word, remark) | TaskFault::NotTested(word, remark) => {
                 let text = NoVersion {
                     text: word,
                     remark: *remark,
@@ -82,21 +82,21 @@ impl fmt::Display for Fault<'_> {
                 };
                 write!(f, "not a version: {text}")
             }
-            Fault::NotRequirement(word) => write_word(f, "not a requirement: ", word),
-            Fault::NotSet(wrong) | Fault::NotTestedSet(wrong) => write!(f, "{wrong}"),
-            Fault::BadLine(bad) => write!(f, "{bad}"),
-            Fault::NoNext(text) => write!(f, "no version comes next at that place: {text}"),
-            Fault::NoColumn(name) => write_word(f, "no column is named ", name),
-            Fault::Unclosed(name, number) => {
+            TaskFault::NotRequirement(word) => write_word(f, "not a requirement: ", word),
+            TaskFault::NotSet(wrong) | TaskFault::NotTestedSet(wrong) => write!(f, "{wrong}"),
+            TaskFault::BadLine(bad) => write!(f, "{bad}"),
+            TaskFault::NoNext(text) => write!(f, "no version comes next at that place: {text}"),
+            TaskFault::NoColumn(name) => write_word(f, "no column is named ", name),
+            TaskFault::Unclosed(name, number) => {
                 let shown = Shown {
                     text: name.as_bytes(),
                 };
                 write!(f, "line {number} of {shown}: its quotes never close")
             }
-            Fault::Memory => write!(f, "no memory"),
-            Fault::Read(name) => write_word(f, "cannot be read: ", name),
-            Fault::Write(Some(name)) => write_word(f, "cannot be written: ", name),
-            Fault::Write(None) => write!(f, "write failed"),
+            TaskFault::Memory => write!(f, "no memory"),
+            TaskFault::Read(name) => write_word(f, "cannot be read: ", name),
+            TaskFault::Write(Some(name)) => write_word(f, "cannot be written: ", name),
+            TaskFault::Write(None) => write!(f, "write failed"),
         }
     }
 }
@@ -115,26 +115,26 @@ fn write_word<W: fmt::Write>(
     write!(f, "{wrong}{shown}")
 }
 
-impl Error for Fault<'_> {}
+impl Error for TaskFault<'_> {}
 
-impl From<AllocError> for Fault<'_> {
+impl From<AllocError> for TaskFault<'_> {
     ghost use Rattle.std.specs.Prelude.{◌≡◌};
-    ghost use Rattle.version_commands.specs.declared.faults.Fault.TheVariants.{Memory};
+    ghost use Rattle.version_commands.specs.declared.faults.TaskFault.TheVariants.{Memory};
 
     ghost from_gives = { λ _ fault. fault ≡ Memory };
 
     fn from(_refused: AllocError) -> Self {
-        Fault::Memory
+        TaskFault::Memory
     }
 }
 
-impl From<NotWritten> for Fault<'_> {
+impl From<NotWritten> for TaskFault<'_> {
     ghost use Rattle.std.specs.Prelude.{◌≡◌, None};
-    ghost use Rattle.version_commands.specs.declared.faults.Fault.TheVariants.{Write};
+    ghost use Rattle.version_commands.specs.declared.faults.TaskFault.TheVariants.{Write};
 
     ghost from_gives = { λ _ fault. fault ≡ Write None };
 
     fn from(_refused: NotWritten) -> Self {
-        Fault::Write(None)
+        TaskFault::Write(None)
     }
 }

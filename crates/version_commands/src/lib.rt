@@ -12,7 +12,7 @@ mod options;
 mod program;
 mod words;
 
-pub use faults::Fault;
+pub use faults::TaskFault;
 pub use faults::bad::Blamed;
 pub use files::{Files, Hint, NoFiles, Stage};
 pub use options::{

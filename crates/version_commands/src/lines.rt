@@ -11,4 +11,5 @@ pub(crate) mod matched;
 pub(crate) mod pick;
 pub(crate) mod place;
 pub(crate) mod rows;
+pub(crate) mod run;
 pub(crate) mod write;

@@ -1,7 +1,7 @@
 //! What differs between two lists of names with versions.
 ghost use Rattle.std.specs.Prelude.{◌≡◌, ◌∷◌, ◌++◌, [], length, List, IfOk, OnOk};
 ghost use Rattle.std.specs.Option.{option_map};
-ghost use Rattle.version_commands.specs.hints.TaskHint.{repeated};
+ghost use Rattle.version_commands.specs.Hints.{repeated};
 ghost use Rattle.version_commands.specs.Lists.{difference_text, first_rows, lines_against, name_line, plain_row, row_text, rows_of, version_of, AreNames, Row};
 ghost use Rattle.version_commands.specs.lines.Picked.{AreBadOf};
 ghost use Rattle.version_commands.specs.lines.Place.{reads_of};
@@ -27,7 +27,7 @@ pub struct Named<'a> {
 
 // Which of the two lists a name stands in.
 #[derive(Clone, Copy)]
-enum Side {
+enum WhichList {
     Old,
     New,
 }
@@ -153,13 +153,13 @@ pub fn add_lists(
     ensures { (before after : List Row) → AreNames before old.now → AreNames after new.now
         → OnOk result (output.new.items ≡ output.old.items ++ difference_text end before after) }
 {
-    add_names(Side::Old, old, new, end, output)?;
-    add_names(Side::New, new, old, end, output)
+    add_names(WhichList::Old, old, new, end, output)?;
+    add_names(WhichList::New, new, old, end, output)
 }
 
 // Adds the lines for the names of a list, by the other list.
 fn add_names(
-    side: Side,
+    side: WhichList,
     names: &Names<'_>,
     others: &Names<'_>,
     end: u8,
@@ -177,7 +177,7 @@ fn add_names(
 
 // Adds the line for a name of a list, by its version in the other list.
 fn add_name(
-    side: Side,
+    side: WhichList,
     row: &Named<'_>,
     other: Option<&AnyVersion<'_>>,
     end: u8,
@@ -187,14 +187,14 @@ fn add_name(
         (option_map (λ version. plain_any version.now) other.entry)) }
 {
     match (side, other) {
-        (Side::Old, None) => add_whole_row(b"removed ", row, end, output),
-        (Side::Old, Some(new)) => match row.version.precedence(new) {
+        (WhichList::Old, None) => add_whole_row(b"removed ", row, end, output),
+        (WhichList::Old, Some(new)) => match row.version.precedence(new) {
             Ordering::Less => add_change(b"raised ", row, new, end, output),
             Ordering::Greater => add_change(b"lowered ", row, new, end, output),
             Ordering::Equal => Ok(()),
         },
-        (Side::New, None) => add_whole_row(b"added ", row, end, output),
-        (Side::New, Some(_)) => Ok(()),
+        (WhichList::New, None) => add_whole_row(b"added ", row, end, output),
+        (WhichList::New, Some(_)) => Ok(()),
     }
 }
 

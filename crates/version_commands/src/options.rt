@@ -12,8 +12,8 @@ pub struct VersionPlace<'w> {
     pub crlf: bool,
     /// The column, or None for the whole line.
     pub column: Option<Column<'w>>,
-    pub naming: Naming<'w>,
-    pub scheme: Scheme,
+    /// How the text there spells it.
+    pub spelling: Spelling<'w>,
 }
 
 /// Which lines that have a version are left out before all else.
@@ -72,9 +72,10 @@ pub struct ColumnNames<'w> {
     pub scheme: Option<&'w str>,
 }
 
-/// What `sort`, `newest` and `filter` are asked beside their arrangement.
-#[derive(Debug, Drop)]
+/// What `sort`, `newest` and `filter` are asked.
+#[derive(Clone, Copy, Debug)]
 pub struct LineOptions<'w> {
+    pub arrangement: Arrangement<'w>,
     pub end: LineEnd,
     /// How many lines at the beginning of the input stay on top, as they came.
     pub header: usize,
@@ -87,8 +88,6 @@ pub struct LineOptions<'w> {
     /// The file that lines without a version are written to, in place of the output.
     pub invalid_to: Option<&'w str>,
     pub progress: bool,
-    /// The files that are read in turn; `-` is standard input. Without any, standard input is read.
-    pub files: Vec<&'w str>,
 }
 
 /// What is asked of each of several versions: by a scheme, where one is named, else by mixed.
@@ -144,8 +143,9 @@ pub enum Labels {
 /// What a run is asked to do.
 #[derive(Debug, Drop)]
 pub enum Task<'w> {
-    /// `sort`, `newest` and `filter`.
-    Lines(Arrangement<'w>, LineOptions<'w>),
+    /// `sort`, `newest` and `filter` of the files that are read in turn; `-` is standard input. Without any, standard input
+    /// is read.
+    Lines(LineOptions<'w>, Vec<&'w str>),
     /// `show`, `key`, `why` and `next`.
     Each(Question<'w>, EachOptions<'w>),
     /// `test A OP B`.

@@ -4,19 +4,17 @@ ghost use Rattle.version_commands.specs.faults.Cause.{ComesOf, ComesOfChanges};
 ghost use Rattle.version_answers.specs.two.Compare.{comparison_line, sign_text};
 ghost use Rattle.version_answers.specs.two.Explain.{explained_line};
 ghost use Rattle.version_answers.specs.two.Difference.{difference_line};
-ghost use Rattle.version_commands.specs.faults.Early.{IfOfWord, UnlessLate};
-ghost use Rattle.version_commands.specs.faults.Ends.{Ends};
+ghost use Rattle.version_commands.specs.faults.Ends.{IfOfWord, UnlessLate, Ends};
 ghost use Rattle.version_commands.specs.faults.Fault.{first_wrong, ComesOfBad, ComesOfWords};
-ghost use Rattle.version_commands.specs.files.Files.{AltersAtMost, Leaves};
-ghost use Rattle.version_commands.specs.hints.TaskHint.{IsHint, IsOfLists, MayTell};
-ghost use Rattle.version_commands.specs.files.Inputs.{reads_standard};
+ghost use Rattle.version_commands.specs.Files.{AltersAtMost, Leaves, reads_standard};
+ghost use Rattle.version_commands.specs.Hints.{IsHint, IsOfLists, MayTell};
 ghost use Rattle.version_commands.specs.Lists.{names_of};
 ghost use Rattle.version_commands.specs.Output.{asks_reader, file_of, Answers, AreChanges, IsLineOfTwo, IsOutput};
 ghost use Rattle.version_answers.specs.Spelling.{mixed_spelling, spelled, spelled_mixed};
 ghost use Rattle.version_commands.specs.words.Test.{answer_line};
 ghost use Rattle.version_lines.specs.Lines.{line_feed};
 
-use crate::faults::Fault;
+use crate::faults::TaskFault;
 use crate::faults::bad::refuse_first;
 use crate::files::Files;
 use crate::files::inputs::read_input;
@@ -50,7 +48,7 @@ pub fn serve<'w, F: Files, R: Source, W: Write>(
     files: &mut F,
     reader: &mut R,
     writer: &mut W,
-) -> Result<bool, Fault<'w>>
+) -> Result<bool, TaskFault<'w>>
     requires hints { MayTell (IsHint task.now (F.reads files.old) (F.finds files.old) (F.refuses files.old) (R.may_fail reader.old)
         (R.remaining reader.old)) F.may_hint }
     ensures answers { IfOk result (Answers task.now) }
@@ -65,10 +63,10 @@ pub fn serve<'w, F: Files, R: Source, W: Write>(
     ensures early { IfOfWord (reader.new ≡ reader.old) result }
 {
     match task {
-        Task::Lines(arrangement, options) => {
-            let served = serve_by_words(alloc, *arrangement, options, files, reader, writer);
-            tell_of_separators(arrangement, options, &served, files);
-            tell_of_fault(arrangement, &options.place, &served, files);
+        Task::Lines(options, names) => {
+            let served = serve_by_words(alloc, options, names.as_slice(), files, reader, writer);
+            tell_of_separators(options, &served, files);
+            tell_of_fault(options, &served, files);
             served?;
             Ok(true)
         }
@@ -124,7 +122,7 @@ pub fn serve<'w, F: Files, R: Source, W: Write>(
 }
 
 // Writes what a task answers by its output alone.
-fn write_text<'w, W: Write>(writer: &mut W, text: &[u8]) -> Result<bool, Fault<'w>>
+fn write_text<'w, W: Write>(writer: &mut W, text: &[u8]) -> Result<bool, TaskFault<'w>>
     ensures ends { Ends (λ output. output ≡ text.now) (λ _. ⊥)
         (W.contents writer.old) (W.contents writer.new) result }
     ensures yes { IfOk result (λ answer. answer ≡ true) }
@@ -134,7 +132,7 @@ fn write_text<'w, W: Write>(writer: &mut W, text: &[u8]) -> Result<bool, Fault<'
 }
 
 // Writes the line for an answer, and returns the answer.
-fn write_yes_or_no<'w, W: Write>(writer: &mut W, yes: bool) -> Result<bool, Fault<'w>>
+fn write_yes_or_no<'w, W: Write>(writer: &mut W, yes: bool) -> Result<bool, TaskFault<'w>>
     ensures ends { Ends (λ output. output ≡ answer_line yes) (λ _. ⊥)
         (W.contents writer.old) (W.contents writer.new) result }
     ensures same { IfOk result (λ answer. answer ≡ yes) }
@@ -148,7 +146,7 @@ fn comparison<'w>(
     spelling: &Spelling<'_>,
     first: &'w str,
     second: &'w str,
-) -> Result<&'static [u8], Fault<'w>>
+) -> Result<&'static [u8], TaskFault<'w>>
     ensures output { IfOk result (λ line.
         IsLineOfTwo (spelled spelling.now) (comparison_line line_feed) first.now second.now line.now) }
     ensures faults { IfErr result (ComesOfWords spelling.now (first_wrong (spelled spelling.now) (first.now ∷ second.now ∷ []))) }
@@ -175,7 +173,7 @@ fn explanation<'w>(
     naming: &Naming<'_>,
     first: &'w str,
     second: &'w str,
-) -> Result<Vec<u8>, Fault<'w>>
+) -> Result<Vec<u8>, TaskFault<'w>>
     ensures output { IfOk result (λ output.
         IsLineOfTwo (spelled_mixed naming.now) (explained_line line_feed) first.now second.now output.items) }
     ensures faults { IfErr result (ComesOfWords (mixed_spelling naming.now) (first_wrong (spelled_mixed naming.now) (first.now ∷ second.now ∷ []))) }
@@ -193,7 +191,7 @@ fn difference<'w>(
     naming: &Naming<'_>,
     first: &'w str,
     second: &'w str,
-) -> Result<Vec<u8>, Fault<'w>>
+) -> Result<Vec<u8>, TaskFault<'w>>
     ensures output { IfOk result (λ output.
         IsLineOfTwo (spelled_mixed naming.now) (difference_line line_feed) first.now second.now output.items) }
     ensures faults { IfErr result (ComesOfWords (mixed_spelling naming.now) (first_wrong (spelled_mixed naming.now) (first.now ∷ second.now ∷ []))) }
@@ -211,7 +209,7 @@ fn changes<'w, F: Files, R: Source>(
     lists: &Lists<'w>,
     files: &F,
     reader: &mut R,
-) -> Result<Vec<u8>, Fault<'w>>
+) -> Result<Vec<u8>, TaskFault<'w>>
     requires hints { MayTell (IsOfLists lists.now (F.reads files.now) (R.remaining reader.old)) F.may_hint }
     ensures output { IfOk result (λ output. AreChanges lists.now (F.reads files.now)
         (R.remaining reader.old) (R.remaining reader.new) output.items) }
@@ -240,7 +238,7 @@ fn refuse_of_list<'w>(
     lists: &Lists<'_>,
     file: &'w str,
     bad: &BadLines<'_>,
-) -> Result<(), Fault<'w>>
+) -> Result<(), TaskFault<'w>>
     ensures none { OnOk result (lists.now.invalid ≡ Invalid.Fail → bad.now.lines.items ≡ []) }
     ensures faults { IfErr result
         (ComesOfBad lists.now.invalid lists.now.place None (Some file.entry) 0 bad.now) }

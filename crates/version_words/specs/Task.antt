@@ -44,8 +44,7 @@ IsSpelling rows spelling = IsNaming rows spelling.naming × (scheme_of rows ≡ 
 pub record IsPlace (rows : List Row) (column : Option Column) (place : VersionPlace) : Type 0 where
   pub crlf_is : place.crlf ≡ is_crlf rows
   pub column_is : place.column ≡ column
-  pub naming_is : IsNaming rows place.naming
-  pub scheme_is : scheme_of rows ≡ Some place.scheme
+  pub spelling_is : IsSpelling rows place.spelling
 
 -- which versions are kept
 pub record IsChoice (rows : List Row) (choice : Choice) : Type 0 where
@@ -59,22 +58,6 @@ pub record AreColumnNames (separators : Separators) (rows : List Row) (names : C
   pub group_is : option_map (λ name. name.now) names.group ≡ name_of_column (codes "group") rows
   pub scheme_is : option_map (λ name. name.now) names.scheme ≡ name_of_column (codes "scheme-column") rows
 
--- what is asked beside the arrangement, with this between columns
-pub record AreLineOptions (command : Verb) (separators : Separators) (rows : List Row)
-    (options : LineOptions) : Type 0 where
-  pub end_is : options.end ≡ line_end separators rows
-  pub header_is : options.header ≡ header_of rows
-  pub place_is : IsPlace rows (option_map (column_at separators) (key_of rows)) options.place
-  pub scheme_column_is : options.scheme_column ≡ column_of (codes "scheme-column") separators rows
-  pub one_scheme : has_two_schemes rows ≡ false
-  pub names_are : AreColumnNames separators rows options.names
-  pub right_columns : has_wrong_column rows ≡ false
-  pub choice_is : IsChoice rows options.choice
-  pub invalid_is : invalid_of command rows ≡ Some options.invalid
-  pub invalid_to_is : option_map (λ name. name.now) options.invalid_to ≡ first_of (codes "invalid-to") rows
-  pub progress_is : options.progress ≡ is_set (codes "progress") rows
-  pub files_are : map (λ name. name.now) options.files.items ≡ words_of rows
-
 -- what is written of the lines
 abbrev pub IsArrangement : Verb → Separators → List Row → Arrangement → Type 0
 IsArrangement Sort separators rows (arrangement.Sort reverse unique) =
@@ -86,6 +69,22 @@ IsArrangement Filter separators rows (arrangement.Filter set inverted) =
     (option_map (λ set. set.now) set ≡ first_of (codes "SET") rows)
     × (inverted ≡ is_set (codes "invert-match") rows) × (lacks_set rows ≡ false)
 IsArrangement command separators rows other = ⊥
+
+-- what is asked of lines, with this between columns
+pub record AreLineOptions (command : Verb) (separators : Separators) (rows : List Row)
+    (options : LineOptions) : Type 0 where
+  pub arrangement_is : IsArrangement command separators rows options.arrangement
+  pub end_is : options.end ≡ line_end separators rows
+  pub header_is : options.header ≡ header_of rows
+  pub place_is : IsPlace rows (option_map (column_at separators) (key_of rows)) options.place
+  pub scheme_column_is : options.scheme_column ≡ column_of (codes "scheme-column") separators rows
+  pub one_scheme : has_two_schemes rows ≡ false
+  pub names_are : AreColumnNames separators rows options.names
+  pub right_columns : has_wrong_column rows ≡ false
+  pub choice_is : IsChoice rows options.choice
+  pub invalid_is : invalid_of command rows ≡ Some options.invalid
+  pub invalid_to_is : option_map (λ name. name.now) options.invalid_to ≡ first_of (codes "invalid-to") rows
+  pub progress_is : options.progress ≡ is_set (codes "progress") rows
 
 -- which version `next` is asked for: a word goes with `pre` alone
 abbrev pub IsStep : List Row → Step → Type 0
@@ -140,9 +139,8 @@ AreTwoSets rows scheme one other = (scheme_of rows ≡ Some scheme) × (one ≡ 
 
 -- the command and its rows mean this task
 abbrev pub IsTaskOf : Verb → List Row → Task → Type 0
-IsTaskOf command rows (task.Lines arrangement options) = (separators : Separators)
-    × AreSeparators rows separators × IsArrangement command separators rows arrangement
-    × AreLineOptions command separators rows options
+IsTaskOf command rows (task.Lines options files) = (separators : Separators) × AreSeparators rows separators
+    × AreLineOptions command separators rows options × (map (λ name. name.now) files.items ≡ words_of rows)
 IsTaskOf command rows (task.Each question options) =
     IsQuestion command rows question × AreEachOptions rows options
 IsTaskOf Test rows (task.TestTwo spelling first operator second) = (word : List ℕ) × IsSpelling rows spelling

@@ -30,7 +30,7 @@ pub enum Fault<'w> {
     /// The words mean no task.
     Words(WordsFault),
     /// The task of the words failed.
-    Task(version_commands::Fault<'w>),
+    Task(version_commands::TaskFault<'w>),
 }
 
 impl Fault<'_> {
@@ -78,13 +78,13 @@ impl From<WordsFault> for Fault<'_> {
     }
 }
 
-impl<'w> From<version_commands::Fault<'w>> for Fault<'w> {
+impl<'w> From<version_commands::TaskFault<'w>> for Fault<'w> {
     ghost use Rattle.std.specs.Prelude.{◌≡◌};
     ghost use Rattle.version_words.specs.declared.faults.Fault.TheVariants.{Task};
 
     ghost from_gives = { λ of fault. fault ≡ Task of };
 
-    fn from(fault: version_commands::Fault<'w>) -> Fault<'w> {
+    fn from(fault: version_commands::TaskFault<'w>) -> Fault<'w> {
         Fault::Task(fault)
     }
 }

@@ -1,7 +1,7 @@
 //! A run of the program over any files, reader and writer.
 
 ghost use Rattle.std.specs.Prelude.{map, string_bytes};
-ghost use Rattle.version_commands.specs.hints.TaskHint.{IsHint, MayTell};
+ghost use Rattle.version_commands.specs.Hints.{IsHint, MayTell};
 ghost use Rattle.version_commands.specs.Run.{RunsBy};
 ghost use Rattle.version_commands.specs.declared.options.Task.{Task};
 ghost use Rattle.version_words.specs.Words.{IsOfWords, Means};

@@ -4,7 +4,7 @@ ghost use Rattle.std.specs.Prelude.{◌≡◌, ◌⊎◌, None, Some, IfErr, IfO
 ghost use Rattle.clap.specs.Words.{all_of, subcommand_rows_of};
 ghost use Rattle.version_words.specs.Named.{place_named};
 ghost use Rattle.version_words.specs.Rows.{column_of, is_given, is_set, rows_in, word_of};
-ghost use Rattle.version_words.specs.Task.{AreColumnNames, AreEachOptions, AreLineOptions, HasWrongCompare, HasWrongDiff, HasNoStep, HasWrongFilter, HasWrongLines, HasWrongNaming, HasWrongPlace, HasWrongSpelling, IsNaming, IsPlace, IsQuestion, IsSpelling, IsStep, IsTaskOf, IsWrong};
+ghost use Rattle.version_words.specs.Task.{AreColumnNames, AreEachOptions, AreLineOptions, HasWrongCompare, HasWrongDiff, HasNoStep, HasWrongFilter, HasWrongLines, HasWrongNaming, HasWrongPlace, HasWrongSpelling, IsArrangement, IsNaming, IsPlace, IsQuestion, IsSpelling, IsStep, IsTaskOf, IsWrong};
 ghost use Rattle.version_words.specs.Words.{command_in, ComesOfWrong, IsTaskIn, IsWrongIn};
 
 use crate::faults::WordsFault;
@@ -66,8 +66,8 @@ fn sort_task<'w>(alloc: Global, options: &ArgMatches<'w>) -> Result<Task<'w>, Wo
         reverse: is_set(options, "reverse"),
         unique: is_set(options, "unique"),
     };
-    let line_options = line_options(alloc, Verb::Sort, separators, options)?;
-    Ok(Task::Lines(arrangement, line_options))
+    let line_options = line_options(alloc, Verb::Sort, arrangement, separators, options)?;
+    Ok(Task::Lines(line_options, words_of(alloc, options)?))
 }
 
 fn newest_task<'w>(alloc: Global, options: &ArgMatches<'w>) -> Result<Task<'w>, WordsFault>
@@ -79,8 +79,8 @@ fn newest_task<'w>(alloc: Global, options: &ArgMatches<'w>) -> Result<Task<'w>, 
         count: number_of(options, "count").unwrap_or(1),
         group: column_of(options, "group", separators),
     };
-    let line_options = line_options(alloc, Verb::Newest, separators, options)?;
-    Ok(Task::Lines(arrangement, line_options))
+    let line_options = line_options(alloc, Verb::Newest, arrangement, separators, options)?;
+    Ok(Task::Lines(line_options, words_of(alloc, options)?))
 }
 
 fn filter_task<'w>(alloc: Global, options: &ArgMatches<'w>) -> Result<Task<'w>, WordsFault>
@@ -96,8 +96,8 @@ fn filter_task<'w>(alloc: Global, options: &ArgMatches<'w>) -> Result<Task<'w>, 
         set: text_of(options, "SET"),
         inverted: is_set(options, "invert-match"),
     };
-    let line_options = line_options(alloc, Verb::Filter, separators, options)?;
-    Ok(Task::Lines(arrangement, line_options))
+    let line_options = line_options(alloc, Verb::Filter, arrangement, separators, options)?;
+    Ok(Task::Lines(line_options, words_of(alloc, options)?))
 }
 
 // Returns the columns that are asked for by their names, with this between columns.
@@ -112,13 +112,15 @@ fn column_names<'w>(separators: Separators<'w>, options: &ArgMatches<'w>) -> Col
     }
 }
 
-// Returns what is asked beside the arrangement, with this between columns.
+// Returns what is asked of lines that are arranged so, with this between columns.
 fn line_options<'w>(
     alloc: Global,
     command: Verb,
+    arrangement: Arrangement<'w>,
     separators: Separators<'w>,
     options: &ArgMatches<'w>,
 ) -> Result<LineOptions<'w>, WordsFault>
+    requires { IsArrangement command separators (rows_in options.now) arrangement }
     ensures options { IfOk result (AreLineOptions command separators.entry (rows_in options.now)) }
     ensures faults { IfErr result (ComesOfWrong (HasWrongLines command (rows_in options.now))) }
 {
@@ -128,6 +130,7 @@ fn line_options<'w>(
     let least = level_of(alloc, options)?;
     let invalid = invalid_of(alloc, command, options)?;
     Ok(LineOptions {
+        arrangement,
         end: line_end(separators, options),
         header: header_of(options),
         place,
@@ -140,7 +143,6 @@ fn line_options<'w>(
         invalid,
         invalid_to: text_of(options, "invalid-to"),
         progress: is_set(options, "progress"),
-        files: words_of(alloc, options)?,
     })
 }
 
@@ -153,12 +155,10 @@ fn place_of<'w>(
     ensures place { IfOk result (IsPlace (rows_in options.now) column.entry) }
     ensures faults { IfErr result (ComesOfWrong (HasWrongPlace (rows_in options.now))) }
 {
-    let Spelling { naming, scheme } = spelling_of(alloc, options)?;
     Ok(VersionPlace {
         crlf: is_crlf(options),
         column,
-        naming,
-        scheme,
+        spelling: spelling_of(alloc, options)?,
     })
 }
 

@@ -4,7 +4,7 @@ use std::cell::Cell;
 use std::fs;
 use std::io::{self, Read, Write};
 use version_answers::Shown;
-use version_commands::{Fault, Files, Hint, Stage};
+use version_commands::{Files, Hint, Stage, TaskFault};
 use version_lines::{Trouble, read_onto, write_whole};
 
 /// The files of the system, and why it refused one. What they hold is not known to any contract.
@@ -107,7 +107,7 @@ impl Files for SystemFiles<'_> {
     fn hint(&self, hint: Hint<'_>) {
         let _ = match hint {
             Hint::NotVersion(word, remark) => {
-                let fault = Fault::NotVersion(word, remark);
+                let fault = TaskFault::NotVersion(word, remark);
                 eprintln!(self.rt; "versions: {fault}")
             }
             Hint::NoFile(word) => {

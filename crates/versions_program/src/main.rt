@@ -15,7 +15,7 @@ use std::cell::Cell;
 use std::env::Env;
 use std::process::ExitCode;
 use std::{env, io};
-use version_commands::Fault as TaskFault;
+use version_commands::TaskFault;
 use version_words::{Fault, WordsFault, run};
 
 // The status that a shell gives for a program whose reader has gone: that of the signal SIGPIPE.

@@ -1,27 +1,24 @@
 -- Why a task fails: what each of its faults comes of. Refused memory and a writer that takes no more
 -- can end any task.
 use Rattle.std.proofs.Common.{Bor, Global, String}
-use Rattle.std.specs.Prelude.{◌≡◌, ◌⊎◌, ⊤, ℕ, Bool, false, List, [], ◌∷◌, ◌++◌, map, Option, None, Some, Result, string_bytes}
+use Rattle.std.specs.Prelude.{◌≡◌, ◌⊎◌, ⊤, ℕ, Bool, false, List, [], ◌∷◌, ◌++◌, map, Option, None, Some, string_bytes}
 use Rattle.std.specs.Io.KnownBytes.{Consumes, IsAtEnd}
 use Rattle.version_commands.specs.lines.Arranged.{policy}
 use Rattle.version_commands.specs.lines.Choice.{wrong_set}
 use Rattle.version_commands.specs.words.Each.{has_version, place_of, spelling_of, AreTexts, IsFirstWithoutNext}
 use Rattle.version_commands.specs.faults.Fault.{first_wrong, ComesOfLines, ComesOfMatching, ComesOfPut, ComesOfReading, ComesOfSets, ComesOfStandard, ComesOfTestOfSet, ComesOfTestOfSets, ComesOfTestOfTwo, ComesOfWords}
 use Rattle.version_commands.specs.lines.FirstWord.{Finding, HoldsByWords}
-use Rattle.version_commands.specs.files.Inputs.{counts_before_last, joined, line_in, names_read, AreInputs, IsLineIn, Reading}
+use Rattle.version_commands.specs.Files.{counts_before_last, joined, line_in, names_read, AreInputs, IsLineIn, Reading}
 use Rattle.version_commands.specs.Lists.{bad_lines_of, lines_of_list, names_of}
-use Rattle.version_commands.specs.faults.Ends.{Ends}
-use Rattle.version_commands.specs.lines.Ordered.{body_of, name_missing, options_in, versions_by, IsArranged}
+use Rattle.version_commands.specs.lines.Ordered.{body_of, name_missing, options_in, versions_in}
 use Rattle.version_commands.specs.lines.Picked.{Versions}
 use Rattle.version_answers.specs.Spelling.{mixed_spelling, spelled, spelled_mixed}
 use Rattle.version_commands.specs.lines.Place.{reads_of}
 use Rattle.version_answers.specs.message.Quote.{quoted}
 use Rattle.version_answers.specs.message.Remark.{IsRemark}
 use Rattle.version_answers.specs.Sets.{IsWrongSet}
-use Rattle.version_commands.specs.declared.lines.arrange.Input.{Input}
-use Rattle.version_commands.specs.declared.faults.Fault.{Fault}
-use Rattle.version_commands.specs.declared.faults.Fault.TheVariants as fault
-use Rattle.version_commands.specs.declared.options.Arrangement.{Arrangement}
+use Rattle.version_commands.specs.declared.faults.TaskFault.{TaskFault}
+use Rattle.version_commands.specs.declared.faults.TaskFault.TheVariants as fault
 use Rattle.version_commands.specs.declared.options.EachOptions.{EachOptions}
 use Rattle.version_commands.specs.declared.options.LineOptions.{LineOptions}
 use Rattle.version_commands.specs.declared.options.Lists.{Lists}
@@ -37,34 +34,21 @@ use Rattle.version_lines.specs.Sort.{version_in}
 
 -- the faults of a run over the lines of an input: of the lines that have no version, or of the file
 -- for these
-abbrev pub ComesOfArranged : LineOptions → (List ℕ → Type 0) → Versions → List ℕ → Fault → Type 0
-ComesOfArranged options Refuses versions input (fault.Write name) = ComesOfPut options Refuses (fault.Write name)
-ComesOfArranged options Refuses versions input other =
+abbrev pub ComesOfArranged : Versions → LineOptions → List ℕ → (List ℕ → Type 0) → TaskFault → Type 0
+ComesOfArranged versions options input Refuses (fault.Write name) = ComesOfPut options Refuses (fault.Write name)
+ComesOfArranged versions options input Refuses other =
     ComesOfLines (policy options) options.place options.scheme_column None options.header versions
     (lines_of options.end input) other
 
--- these lines of an input are written, or one of those faults stops that
-abbrev pub EndsArranged : {T : Type 0} → Versions → LineOptions → Input → List (List ℕ)
-    → (Option (List ℕ × List ℕ) → Type 0) → (List ℕ → Type 0) → Option (List ℕ) → Option (List ℕ)
-    → Result T Fault → Type 0
-EndsArranged versions options input lines leaves Refuses =
-    Ends (IsArranged versions options input.head.now input.body.now lines leaves)
-    (ComesOfArranged options Refuses versions input.body.now)
-
--- the faults of an input with columns of numbers alone
-abbrev pub ComesOfArrangedOf : LineOptions → (List ℕ → Type 0) → List ℕ → Fault → Type 0
-ComesOfArrangedOf options Refuses input =
-    ComesOfArranged options Refuses (versions_by options.place options.scheme_column) (body_of options input)
-
 -- those of an input: no column has a name that is asked for, or else those with the columns of the names
-abbrev pub ComesOfInput : LineOptions → (List ℕ → Type 0) → List ℕ → Fault → Type 0
-ComesOfInput options Refuses input fault.Memory = ⊤
-ComesOfInput options Refuses input (fault.NoColumn name) = name_missing options input ≡ Some name
-ComesOfInput options Refuses input other = (name_missing options input ≡ None)
-    × ComesOfArrangedOf (options_in options input) Refuses input other
+abbrev pub ComesOfInput : LineOptions → List ℕ → (List ℕ → Type 0) → TaskFault → Type 0
+ComesOfInput options input Refuses fault.Memory = ⊤
+ComesOfInput options input Refuses (fault.NoColumn name) = name_missing options input ≡ Some name
+ComesOfInput options input Refuses other = (name_missing options input ≡ None)
+    × ComesOfArranged (versions_in (options_in options input)) (options_in options input) (body_of options input) Refuses other
 
 -- the fault of a line is told by its file and its number there; each other stays
-abbrev pub IsInItsFile : List (List ℕ) → List ℕ → Fault → Fault → Type 0
+abbrev pub IsInItsFile : List (List ℕ) → List ℕ → TaskFault → TaskFault → Type 0
 IsInItsFile names counts (fault.BadLine bad) (fault.BadLine told) =
     IsLineIn (line_in names counts bad.number) bad.number told.file told.number × (told.text ≡ bad.text)
     × (told.remark ≡ bad.remark) × (told.ends_in_return ≡ bad.ends_in_return) × (told.more ≡ bad.more)
@@ -72,22 +56,27 @@ IsInItsFile names counts other told = told ≡ other
 
 -- the faults of `sort`, `newest` and `filter`: of a word that is no set, of an input, of a name that no column has, of
 -- the lines that have no version, or of the file for these
-abbrev pub ComesOfArranging : Arrangement → LineOptions → Reading → (List ℕ → Type 0) → Bool → Option (List ℕ) → Fault
+abbrev pub ComesOfArranging : LineOptions → List (List ℕ) → Reading → Bool → Option (List ℕ) → (List ℕ → Type 0) → TaskFault
     → Type 0
-ComesOfArranging arrangement options reads Refuses fails old (fault.NotSet wrong) =
-    ComesOfSets options.place.scheme (wrong_set options.place.scheme options.choice arrangement) (fault.NotSet wrong)
-ComesOfArranging arrangement options reads Refuses fails old (fault.Read name) =
-    ComesOfReading options.end reads fails old (names_read (map (λ name. name.now) options.files.items))
-    (fault.Read name)
-ComesOfArranging arrangement options reads Refuses fails old (fault.Unclosed name number) =
-    ComesOfReading options.end reads fails old (names_read (map (λ name. name.now) options.files.items))
-    (fault.Unclosed name number)
-ComesOfArranging arrangement options reads Refuses fails old fault.Memory = ⊤
-ComesOfArranging arrangement options reads Refuses fails old other =
-    (new : Option (List ℕ)) × (texts : List (List ℕ)) × (found : Fault)
-    × AreInputs reads old new (names_read (map (λ name. name.now) options.files.items)) texts
-    × ComesOfInput options Refuses (joined options.end.byte texts) found
-    × IsInItsFile (map (λ name. name.now) options.files.items) (counts_before_last options.end texts) found other
+ComesOfArranging options names reads fails old Refuses (fault.NotSet wrong) =
+    ComesOfSets options.place.spelling.scheme (wrong_set options.place.spelling.scheme options.choice options.arrangement)
+    (fault.NotSet wrong)
+ComesOfArranging options names reads fails old Refuses (fault.Read name) =
+    ComesOfReading options.end reads fails old (names_read names) (fault.Read name)
+ComesOfArranging options names reads fails old Refuses (fault.Unclosed name number) =
+    ComesOfReading options.end reads fails old (names_read names) (fault.Unclosed name number)
+ComesOfArranging options names reads fails old Refuses fault.Memory = ⊤
+ComesOfArranging options names reads fails old Refuses other =
+    (new : Option (List ℕ)) × (texts : List (List ℕ)) × (found : TaskFault) × AreInputs reads old new (names_read names) texts
+    × ComesOfInput options (joined options.end.byte texts) Refuses found
+    × IsInItsFile names (counts_before_last options.end texts) found other
+
+-- the same by the words: the first of `filter` may name a file
+abbrev pub ComesOfFirst : Finding → LineOptions → List (List ℕ) → Reading → Bool → Option (List ℕ) → (List ℕ → Type 0)
+    → TaskFault → Type 0
+ComesOfFirst finds options names reads fails old Refuses fault.Memory = ⊤
+ComesOfFirst finds options names reads fails old Refuses fault =
+    HoldsByWords finds (λ with given. ComesOfArranging with given reads fails old Refuses fault) options names
 
 -- this is what is wrong with the question's word for its set
 abbrev pub HasWrongSet : Question → WrongSet → Type 0
@@ -95,7 +84,7 @@ HasWrongSet (Why scheme set) wrong = IsWrongSet scheme set.now wrong
 HasWrongSet other wrong = ⊥
 
 -- the faults of a question's set
-abbrev pub ComesOfQuestion : Question → Fault → Type 0
+abbrev pub ComesOfQuestion : Question → TaskFault → Type 0
 ComesOfQuestion question (fault.NotSet wrong) = HasWrongSet question wrong
 ComesOfQuestion question fault.Memory = ⊤
 ComesOfQuestion question other = ⊥
@@ -106,14 +95,14 @@ QuotesFirstWithoutNext question naming end texts shown =
     (text : List ℕ) × IsFirstWithoutNext question naming end texts text × (shown ≡ quoted text)
 
 -- the faults of answering to some texts
-abbrev pub ComesOfAnswering : Question → Naming → ℕ → List (List ℕ) → Fault → Type 0
+abbrev pub ComesOfAnswering : Question → Naming → ℕ → List (List ℕ) → TaskFault → Type 0
 ComesOfAnswering question naming end texts other = (other ≡ fault.Memory)
     ⊎ ((text : String Global) × (other ≡ fault.NoNext text)
     × QuotesFirstWithoutNext question naming end texts (string_bytes text))
 
 -- the faults of `show`, `key`, `why` and `next`: of the last word if none is a version, or without words of
 -- standard input or a line of it, of a version that none comes next to, or of the set of `why`
-abbrev pub ComesOfAsking : Question → EachOptions → Bool → Option (List ℕ) → Fault → Type 0
+abbrev pub ComesOfAsking : Question → EachOptions → Bool → Option (List ℕ) → TaskFault → Type 0
 ComesOfAsking question options fails old (fault.NotVersion text remark) =
     IsRemark (spelling_of question options.naming) text.now remark × (has_version question options ≡ false)
     × (before : List (List ℕ)) × (map (λ word. word.now) options.versions.items ≡ before ++ text.now ∷ [])
@@ -131,18 +120,18 @@ ComesOfAsking question options fails old (fault.NoNext text) =
 ComesOfAsking question options fails old other = ComesOfQuestion question other
 
 -- the faults of the lines without a version of a list, which the file of this name holds
-abbrev pub ComesOfOne : Lists → Bor (List ℕ) → List ℕ → Fault → Type 0
+abbrev pub ComesOfOne : Lists → Bor (List ℕ) → List ℕ → TaskFault → Type 0
 ComesOfOne lists file input =
     ComesOfLines lists.invalid lists.place None (Some file) 0 (version_in (reads_of lists.place))
     (lines_of_list lists input)
 
 -- those of two lists: of the new one only where each line of the old one has a version
-abbrev pub ComesOfEither : Lists → List ℕ → List ℕ → Fault → Type 0
+abbrev pub ComesOfEither : Lists → List ℕ → List ℕ → TaskFault → Type 0
 ComesOfEither lists first second fault = ComesOfOne lists lists.old first fault
     ⊎ ((bad_lines_of lists first ≡ []) × ComesOfOne lists lists.new second fault)
 
 -- the faults of `diff --lists`: of an input, or of the lines of a list that have no version
-abbrev pub ComesOfChanges : Lists → Reading → Bool → Option (List ℕ) → Fault → Type 0
+abbrev pub ComesOfChanges : Lists → Reading → Bool → Option (List ℕ) → TaskFault → Type 0
 ComesOfChanges lists reads fails old (fault.BadLine bad) =
     (new : Option (List ℕ)) × (first second : List ℕ)
     × AreInputs reads old new (names_of lists) (first ∷ second ∷ [])
@@ -150,10 +139,9 @@ ComesOfChanges lists reads fails old (fault.BadLine bad) =
 ComesOfChanges lists reads fails old other = ComesOfReading lists.end reads fails old (names_of lists) other
 
 -- the faults of each task, but for a writer that takes no more
-abbrev pub ComesOf : Task → Reading → Finding → (List ℕ → Type 0) → Bool → Option (List ℕ) → Fault → Type 0
-ComesOf (task.Lines arrangement options) reads finds Refuses fails old fault.Memory = ⊤
-ComesOf (task.Lines arrangement options) reads finds Refuses fails old fault =
-    HoldsByWords finds (λ asked with. ComesOfArranging asked with reads Refuses fails old fault) arrangement options
+abbrev pub ComesOf : Task → Reading → Finding → (List ℕ → Type 0) → Bool → Option (List ℕ) → TaskFault → Type 0
+ComesOf (task.Lines options names) reads finds Refuses fails old fault =
+    ComesOfFirst finds options (map (λ name. name.now) names.items) reads fails old Refuses fault
 ComesOf (task.Each question options) reads finds Refuses fails old fault = ComesOfAsking question options fails old fault
 ComesOf (task.TestTwo spelling a operator b) reads finds Refuses fails old fault =
     ComesOfTestOfTwo spelling (first_wrong (spelled spelling) (a.now ∷ b.now ∷ [])) fault

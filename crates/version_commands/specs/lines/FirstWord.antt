@@ -1,8 +1,8 @@
 -- A first word of `filter` that is no set, and names a file.
 use Rattle.std.proofs.Common.{Bor}
-use Rattle.std.specs.Prelude.{◌≡◌, ◌⊎◌, ◌∷◌, ◌||◌, ℕ, Bool, false, true, List, Option, Some, None, is_some, map, if◌then◌else◌, IfSome, IsSome}
+use Rattle.std.specs.Prelude.{◌≡◌, ◌⊎◌, ◌∷◌, ◌||◌, ℕ, Bool, false, true, List, Option, Some, None, is_some, if◌then◌else◌, IfSome, IsSome}
 use Rattle.std.specs.Option.{option_map_or}
-use Rattle.version_commands.specs.files.Inputs.{is_standard}
+use Rattle.version_commands.specs.Files.{is_standard}
 use Rattle.version_answers.specs.Sets.{keys_of, IsWrongSet}
 use Rattle.version_commands.specs.declared.options.Arrangement.{Arrangement}
 use Rattle.version_commands.specs.declared.options.Arrangement.TheVariants.{Filter}
@@ -40,24 +40,23 @@ abbrev pub IsThere : Finding → List ℕ → Type 0
 IsThere finds name = (is_standard name ≡ true) ⊎ finds name true
 
 -- the first word stays one: it may not name a file, it is a set, or no file of its name is there
-abbrev pub StaysWord : Finding → Arrangement → LineOptions → Type 0
-StaysWord finds arrangement options = IfSome (word_for_file arrangement options.choice) (λ word.
-    IsSome (keys_of options.place.scheme word.now) ⊎ ((is_standard word.now ≡ false) × finds word.now false))
+abbrev pub StaysWord : Finding → LineOptions → Type 0
+StaysWord finds options = IfSome (word_for_file options.arrangement options.choice) (λ word.
+    IsSome (keys_of options.place.spelling.scheme word.now) ⊎ ((is_standard word.now ≡ false) × finds word.now false))
 
--- this holds of the arrangement without a set, and of the options with a word that is none as the first file
-pub record HoldsByFile (finds : Finding) (Holds : Arrangement → LineOptions → Type 0) (arrangement : Arrangement)
-    (options : LineOptions) : Type 0 where
-  pub word : Bor (List ℕ)
-  pub word_is : word_for_file arrangement options.choice ≡ Some word
+-- it is no set, and names a file that is there
+pub record IsFirstFile (finds : Finding) (options : LineOptions) (word : Bor (List ℕ)) : Type 0 where
+  pub word_is : word_for_file options.arrangement options.choice ≡ Some word
   pub wrong : WrongSet
-  pub no_set : IsWrongSet options.place.scheme word.now wrong
+  pub no_set : IsWrongSet options.place.spelling.scheme word.now wrong
   pub there : IsThere finds word.now
-  pub made : LineOptions
-  pub made_is : made ≡ record options { files = made.files }
-  pub files_are : map (λ name. name.now) made.files.items ≡ word.now ∷ map (λ name. name.now) options.files.items
-  pub holds : Holds (Filter None false) made
 
--- this holds of the words as they are, where the first stays one, or with it as a file
-abbrev pub HoldsByWords : Finding → (Arrangement → LineOptions → Type 0) → Arrangement → LineOptions → Type 0
-HoldsByWords finds Holds arrangement options =
-    (StaysWord finds arrangement options × Holds arrangement options) ⊎ HoldsByFile finds Holds arrangement options
+-- the options without a set
+abbrev pub without_set : LineOptions → LineOptions
+without_set options = record options { arrangement = Filter None false }
+
+-- this holds of the options and the names of the files as they are, where the first word stays one; or with it as the
+-- first file, and without a set
+abbrev pub HoldsByWords : Finding → (LineOptions → List (List ℕ) → Type 0) → LineOptions → List (List ℕ) → Type 0
+HoldsByWords finds Holds options names = (StaysWord finds options × Holds options names)
+    ⊎ ((word : Bor (List ℕ)) × IsFirstFile finds options word × Holds (without_set options) (word.now ∷ names))

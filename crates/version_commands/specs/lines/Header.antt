@@ -29,14 +29,15 @@ abbrev pub first_unnamed : ColumnNames → List ℕ → Option (Bor (List ℕ))
 first_unnamed names line = option_or (unless_named names line names.version)
     (option_or (unless_named names line names.group) (unless_named names line names.scheme))
 
--- the options with the columns of names in a line
-abbrev pub options_by : List ℕ → LineOptions → LineOptions
-options_by line options = record options {
-  place = record options.place { column = by_name options.names line options.names.version options.place.column };
-  scheme_column = by_name options.names line options.names.scheme options.scheme_column;
-}
-
 -- what is written of lines, by the column of the name of groups
 abbrev pub arrangement_by : List ℕ → ColumnNames → Arrangement → Arrangement
 arrangement_by line names (Newest count group) = Newest count (by_name names line names.group group)
 arrangement_by line names other = other
+
+-- the options with the columns of names in a line
+abbrev pub options_by : List ℕ → LineOptions → LineOptions
+options_by line options = record options {
+  arrangement = arrangement_by line options.names options.arrangement;
+  place = record options.place { column = by_name options.names line options.names.version options.place.column };
+  scheme_column = by_name options.names line options.names.scheme options.scheme_column;
+}

@@ -1,16 +1,15 @@
 -- What `sort`, `newest` and `filter` write.
 use Rattle.std.proofs.Common.{Bor}
-use Rattle.std.specs.Prelude.{◌≡◌, ◌++◌, ◌∷◌, ℕ, Bool, false, List, [], map, Option, None, Some, if◌then◌else◌}
+use Rattle.std.specs.Prelude.{◌≡◌, ◌++◌, ◌∷◌, ℕ, Bool, false, List, [], Option, None, Some, if◌then◌else◌}
 use Rattle.version_commands.specs.lines.Arranged.{arranged, placed, policy}
 use Rattle.version_commands.specs.lines.BySchemes.{arranged_by_schemes, version_by}
 use Rattle.version_commands.specs.lines.Choice.{keeps_of}
-use Rattle.version_commands.specs.lines.Header.{arrangement_by, first_unnamed, last_of, options_by}
+use Rattle.version_commands.specs.lines.Header.{first_unnamed, last_of, options_by}
 use Rattle.std.specs.List.{flat_map, list_any}
 use Rattle.std.specs.Option.{option_map}
-use Rattle.version_commands.specs.files.Inputs.{is_open, joined, lines_within, names_read, AreInputs, Reading}
+use Rattle.version_commands.specs.Files.{is_open, joined, lines_within, names_read, AreInputs, Reading}
 use Rattle.version_commands.specs.lines.Picked.{Versions, bad_lines, has, kept_lines}
 use Rattle.version_commands.specs.lines.Place.{group_text, line_text, reads_of}
-use Rattle.version_commands.specs.declared.options.Arrangement.{Arrangement}
 use Rattle.version_commands.specs.declared.options.Invalid.TheVariants.{Fail}
 use Rattle.version_commands.specs.declared.options.LineOptions.{LineOptions}
 use Rattle.version_commands.specs.declared.options.VersionPlace.{VersionPlace}
@@ -29,23 +28,26 @@ abbrev pub kept_line : Versions → (PlainAny → Bool) → ℕ → List ℕ →
 kept_line versions keeps end line = if has keeps versions line then whole_line end line else []
 
 -- the lines that are kept, arranged
-abbrev pub arranged_in : Reads → (PlainAny → Bool) → Arrangement → LineOptions
-    → List ℕ → List (List ℕ)
-arranged_in reads keeps arrangement options input =
-    arranged reads (group_text options.place.crlf) arrangement (kept_in (version_in reads) keeps options input)
+abbrev pub arranged_in : Reads → (PlainAny → Bool) → LineOptions → List ℕ → List (List ℕ)
+arranged_in reads keeps options input =
+    arranged reads (group_text options.place.crlf) options.arrangement (kept_in (version_in reads) keeps options input)
 
 -- the version of each line: of the scheme that its column names, where there is such a column
 abbrev pub versions_by : VersionPlace → Option Column → Versions
 versions_by place None = version_in (reads_of place)
 versions_by place (Some column) = version_by place column
 
+abbrev pub versions_in : LineOptions → Versions
+versions_in options = versions_by options.place options.scheme_column
+
 -- the lines that are kept, arranged: those of each scheme, where a column names it
-abbrev pub ordered_by : Option Column → (PlainAny → Bool) → Arrangement → LineOptions → List ℕ → List (List ℕ)
-ordered_by None keeps arrangement options input =
-    arranged_in (reads_of options.place) keeps arrangement options input
-ordered_by (Some column) keeps arrangement options input =
-    arranged_by_schemes options.place column arrangement
+abbrev pub ordered_by : Option Column → (PlainAny → Bool) → LineOptions → List ℕ → List (List ℕ)
+ordered_by None keeps options input = arranged_in (reads_of options.place) keeps options input
+ordered_by (Some column) keeps options input = arranged_by_schemes options.place column options.arrangement
     (kept_in (version_by options.place column) keeps options input)
+
+abbrev pub ordered_in : (PlainAny → Bool) → LineOptions → List ℕ → List (List ℕ)
+ordered_in keeps options input = ordered_by options.scheme_column keeps options input
 
 -- what stays on top of what is written, and what it is written of
 abbrev pub head_of : LineOptions → List ℕ → List ℕ
@@ -67,9 +69,6 @@ name_missing options (byte ∷ input) = first_unnamed options.names (names_line 
 -- the options with the columns of the names in an input
 abbrev pub options_in : LineOptions → List ℕ → LineOptions
 options_in options input = options_by (names_line options input) options
-
-abbrev pub arrangement_in : Arrangement → LineOptions → List ℕ → Arrangement
-arrangement_in arrangement options input = arrangement_by (names_line options input) options.names arrangement
 
 -- the name of the file for lines without a version, if there is one
 abbrev pub bad_file : LineOptions → Option (List ℕ)
@@ -95,29 +94,24 @@ pub record IsArranged (versions : Versions) (options : LineOptions) (head input 
   pub is_placed : IsPlaced options head (bad_lines versions (lines_of options.end input)) lines leaves output
 
 -- the same of the lines that are kept of an input, arranged by columns of numbers alone
-abbrev pub IsArrangedOf : Arrangement → LineOptions → (PlainAny → Bool) → List ℕ
-    → (Option (List ℕ × List ℕ) → Type 0) → List ℕ → Type 0
-IsArrangedOf arrangement options keeps input leaves output =
-    IsArranged (versions_by options.place options.scheme_column) options (head_of options input)
-    (body_of options input) (ordered_by options.scheme_column keeps arrangement options (body_of options input))
-    leaves output
+abbrev pub IsArrangedOf : LineOptions → (PlainAny → Bool) → List ℕ → (Option (List ℕ × List ℕ) → Type 0) → List ℕ → Type 0
+IsArrangedOf options keeps input leaves output = IsArranged (versions_in options) options (head_of options input)
+    (body_of options input) (ordered_in keeps options (body_of options input)) leaves output
 
 -- the same by the columns of the names in the input, none of which is missing
-pub record IsArrangedIn (arrangement : Arrangement) (options : LineOptions) (keeps : PlainAny → Bool)
-    (input : List ℕ) (leaves : Option (List ℕ × List ℕ) → Type 0) (output : List ℕ) : Type 0 where
+pub record IsArrangedIn (options : LineOptions) (keeps : PlainAny → Bool) (input : List ℕ)
+    (leaves : Option (List ℕ × List ℕ) → Type 0) (output : List ℕ) : Type 0 where
   pub has_names : name_missing options input ≡ None
-  pub is_arranged : IsArrangedOf (arrangement_in arrangement options input) (options_in options input) keeps input
-      leaves output
+  pub is_arranged : IsArrangedOf (options_in options input) keeps input leaves output
 
 -- the same of a run whose inputs were read in turn, and whose lines are those of each
-pub record IsOrdered (arrangement : Arrangement) (options : LineOptions) (files : Reading)
+pub record IsOrdered (options : LineOptions) (names : List (List ℕ)) (files : Reading)
     (old new : Option (List ℕ)) (leaves : Option (List ℕ × List ℕ) → Type 0)
     (output : List ℕ) : Type 0 where
   pub texts : List (List ℕ)
   pub keeps : PlainAny → Bool
-  pub texts_are : AreInputs files old new (names_read (map (λ name. name.now) options.files.items))
-      texts
+  pub texts_are : AreInputs files old new (names_read names) texts
   pub closed : list_any (is_open options.end) texts ≡ false
   pub apart : lines_of options.end (joined options.end.byte texts) ≡ flat_map (lines_within options.end) texts
-  pub keeps_are : keeps_of options.place.scheme options.choice arrangement ≡ Some keeps
-  pub is_arranged : IsArrangedIn arrangement options keeps (joined options.end.byte texts) leaves output
+  pub keeps_are : keeps_of options.place.spelling.scheme options.choice options.arrangement ≡ Some keeps
+  pub is_arranged : IsArrangedIn options keeps (joined options.end.byte texts) leaves output

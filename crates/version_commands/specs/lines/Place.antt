@@ -28,7 +28,7 @@ place_text place line = column_text place.column (line_text place.crlf line)
 
 -- the text in a line that is to be its version
 abbrev pub text_of : VersionPlace → List ℕ → List ℕ
-text_of place line = named_text place.naming (place_text place line)
+text_of place line = named_text place.spelling.naming (place_text place line)
 
 -- how lines are read, as those of a scheme
 abbrev pub reads_as : VersionPlace → Scheme → Reads
@@ -36,7 +36,7 @@ reads_as place scheme = record { scheme = scheme; text_of = text_of place }
 
 -- the same as those of the scheme that is asked for
 abbrev pub reads_of : VersionPlace → Reads
-reads_of place = reads_as place place.scheme
+reads_of place = reads_as place place.spelling.scheme
 
 -- the text that the lines of a group have in common: that of their column, and of all lines the
 -- empty one without a column

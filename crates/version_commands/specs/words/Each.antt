@@ -45,7 +45,7 @@ version_asked question naming = spelled (spelling_of question naming)
 -- where the version of a line stands: the whole line spells it
 abbrev pub place_of : Question → Naming → Bool → VersionPlace
 place_of question naming crlf =
-    record { crlf = crlf; column = None; naming = naming; scheme = scheme_of question }
+    record { crlf = crlf; column = None; spelling = spelling_of question naming }
 
 -- something holds of the version of the scheme mixed that a version is
 abbrev pub OfMixed : PlainAny → (PlainVersioning → Type 0) → Type 0

@@ -1,11 +1,10 @@
 //! The fault of lines that have no version.
 ghost use Rattle.std.specs.Prelude.{◌≡◌, [], None, string_bytes, IfErr, IfOk, OnOk};
 ghost use Rattle.version_commands.specs.lines.Arranged.{policy};
-ghost use Rattle.version_commands.specs.faults.Bad.{ends_in_return, scheme_at, Tells};
-ghost use Rattle.version_commands.specs.faults.Fault.{ComesOfBad};
+ghost use Rattle.version_commands.specs.faults.Fault.{ends_in_return, scheme_at, Tells, ComesOfBad};
 ghost use Rattle.version_answers.specs.message.Quote.{shown_front};
 
-use crate::faults::Fault;
+use crate::faults::TaskFault;
 use crate::files::inputs::ends_line;
 use crate::lines::by_schemes::scheme_in;
 use crate::lines::pick::BadLines;
@@ -88,7 +87,7 @@ pub fn refuse_bad<'w>(
     alloc: Global,
     options: &LineOptions<'_>,
     bad: &BadLines<'_>,
-) -> Result<(), Fault<'w>>
+) -> Result<(), TaskFault<'w>>
     ensures none { OnOk result (policy options.now ≡ Invalid.Fail → bad.now.lines.items ≡ []) }
     ensures faults { IfErr result (ComesOfBad (policy options.now) options.now.place options.now.scheme_column None
         options.now.header bad.now) }
@@ -120,7 +119,7 @@ pub fn refuse_first<'w>(
     file: Option<&'w str>,
     header: usize,
     bad: &BadLines<'_>,
-) -> Result<(), Fault<'w>>
+) -> Result<(), TaskFault<'w>>
     ensures none { OnOk result (bad.now.lines.items ≡ []) }
     ensures faults { IfErr result (ComesOfBad Invalid.Fail place.now schemes.entry file.entry header bad.now) }
 {
@@ -128,7 +127,7 @@ pub fn refuse_first<'w>(
         [] => Ok(()),
         [first, others @ ..] => {
             let (text, remark) = told(alloc, place, schemes, first)?;
-            Err(Fault::BadLine(Blamed {
+            Err(TaskFault::BadLine(Blamed {
                 number: header.saturating_add(bad.before).saturating_add(1),
                 file,
                 text,
@@ -153,8 +152,8 @@ fn told(
     match (scheme_at(place, schemes, line), text) {
         (Some(scheme), Some(text)) => {
             let spelling = Spelling {
-                naming: place.naming,
                 scheme,
+                ..place.spelling
             };
             Ok((front(alloc, text)?, spelling.remark(text)))
         }
@@ -179,7 +178,7 @@ pub fn scheme_at(
     ensures { result ≡ scheme_at place.now schemes.entry line.now }
 {
     match schemes {
-        None => Some(place.scheme),
+        None => Some(place.spelling.scheme),
         Some(column) => scheme_in(place, column, line),
     }
 }

@@ -2,10 +2,10 @@
 ghost use Rattle.std.specs.Prelude.{◌≡◌, ◌++◌, ◌∷◌, [], ℕ, List, true, false, length, map, IfErr, IfOk, OnOk};
 ghost use Rattle.std.specs.Io.KnownBytes.{Consumes, IsAtEnd};
 ghost use Rattle.version_commands.specs.faults.Fault.{not_read, ComesOfReading, ComesOfReadingOne, ComesOfStandard, ComesOfText};
-ghost use Rattle.version_commands.specs.files.Inputs.{ended, ends_line, is_open, is_standard, line_in, names_read, reads_standard, AreInputs, AreJoined, IsInput, IsLineIn};
+ghost use Rattle.version_commands.specs.Files.{ended, ends_line, is_open, is_standard, line_in, names_read, reads_standard, AreInputs, AreJoined, IsInput, IsLineIn};
 ghost use Rattle.version_lines.specs.Lines.{ends_quoted, lines_of};
 
-use crate::faults::Fault;
+use crate::faults::TaskFault;
 use crate::files::Files;
 use std::alloc::{AllocError, Global};
 use version_lines::{LineEnd, Source, Trouble, ends_quoted, read_all, read_onto, split_line};
@@ -27,7 +27,7 @@ pub fn read_inputs<'w, F: Files, R: Source>(
     end: LineEnd,
     files: &F,
     reader: &mut R,
-) -> Result<Inputs, Fault<'w>>
+) -> Result<Inputs, TaskFault<'w>>
     ensures input { IfOk result (λ inputs. (texts : List (List ℕ))
         × AreInputs (F.reads files.now) (R.remaining reader.old) (R.remaining reader.new)
         (names_read (map (λ name. name.now) names.now)) texts × AreJoined end texts inputs) }
@@ -50,7 +50,7 @@ fn read_after<'w, F: Files, R: Source>(
     end: LineEnd,
     files: &F,
     reader: &mut R,
-) -> Result<Inputs, Fault<'w>>
+) -> Result<Inputs, TaskFault<'w>>
     ensures input { IfOk result (λ inputs. (texts : List (List ℕ))
         × AreInputs (F.reads files.now) (R.remaining reader.old) (R.remaining reader.new)
         (map (λ name. name.now) names.now ++ last.now ∷ []) texts × AreJoined end texts inputs) }
@@ -77,7 +77,7 @@ pub fn read_input<'w, F: Files, R: Source>(
     end: LineEnd,
     files: &F,
     reader: &mut R,
-) -> Result<Vec<u8>, Fault<'w>>
+) -> Result<Vec<u8>, TaskFault<'w>>
     ensures input { IfOk result (λ input. (text : List ℕ)
         × IsInput (F.reads files.now) (R.remaining reader.old) (R.remaining reader.new) name.now text
         × (input.items ≡ ended end.byte text) × (is_open end text ≡ false)) }
@@ -134,7 +134,7 @@ fn add_input<'w, F: Files, R: Source>(
     files: &F,
     reader: &mut R,
     input: &mut Vec<u8>,
-) -> Result<(), Fault<'w>>
+) -> Result<(), TaskFault<'w>>
     ensures text { OnOk result ((text : List ℕ)
         × IsInput (F.reads files.now) (R.remaining reader.old) (R.remaining reader.new) name.now text
         × (input.new.items ≡ input.old.items ++ ended end.byte text) × (is_open end text ≡ false)) }
@@ -152,13 +152,13 @@ fn add_input<'w, F: Files, R: Source>(
 }
 
 // Fails with an input that ends within quotes, and with the line that they open in.
-fn refuse_open<'w>(name: &'w str, end: LineEnd, input: &[u8]) -> Result<(), Fault<'w>>
+fn refuse_open<'w>(name: &'w str, end: LineEnd, input: &[u8]) -> Result<(), TaskFault<'w>>
     ensures closed { OnOk result (ends_quoted end input.now ≡ false) }
     ensures open { IfErr result (λ fault. (ends_quoted end input.now ≡ true)
-        × (fault ≡ Fault.Unclosed name.entry (length (lines_of end input.now)))) }
+        × (fault ≡ TaskFault.Unclosed name.entry (length (lines_of end input.now)))) }
 {
     if ends_quoted(end, input) {
-        return Err(Fault::Unclosed(name, count_lines(end, input)));
+        return Err(TaskFault::Unclosed(name, count_lines(end, input)));
     }
     Ok(())
 }
@@ -178,7 +178,7 @@ fn add_text<'w, F: Files, R: Source>(
     files: &F,
     reader: &mut R,
     input: &mut Vec<u8>,
-) -> Result<(), Fault<'w>>
+) -> Result<(), TaskFault<'w>>
     ensures text { OnOk result ((text : List ℕ)
         × IsInput (F.reads files.now) (R.remaining reader.old) (R.remaining reader.new) name.now text
         × (input.new.items ≡ input.old.items ++ text)) }
@@ -199,7 +199,7 @@ fn add_text<'w, F: Files, R: Source>(
 }
 
 /// Reads standard input to its end.
-pub fn read_standard<'w, R: Source>(alloc: Global, reader: &mut R) -> Result<Vec<u8>, Fault<'w>>
+pub fn read_standard<'w, R: Source>(alloc: Global, reader: &mut R) -> Result<Vec<u8>, TaskFault<'w>>
     ensures input { IfOk result (λ input.
         Consumes (R.remaining reader.old) (R.remaining reader.new) input.items) }
     ensures end { OnOk result (IsAtEnd (R.remaining reader.new)) }
@@ -212,12 +212,12 @@ pub fn read_standard<'w, R: Source>(alloc: Global, reader: &mut R) -> Result<Vec
 }
 
 // Returns the fault of an input of this name that can't be read for this reason.
-fn not_read(name: &str, trouble: Trouble) -> Fault<'_>
+fn not_read(name: &str, trouble: Trouble) -> TaskFault<'_>
     ensures { result ≡ not_read name.entry trouble }
 {
     match trouble {
-        Trouble::Memory => Fault::Memory,
-        Trouble::System => Fault::Read(name),
+        Trouble::Memory => TaskFault::Memory,
+        Trouble::System => TaskFault::Read(name),
     }
 }
 

@@ -8,12 +8,11 @@ ghost use Rattle.version_commands.specs.words.Each.{HasSet};
 ghost use Rattle.version_answers.specs.Spelling.{spelled};
 ghost use Rattle.version_answers.specs.message.Remark.{IsRemark};
 ghost use Rattle.version_answers.specs.Tags.{begins_with_v, compare_otherwise, is_bare, is_tested_otherwise};
-ghost use Rattle.version_commands.specs.hints.Hint.{is_kept_otherwise};
-ghost use Rattle.version_commands.specs.hints.TaskHint.{IfTags, IsOfEach, MayTell};
+ghost use Rattle.version_commands.specs.Hints.{is_kept_otherwise, IfTags, IsOfEach, MayTell};
 ghost use Rattle.version_answers.specs.declared.message.remark.Remark.{Remark};
 ghost use Rattle.version_sets.specs.Form.{has};
 
-use crate::faults::Fault;
+use crate::faults::TaskFault;
 use crate::files::{Files, Hint};
 use crate::hints::of_lines::is_kept_otherwise;
 use crate::options::{EachOptions, Question};
@@ -127,12 +126,12 @@ fn tell_of_asked<F: Files>(question: Question<'_>, options: &EachOptions<'_>, se
 pub fn tell_of_next<T, F: Files>(
     question: Question<'_>,
     options: &EachOptions<'_>,
-    answered: &Result<T, Fault<'_>>,
+    answered: &Result<T, TaskFault<'_>>,
     files: &F,
 )
     requires hints { MayTell (IsOfEach question options.now) F.may_hint }
 {
-    if let (Question::Next(step), Err(Fault::NoNext(_))) = (question, answered) {
+    if let (Question::Next(step), Err(TaskFault::NoNext(_))) = (question, answered) {
         for word in &options.versions {
             if options.naming.is_bare() && has_next_in_tag(step, word.as_bytes()) {
                 files.hint(Hint::Tags);

@@ -13,6 +13,7 @@ use crate::lines::pick::Takes;
 use crate::lines::place::{ByVersion, column_text, line_text};
 use crate::options::{Arrangement, VersionPlace};
 use std::alloc::{AllocError, Global};
+use version_answers::Spelling;
 use version_lines::{Column, KeyedLines};
 use version_schemes::{AnyVersion, Scheme};
 
@@ -132,7 +133,13 @@ fn add_scheme<'a>(
         ++ arranged_as place.now column.entry arrangement.entry (map (λ line. line.now) lines.now) scheme) }
 {
     let by = ByVersion {
-        place: VersionPlace { scheme, ..*place },
+        place: VersionPlace {
+            spelling: Spelling {
+                scheme,
+                ..place.spelling
+            },
+            ..*place
+        },
         reverse: is_reversed(&arrangement),
     };
     let mut of_scheme = lines_of_scheme(alloc, by, column, lines)?;
@@ -153,7 +160,7 @@ fn lines_of_scheme<'w, 'a>(
     ensures read { IfOk result (AreRead (λ by. reads_of by.place)) }
     ensures by { IfOk result (λ of_scheme. of_scheme.by ≡ by.entry) }
     ensures lines { IfOk result (λ of_scheme. lines_in of_scheme
-        ≡ kept_lines (version_as by.entry.place column.entry by.entry.place.scheme) (λ v. true)
+        ≡ kept_lines (version_as by.entry.place column.entry by.entry.place.spelling.scheme) (λ v. true)
         (map (λ line. line.now) lines.now)) }
 {
     let mut of_scheme = KeyedLines::new(alloc, by, 0)?;
@@ -167,10 +174,10 @@ fn lines_of_scheme<'w, 'a>(
 
 // Returns the version of a line whose column names the scheme.
 fn version_as<'a>(by: &ByVersion<'_>, column: Column<'_>, line: &'a [u8]) -> Option<AnyVersion<'a>>
-    ensures { option_map plain_any result ≡ version_as by.now.place column.entry by.now.place.scheme line.now }
+    ensures { option_map plain_any result ≡ version_as by.now.place column.entry by.now.place.spelling.scheme line.now }
 {
     let named = scheme_in(&by.place, column, line)?;
-    if named.number() == by.place.scheme.number() {
+    if named.number() == by.place.spelling.scheme.number() {
         by.place.version(line)
     } else {
         None

@@ -5,7 +5,7 @@ ghost use Rattle.version_commands.specs.faults.Fault.{ComesOfSets};
 ghost use Rattle.version_schemes.specs.any.Order.{PlainAny};
 ghost use Rattle.version_schemes.specs.any.AnyVersion.{plain_any};
 
-use crate::faults::Fault;
+use crate::faults::TaskFault;
 use crate::lines::pick::Chooses;
 use crate::options::{Arrangement, Choice};
 use crate::words::word::set_of_word;
@@ -41,7 +41,7 @@ impl Chooser {
         scheme: Scheme,
         choice: &Choice<'w>,
         arrangement: &Arrangement<'w>,
-    ) -> Result<Chooser, Fault<'w>>
+    ) -> Result<Chooser, TaskFault<'w>>
         ensures ok { IfOk result (λ chooser.
             keeps_of scheme choice.now arrangement.now ≡ Some (is_kept chooser)) }
         ensures faults { IfErr result (ComesOfSets scheme (wrong_set scheme choice.now arrangement.now)) }
@@ -85,7 +85,7 @@ fn filter_of<'w>(
     alloc: Global,
     scheme: Scheme,
     arrangement: &Arrangement<'w>,
-) -> Result<Option<Filter>, Fault<'w>>
+) -> Result<Option<Filter>, TaskFault<'w>>
     ensures ok { IfOk result (λ filter. passes_of scheme arrangement.now ≡ Some (passes filter)) }
     ensures right { OnOk result (wrong_word scheme (filter_word arrangement.now) ≡ None) }
     ensures faults { IfErr result (ComesOfSets scheme (wrong_word scheme (filter_word arrangement.now))) }
@@ -107,7 +107,7 @@ fn wanted_of<'w>(
     alloc: Global,
     scheme: Scheme,
     word: Option<&'w str>,
-) -> Result<Option<Set>, Fault<'w>>
+) -> Result<Option<Set>, TaskFault<'w>>
     ensures ok { IfOk result (λ wanted. wanted_of scheme word.entry ≡ Some (is_wanted wanted)) }
     ensures faults { IfErr result (ComesOfSets scheme (wrong_word scheme word.entry)) }
 {
@@ -164,6 +164,10 @@ impl Chooses for Set {
 
     ghost keeps = { λ set. is_of (has set) };
 
+    fn keeps_all(&self) -> bool {
+        false
+    }
+
     fn keeps(&self, version: &AnyVersion<'_>) -> bool {
         self.has(version)
     }
@@ -173,6 +177,10 @@ impl Chooses for Chooser {
     ghost use Rattle.version_commands.specs.lines.Choice.{is_kept};
 
     ghost keeps = { λ chooser. is_kept chooser };
+
+    fn keeps_all(&self) -> bool {
+        Chooser::keeps_all(self)
+    }
 
     #[inline(always)]
     fn keeps(&self, version: &AnyVersion<'_>) -> bool {

@@ -1,29 +1,19 @@
 //! Columns that are asked for by their names in a header.
-ghost use Rattle.std.specs.Prelude.{◌≡◌, [], None, Some, IfErr, IfOk, IsSomeAnd, IsTrue, OnOk};
+ghost use Rattle.std.specs.Prelude.{◌≡◌, [], None, Some, IfErr, IsSomeAnd, OnOk};
 ghost use Rattle.version_commands.specs.lines.Header.{arrangement_by, by_name, first_unnamed, last_of, options_by, unless_named};
 ghost use Rattle.version_commands.specs.lines.Place.{line_text};
 ghost use Rattle.version_lines.specs.Lines.{lines_of};
 
-use crate::faults::Fault;
+use crate::faults::TaskFault;
 use crate::lines::place::line_text;
 use crate::options::{Arrangement, ColumnNames, LineOptions, VersionPlace};
-use std::alloc::{AllocError, Global};
 use version_lines::{Column, LineEnd, split_line};
 
 impl<'w> ColumnNames<'w> {
-    /// Whether no column is asked for by a name.
-    pub fn are_none(&self) -> bool
-        ensures version { IsTrue result → self.now.version ≡ None }
-        ensures group { IsTrue result → self.now.group ≡ None }
-        ensures scheme { IsTrue result → self.now.scheme ≡ None }
-    {
-        self.version.is_none() && self.group.is_none() && self.scheme.is_none()
-    }
-
     /// Fails with the first of the names of which a line has no column.
-    pub fn refuse_unnamed(&self, line: &[u8]) -> Result<(), Fault<'w>>
+    pub fn refuse_unnamed(&self, line: &[u8]) -> Result<(), TaskFault<'w>>
         ensures none { OnOk result (first_unnamed self.now line.now ≡ None) }
-        ensures faults { IfErr result (λ fault. IsSomeAnd (first_unnamed self.now line.now) (λ name. fault ≡ Fault.NoColumn name)) }
+        ensures faults { IfErr result (λ fault. IsSomeAnd (first_unnamed self.now line.now) (λ name. fault ≡ TaskFault.NoColumn name)) }
     {
         self.refuse(line, self.version)?;
         self.refuse(line, self.group)?;
@@ -31,16 +21,16 @@ impl<'w> ColumnNames<'w> {
     }
 
     // Fails with a name, if a line has no column of it.
-    fn refuse(&self, line: &[u8], name: Option<&'w str>) -> Result<(), Fault<'w>>
+    fn refuse(&self, line: &[u8], name: Option<&'w str>) -> Result<(), TaskFault<'w>>
         ensures none { OnOk result (unless_named self.now line.now name.entry ≡ None) }
-        ensures faults { IfErr result (λ fault. IsSomeAnd (unless_named self.now line.now name.entry) (λ name. fault ≡ Fault.NoColumn name)) }
+        ensures faults { IfErr result (λ fault. IsSomeAnd (unless_named self.now line.now name.entry) (λ name. fault ≡ TaskFault.NoColumn name)) }
     {
         let Some(name) = name else {
             return Ok(());
         };
         match self.first.named(name.as_bytes(), line) {
             Some(_) => Ok(()),
-            None => Err(Fault::NoColumn(name)),
+            None => Err(TaskFault::NoColumn(name)),
         }
     }
 
@@ -61,34 +51,23 @@ impl<'w> ColumnNames<'w> {
 }
 
 /// Returns the options with the columns of names in a line.
-pub fn options_by<'w>(
-    alloc: Global,
-    line: &[u8],
-    options: &LineOptions<'w>,
-) -> Result<LineOptions<'w>, AllocError>
-    ensures columns { IfOk result (λ made. made ≡ record (options_by line.now options.now) { files = made.files }) }
-    ensures files { IfOk result (λ made. made.files.items ≡ options.now.files.items) }
+pub fn options_by<'w>(line: &[u8], options: &LineOptions<'w>) -> LineOptions<'w>
+    ensures { result ≡ options_by line.now options.now }
 {
     let names = options.names;
-    Ok(LineOptions {
-        end: options.end,
-        header: options.header,
+    LineOptions {
+        arrangement: arrangement_by(line, &names, options.arrangement),
         place: VersionPlace {
             column: names.column(line, names.version, options.place.column),
             ..options.place
         },
         scheme_column: names.column(line, names.scheme, options.scheme_column),
-        names,
-        choice: options.choice,
-        invalid: options.invalid,
-        invalid_to: options.invalid_to,
-        progress: options.progress,
-        files: Vec::from_slice(alloc, options.files.as_slice())?,
-    })
+        ..*options
+    }
 }
 
-/// Returns what is written of lines, by the column of the name of groups in a line.
-pub fn arrangement_by<'w>(
+// Returns what is written of lines, by the column of the name of groups in a line.
+fn arrangement_by<'w>(
     line: &[u8],
     names: &ColumnNames<'w>,
     arrangement: Arrangement<'w>,

@@ -5,7 +5,7 @@ ghost use Rattle.version_commands.specs.faults.Fault.{ComesOfStandard};
 ghost use Rattle.version_commands.specs.lines.Label.{label_of, labelled, AreLabelled};
 ghost use Rattle.version_lines.specs.Lines.{answer_text};
 
-use crate::faults::Fault;
+use crate::faults::TaskFault;
 use crate::files::inputs::read_standard;
 use crate::lines::write::write_answers;
 use crate::options::Labels;
@@ -21,7 +21,7 @@ pub fn write_labels<'w, R: Source, W: Write>(
     labels: Labels,
     reader: &mut R,
     writer: &mut W,
-) -> Result<(), Fault<'w>>
+) -> Result<(), TaskFault<'w>>
     ensures { Ends (AreLabelled labels (R.remaining reader.old) (R.remaining reader.new))
         (ComesOfStandard (R.may_fail reader.old)) (W.contents writer.old) (W.contents writer.new) result }
 {

@@ -1,11 +1,10 @@
 //! The lines of standard input that a list of requirements matches.
 ghost use Rattle.std.specs.Prelude.{◌≡◌};
-ghost use Rattle.version_commands.specs.faults.Early.{IfOfWord};
-ghost use Rattle.version_commands.specs.faults.Ends.{Ends};
+ghost use Rattle.version_commands.specs.faults.Ends.{IfOfWord, Ends};
 ghost use Rattle.version_commands.specs.faults.Fault.{ComesOfMatching};
 ghost use Rattle.version_commands.specs.lines.Matched.{AreMatched};
 
-use crate::faults::Fault;
+use crate::faults::TaskFault;
 use crate::files::inputs::read_standard;
 use crate::lines::write::{whole_if, write_answers};
 use std::alloc::Global;
@@ -19,13 +18,13 @@ pub fn write_matched<'w, R: Source, W: Write>(
     word: &'w str,
     reader: &mut R,
     writer: &mut W,
-) -> Result<(), Fault<'w>>
+) -> Result<(), TaskFault<'w>>
     ensures ends { Ends (AreMatched word.now (R.remaining reader.old) (R.remaining reader.new))
         (ComesOfMatching word.now (R.may_fail reader.old)) (W.contents writer.old) (W.contents writer.new) result }
     ensures early { IfOfWord (reader.new ≡ reader.old) result }
 {
     let Some(list) = RequirementsRef::new(word) else {
-        return Err(Fault::NotRequirement(word));
+        return Err(TaskFault::NotRequirement(word));
     };
     let input = read_standard(alloc, reader)?;
     write_answers(

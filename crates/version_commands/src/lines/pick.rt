@@ -1,5 +1,5 @@
 //! Which lines of an input are kept, and which have no version.
-ghost use Rattle.std.specs.Prelude.{◌≡◌, ◌<◌, ◌≤◌, ◌+◌, ◌^◌, ◌++◌, ◌∷◌, ℕ, Bool, List, [], false, true, Some, IfOk, OnOk};
+ghost use Rattle.std.specs.Prelude.{◌≡◌, ◌<◌, ◌≤◌, ◌+◌, ◌^◌, ◌++◌, ◌∷◌, ℕ, Bool, List, [], false, true, Some, IfOk, IsTrue, OnOk};
 ghost use Rattle.std.specs.Option.{option_map};
 ghost use Rattle.version_commands.specs.lines.Picked.{is_bad, kept_lines, AreBadOf, Versions};
 ghost use Rattle.version_lines.specs.Lines.{lines_of};
@@ -15,6 +15,10 @@ pub trait Chooses {
     // Whether a version is kept.
     ghost keeps: { Self → PlainAny → Bool };
 
+    /// Whether each version is kept, as where nothing is asked.
+    fn keeps_all(&self) -> bool
+        ensures { IsTrue result → (v : PlainAny) → keeps self.now v ≡ true };
+
     /// Returns whether a version is kept.
     fn keeps(&self, version: &AnyVersion<'_>) -> bool
         ensures { result ≡ keeps self.now (plain_any version.now) };
@@ -28,6 +32,10 @@ impl Chooses for EveryVersion {
     ghost use Rattle.std.specs.Prelude.{true};
 
     ghost keeps = { λ _ _. true };
+
+    fn keeps_all(&self) -> bool {
+        true
+    }
 
     #[inline(always)]
     fn keeps(&self, _version: &AnyVersion<'_>) -> bool {

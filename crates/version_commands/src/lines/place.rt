@@ -7,7 +7,7 @@ ghost use Rattle.version_schemes.specs.any.AnyVersion.{plain_any};
 ghost use Rattle.version_schemes.specs.declared.scheme.Scheme.TheVariants.{Mixed};
 
 use crate::options::VersionPlace;
-use version_answers::Naming;
+use version_answers::{Naming, Spelling};
 use version_lines::{Column, GroupBy, SortBy};
 use version_schemes::{AnyVersion, Scheme};
 
@@ -21,8 +21,10 @@ impl VersionPlace<'_> {
             VersionPlace {
                 crlf: false,
                 column: None,
-                naming: Naming::Bare,
-                scheme: Scheme::Mixed,
+                spelling: Spelling {
+                    naming: Naming::Bare,
+                    scheme: Scheme::Mixed,
+                },
             }
         )
     }
@@ -33,7 +35,7 @@ impl VersionPlace<'_> {
     pub fn text<'a>(&self, line: &'a [u8]) -> &'a [u8]
         ensures { result.now ≡ text_of self.now line.now }
     {
-        self.naming.text(self.place_text(line))
+        self.spelling.naming.text(self.place_text(line))
     }
 
     /// Returns the version of a line: the one that this text is.
@@ -41,7 +43,7 @@ impl VersionPlace<'_> {
     pub fn version<'a>(&self, line: &'a [u8]) -> Option<AnyVersion<'a>>
         ensures { option_map plain_any result ≡ version_in (reads_of self.now) line.now }
     {
-        AnyVersion::read(self.scheme, self.text(line))
+        self.spelling.version(self.place_text(line))
     }
 
     // Returns the text that names the version of a line.

@@ -2,18 +2,19 @@
 ghost use Rattle.std.specs.Prelude.{◌≡◌, ◌++◌, [], ℕ, List, map, if◌then◌else◌, IfErr, IfOk, OnErr, OnOk};
 ghost use Rattle.std.specs.Io.KnownBytes.{Appends};
 ghost use Rattle.version_commands.specs.lines.Arranged.{placed, policy};
-ghost use Rattle.version_commands.specs.faults.Early.{UnlessLate};
 ghost use Rattle.version_commands.specs.faults.Ends.{Ends};
 ghost use Rattle.version_commands.specs.faults.Fault.{ComesOfPut};
-ghost use Rattle.version_commands.specs.files.Files.{AltersAtMost, Leaves};
+ghost use Rattle.version_commands.specs.Files.{AltersAtMost, Leaves};
+ghost use Rattle.version_commands.specs.lines.LineRun.{Finishes};
 ghost use Rattle.version_commands.specs.lines.Ordered.{bad_file, put_of, IsPlaced};
 ghost use Rattle.version_lines.specs.Lines.{answer_text, lines_output, output_by, whole_line, AppendsProperBeginning, AppendsUpTo};
 
-use crate::faults::Fault;
+use crate::faults::TaskFault;
 use crate::faults::bad::policy;
 use crate::files::Files;
 use crate::lines::pick::BadLines;
 use crate::lines::rows::{Rows, put_rows};
+use crate::lines::run::LineRun;
 use crate::options::{Invalid, LineOptions};
 use std::alloc::{AllocError, Global};
 use std::io::Write;
@@ -21,35 +22,34 @@ use version_lines::{
     Answer, LineCommand, LineEnd, NotWritten, Trouble, answer_lines, make_buffer, write_whole,
 };
 
-/// Writes the lines in their order behind a head, with those that have no version before or after them, or into the
-/// file for these. All memory is taken before anything is written.
-pub fn write_lines<'w, L: Rows, F: Files, W: Write>(
-    alloc: Global,
-    options: &LineOptions<'w>,
-    head: &[u8],
-    bad: &BadLines<'_>,
-    rows: &L,
-    files: &mut F,
-    writer: &mut W,
-) -> Result<(), Fault<'w>>
-    ensures ends { Ends (IsPlaced options.now head.now (map (λ line. line.now) bad.now.lines.items)
-        (L.lines rows.now) (Leaves F.puts files.old files.new)) (ComesOfPut options.now (F.refuses files.old))
-        (W.contents writer.old) (W.contents writer.new) result }
-    ensures files { AltersAtMost F.alters (bad_file options.now) files.old files.new }
-    ensures kept { UnlessLate (files.new ≡ files.old) result }
-{
-    let mut buffer = make_buffer(alloc)?;
-    buffer.extend_from_slice(head)?;
-    put_bad(alloc, options, bad, files)?;
-    write_placed(
-        policy(options),
-        options.end.byte,
-        bad,
-        rows,
-        writer,
-        &mut buffer,
-    )?;
-    Ok(())
+impl<'w, C> LineRun<'_, 'w, C> {
+    /// Writes the lines in their order behind the head, with those that have no version before or after them, or into the
+    /// file for these. All memory is taken before anything is written.
+    pub fn write_lines<L: Rows, F: Files, W: Write>(
+        &self,
+        bad: &BadLines<'_>,
+        rows: &L,
+        files: &mut F,
+        writer: &mut W,
+    ) -> Result<(), TaskFault<'w>>
+        ensures { Finishes F.puts F.refuses F.alters files.old files.new (W.contents writer.old) (W.contents writer.new)
+            self.now.options (IsPlaced self.now.options self.now.input.head.now (map (λ line. line.now) bad.now.lines.items)
+            (L.lines rows.now)) (ComesOfPut self.now.options) result }
+    {
+        let options = &self.options;
+        let mut buffer = make_buffer(self.alloc)?;
+        buffer.extend_from_slice(self.input.head)?;
+        put_bad(self.alloc, options, bad, files)?;
+        write_placed(
+            policy(options),
+            options.end.byte,
+            bad,
+            rows,
+            writer,
+            &mut buffer,
+        )?;
+        Ok(())
+    }
 }
 
 // Writes what is in the buffer, and the lines in their order.
@@ -120,7 +120,7 @@ fn put_bad<'w, F: Files>(
     options: &LineOptions<'w>,
     bad: &BadLines<'_>,
     files: &mut F,
-) -> Result<(), Fault<'w>>
+) -> Result<(), TaskFault<'w>>
     ensures put { OnOk result (Leaves F.puts files.old files.new
         (put_of options.now (map (λ line. line.now) bad.now.lines.items))) }
     ensures files { AltersAtMost F.alters (bad_file options.now) files.old files.new }
@@ -132,8 +132,8 @@ fn put_bad<'w, F: Files>(
     let bytes = joined_lines(alloc, options.end.byte, bad.lines.as_slice())?;
     match files.put(name, bytes.as_slice()) {
         Ok(()) => Ok(()),
-        Err(Trouble::Memory) => Err(Fault::Memory),
-        Err(Trouble::System) => Err(Fault::Write(Some(name))),
+        Err(Trouble::Memory) => Err(TaskFault::Memory),
+        Err(Trouble::System) => Err(TaskFault::Write(Some(name))),
     }
 }
 
@@ -158,9 +158,9 @@ pub fn write_answers<'w, C: LineCommand, W: Write>(
     end: LineEnd,
     input: &[u8],
     writer: &mut W,
-) -> Result<(), Fault<'w>>
+) -> Result<(), TaskFault<'w>>
     ensures { Ends (λ output. output ≡ output_by end (C.line_output command.now end.byte) input.now)
-        (λ fault. fault ≡ Fault.Memory) (W.contents writer.old) (W.contents writer.new) result }
+        (λ fault. fault ≡ TaskFault.Memory) (W.contents writer.old) (W.contents writer.new) result }
 {
     let mut buffer = make_buffer(alloc)?;
     answer_lines(command, end, input, writer, &mut buffer)?;
@@ -181,7 +181,7 @@ pub fn whole_if(kept: bool) -> Answer
 }
 
 /// Writes an answer that was gathered.
-pub fn write_answer<'w, W: Write>(writer: &mut W, answer: &[u8]) -> Result<(), Fault<'w>>
+pub fn write_answer<'w, W: Write>(writer: &mut W, answer: &[u8]) -> Result<(), TaskFault<'w>>
     ensures { Ends (λ output. output ≡ answer.now) (λ _. ⊥)
         (W.contents writer.old) (W.contents writer.new) result }
 {

@@ -3,15 +3,15 @@ ghost use Rattle.std.specs.Prelude.{◌≡◌, ◌==◌, ◌<◌, ◌++◌, ◌�
 ghost use Rattle.std.specs.Io.KnownBytes.{Consumes, IsAtEnd};
 ghost use Rattle.version_commands.specs.faults.Cause.{ComesOfAnswering, ComesOfAsking, ComesOfQuestion};
 ghost use Rattle.version_commands.specs.declared.words.each.Answers.{Answers};
-ghost use Rattle.version_commands.specs.faults.Early.{is_of_word, IfOfWord};
+ghost use Rattle.version_commands.specs.faults.Ends.{is_of_word, IfOfWord};
 ghost use Rattle.version_commands.specs.words.Each.{are_versions, others_among, place_of, scheme_of, spelling_of, version_asked, versions_among, AreAnswered, HasSet, HaveAnswered, IsAnswer, IsAnswered, IsAsked, IsHead};
-ghost use Rattle.version_commands.specs.hints.TaskHint.{IsOfEach, MayTell};
+ghost use Rattle.version_commands.specs.Hints.{IsOfEach, MayTell};
 ghost use Rattle.version_answers.specs.Pieces.{Adds};
 ghost use Rattle.version_commands.specs.lines.Place.{line_text};
 ghost use Rattle.version_lines.specs.Lines.{lines_of, plain_end};
 ghost use Rattle.version_schemes.specs.any.AnyVersion.{plain_any};
 
-use crate::faults::Fault;
+use crate::faults::TaskFault;
 use crate::faults::bad::refuse_first;
 use crate::files::Files;
 use crate::files::inputs::read_standard;
@@ -45,7 +45,7 @@ pub fn answer_each<'w, F: Files, R: Source>(
     options: &EachOptions<'w>,
     files: &F,
     reader: &mut R,
-) -> Result<Answered<'w>, Fault<'w>>
+) -> Result<Answered<'w>, TaskFault<'w>>
     requires hints { MayTell (IsOfEach question options.now) F.may_hint }
     ensures output { IfOk result (λ answered. IsAnswered question.entry options.now
         (R.remaining reader.old) (R.remaining reader.new) answered.output.items) }
@@ -77,21 +77,21 @@ pub fn answer_each<'w, F: Files, R: Source>(
 
 // What stands before the answers, and what a question about a set needs for each: the set, and room for its members.
 #[derive(Drop)]
-struct Asked {
+struct Prepared {
     head: Vec<u8>,
     set: Option<Set>,
     room: Vec<u8>,
 }
 
 // Reads the set that a question is about, if it is about one. It fails if the word is none.
-fn ask<'w>(alloc: Global, question: Question<'w>, end: u8) -> Result<Asked, Fault<'w>>
+fn ask<'w>(alloc: Global, question: Question<'w>, end: u8) -> Result<Prepared, TaskFault<'w>>
     ensures head { IfOk result (λ asked. IsHead question.entry end asked.head.items) }
     ensures set { IfOk result (λ asked. HasSet question.entry asked.set) }
     ensures faults { IfErr result (ComesOfQuestion question.entry) }
 {
     let mut head = Vec::new(alloc);
     let Question::Why(scheme, word) = question else {
-        return Ok(Asked {
+        return Ok(Prepared {
             head,
             set: None,
             room: Vec::new(alloc),
@@ -99,7 +99,7 @@ fn ask<'w>(alloc: Global, question: Question<'w>, end: u8) -> Result<Asked, Faul
     };
     let set = set_of_word(alloc, scheme, word)?;
     add_head(word.as_bytes(), set.has_any(), end, &mut head)?;
-    Ok(Asked {
+    Ok(Prepared {
         head,
         set: Some(set),
         room: room_of(alloc, scheme, word.as_bytes())?,
@@ -112,9 +112,9 @@ fn answer_words<'w, F: Files>(
     question: Question<'w>,
     options: &EachOptions<'w>,
     words: &[&'w str],
-    asked: Asked,
+    asked: Prepared,
     files: &F,
-) -> Result<Answered<'w>, Fault<'w>>
+) -> Result<Answered<'w>, TaskFault<'w>>
     requires set { HasSet question asked.set }
     requires words { words.now ≡ options.now.versions.items }
     requires some { 0 < length words.now }
@@ -150,7 +150,7 @@ fn answer_words<'w, F: Files>(
     match words {
         [before @ .., last] if others.len() == words.len() => {
             tell_others(&spelling, before, files);
-            Err(Fault::NotVersion(last, spelling.remark(last.as_bytes())))
+            Err(TaskFault::NotVersion(last, spelling.remark(last.as_bytes())))
         }
         _ => answers.finish(others),
     }
@@ -170,9 +170,9 @@ fn answer_lines<'w>(
     alloc: Global,
     question: Question<'w>,
     options: &EachOptions<'w>,
-    asked: Asked,
+    asked: Prepared,
     input: &[u8],
-) -> Result<Answered<'w>, Fault<'w>>
+) -> Result<Answered<'w>, TaskFault<'w>>
     requires set { HasSet question asked.set }
     requires words { options.now.versions.items ≡ [] }
     ensures answers { IfOk result (λ answered. Adds (AreAnswered question.entry options.now.naming options.now.end
@@ -251,7 +251,7 @@ impl<'a> Answers<'_, 'a> {
     }
 
     // Returns all of them, and the words that were left out. It fails with the first text that has none.
-    fn finish<'w>(self, others: Vec<&'w str>) -> Result<Answered<'w>, Fault<'w>>
+    fn finish<'w>(self, others: Vec<&'w str>) -> Result<Answered<'w>, TaskFault<'w>>
         ensures answers { IfOk result (λ answered. (first : Answers) → (texts : List (List ℕ))
             → HaveAnswered first self.entry texts
             → Adds (AreAnswered first.question first.naming first.end texts) first.output.items answered.output.items) }
@@ -265,7 +265,7 @@ impl<'a> Answers<'_, 'a> {
                 output: self.output,
                 others,
             }),
-            Some(text) => Err(Fault::NoNext(quoted(self.alloc, text)?)),
+            Some(text) => Err(TaskFault::NoNext(quoted(self.alloc, text)?)),
         }
     }
 }
@@ -348,8 +348,7 @@ impl<'w> Question<'w> {
         VersionPlace {
             crlf,
             column: None,
-            naming,
-            scheme: self.scheme(),
+            spelling: self.spelling(naming),
         }
     }
 

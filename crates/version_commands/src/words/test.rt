@@ -3,12 +3,12 @@
 ghost use Rattle.std.specs.Prelude.{◌≡◌, ◌∷◌, [], Bool, Some, true, IfErr, IfOk};
 ghost use Rattle.version_commands.specs.faults.Fault.{first_wrong, ComesOfTestOfSet, ComesOfTestOfSets, ComesOfTestOfTwo};
 ghost use Rattle.version_answers.specs.Tags.{is_bare, is_tested_otherwise};
-ghost use Rattle.version_commands.specs.hints.TaskHint.{HasOtherwise, IfTags, MayTell};
+ghost use Rattle.version_commands.specs.Hints.{HasOtherwise, IfTags, MayTell};
 ghost use Rattle.version_answers.specs.Spelling.{spelled};
 ghost use Rattle.version_commands.specs.words.Test.{answer_line, answer_of_set, answer_of_two, AreSetsSo};
 ghost use Rattle.version_sets.specs.Form.{IsPart, Meet};
 
-use crate::faults::Fault;
+use crate::faults::TaskFault;
 use crate::files::Files;
 use crate::hints::of_words::{tell_of_set, tell_of_test};
 use crate::words::word::{tested_set, tested_version};
@@ -24,7 +24,7 @@ pub(crate) fn test_two<'w, F: Files>(
     operator: Operator,
     second: &'w str,
     files: &F,
-) -> Result<bool, Fault<'w>>
+) -> Result<bool, TaskFault<'w>>
     requires hints { MayTell (IfTags ((answer : Bool)
         × (answer_of_two spelling.now operator first.now second.now ≡ Some answer) × (is_bare spelling.now.naming ≡ true)
         × (is_tested_otherwise spelling.now.scheme first.now operator second.now answer ≡ true))) F.may_hint }
@@ -45,7 +45,7 @@ pub(crate) fn test_set<'w, F: Files>(
     word: &'w str,
     set: &'w str,
     files: &F,
-) -> Result<bool, Fault<'w>>
+) -> Result<bool, TaskFault<'w>>
     requires hints { MayTell (IfTags (HasOtherwise spelling.now.naming spelling.now.scheme set.now (word ∷ []))) F.may_hint }
     ensures answer { IfOk result (λ yes. answer_of_set spelling.now word.now set.now ≡ Some yes) }
     ensures faults { IfErr result (ComesOfTestOfSet spelling.now word.now set.now) }
@@ -62,7 +62,7 @@ pub(crate) fn implies<'w>(
     scheme: Scheme,
     one: &'w str,
     other: &'w str,
-) -> Result<bool, Fault<'w>>
+) -> Result<bool, TaskFault<'w>>
     ensures answer { IfOk result (λ yes. AreSetsSo scheme (IsPart yes) one.now other.now) }
     ensures faults { IfErr result (ComesOfTestOfSets scheme one.now other.now) }
 {
@@ -77,7 +77,7 @@ pub(crate) fn meets<'w>(
     scheme: Scheme,
     one: &'w str,
     other: &'w str,
-) -> Result<bool, Fault<'w>>
+) -> Result<bool, TaskFault<'w>>
     ensures answer { IfOk result (λ yes. AreSetsSo scheme (Meet yes) one.now other.now) }
     ensures faults { IfErr result (ComesOfTestOfSets scheme one.now other.now) }
 {

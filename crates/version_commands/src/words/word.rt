@@ -9,7 +9,7 @@ ghost use Rattle.version_schemes.specs.any.AnyVersion.{plain_any};
 ghost use Rattle.version_sets.specs.Form.{has};
 ghost use Rattle.version_texts.specs.VersioningRef.{plain_versioning_ref};
 
-use crate::faults::Fault;
+use crate::faults::TaskFault;
 use std::alloc::Global;
 use version_answers::{Naming, Set, Spelling};
 use version_schemes::{AnyVersion, Scheme};
@@ -19,18 +19,21 @@ use version_texts::VersioningRef;
 pub fn version_of_word<'w>(
     spelling: &Spelling<'_>,
     word: &'w str,
-) -> Result<AnyVersion<'w>, Fault<'w>>
+) -> Result<AnyVersion<'w>, TaskFault<'w>>
     ensures ok { IfOk result (λ v. spelled spelling.now word.now ≡ Some (plain_any v)) }
     ensures faults { IfErr result (ComesOfWords spelling.now (unless_version (spelled spelling.now) word.now)) }
 {
     match spelling.version(word.as_bytes()) {
         Some(version) => Ok(version),
-        None => Err(Fault::NotVersion(word, spelling.remark(word.as_bytes()))),
+        None => Err(TaskFault::NotVersion(word, spelling.remark(word.as_bytes()))),
     }
 }
 
 /// The same of the scheme mixed.
-pub fn mixed_of_word<'w>(naming: &Naming<'_>, word: &'w str) -> Result<VersioningRef<'w>, Fault<'w>>
+pub fn mixed_of_word<'w>(
+    naming: &Naming<'_>,
+    word: &'w str,
+) -> Result<VersioningRef<'w>, TaskFault<'w>>
     ensures ok { IfOk result (λ v. spelled_mixed naming.now word.now ≡ Some (plain_versioning_ref v)) }
     ensures faults { IfErr result (ComesOfWords (mixed_spelling naming.now) (unless_version (spelled_mixed naming.now) word.now)) }
 {
@@ -38,7 +41,7 @@ pub fn mixed_of_word<'w>(naming: &Naming<'_>, word: &'w str) -> Result<Versionin
         Some(version) => Ok(version),
         None => {
             let remark = naming.mixed_spelling().remark(word.as_bytes());
-            Err(Fault::NotVersion(word, remark))
+            Err(TaskFault::NotVersion(word, remark))
         }
     }
 }
@@ -47,30 +50,30 @@ pub fn mixed_of_word<'w>(naming: &Naming<'_>, word: &'w str) -> Result<Versionin
 pub fn tested_version<'w>(
     spelling: &Spelling<'_>,
     word: &'w str,
-) -> Result<AnyVersion<'w>, Fault<'w>>
+) -> Result<AnyVersion<'w>, TaskFault<'w>>
     ensures ok { IfOk result (λ v. spelled spelling.now word.now ≡ Some (plain_any v)) }
     ensures word { IfErr result (λ fault. (remark : Option Remark)
-        × (fault ≡ Fault.NotTested word.entry remark) × (spelled spelling.now word.now ≡ None)
+        × (fault ≡ TaskFault.NotTested word.entry remark) × (spelled spelling.now word.now ≡ None)
         × IsRemark spelling.now word.now remark) }
 {
     match spelling.version(word.as_bytes()) {
         Some(version) => Ok(version),
-        None => Err(Fault::NotTested(word, spelling.remark(word.as_bytes()))),
+        None => Err(TaskFault::NotTested(word, spelling.remark(word.as_bytes()))),
     }
 }
 
 /// Reads a word as a set of a scheme. Otherwise the fault has the word, and why it is none.
-pub fn set_of_word<'w>(alloc: Global, scheme: Scheme, word: &'w str) -> Result<Set, Fault<'w>>
+pub fn set_of_word<'w>(alloc: Global, scheme: Scheme, word: &'w str) -> Result<Set, TaskFault<'w>>
     ensures ok { IfOk result (λ set. keys_of scheme word.now ≡ Some (has set)) }
     ensures faults { IfErr result (ComesOfSet scheme word.now) }
 {
-    Set::read(alloc, scheme, word)?.map_err(Fault::NotSet)
+    Set::read(alloc, scheme, word)?.map_err(TaskFault::NotSet)
 }
 
 /// The same for a task that answers by its status.
-pub fn tested_set<'w>(alloc: Global, scheme: Scheme, word: &'w str) -> Result<Set, Fault<'w>>
+pub fn tested_set<'w>(alloc: Global, scheme: Scheme, word: &'w str) -> Result<Set, TaskFault<'w>>
     ensures ok { IfOk result (λ set. keys_of scheme word.now ≡ Some (has set)) }
     ensures faults { IfErr result (ComesOfTestedSet scheme word.now) }
 {
-    Set::read(alloc, scheme, word)?.map_err(Fault::NotTestedSet)
+    Set::read(alloc, scheme, word)?.map_err(TaskFault::NotTestedSet)
 }

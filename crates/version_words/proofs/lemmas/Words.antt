@@ -52,7 +52,7 @@ unsaid-in (Some (command, rows)) text is = unsaid command rows text is
 
 module _ (words : List (List ℕ)) where
   meant : (task : Task) → faults words ≡ [] → IsTaskIn (command_of words) task → Means words task
-  meant (Lines arrangement options) right is = (right, is)
+  meant (Lines options files) right is = (right, is)
   meant (Each question options) right is = (right, is)
   meant (TestTwo scheme first operator second) right is = (right, is)
   meant (TestSet scheme version set) right is = (right, is)
@@ -70,7 +70,7 @@ module _ (words : List (List ℕ)) where
   shown : (task : Task) (kind : ErrorKind) → (shows kind ≡ true → HasAnswer true (faults words))
       → Shows kind task → Means words task
   shown (Say text) kind answers (is, has_text) = (answers is, has_text)
-  shown (Lines arrangement options) kind answers never = absurd never
+  shown (Lines options files) kind answers never = absurd never
   shown (Each question options) kind answers never = absurd never
   shown (TestTwo scheme first operator second) kind answers never = absurd never
   shown (TestSet scheme version set) kind answers never = absurd never

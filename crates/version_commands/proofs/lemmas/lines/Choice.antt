@@ -4,8 +4,8 @@ use Rattle.std.specs.Option.{option_or}
 use Rattle.version_commands.specs.lines.Choice.{wrong_word}
 use Rattle.version_commands.specs.faults.Fault.{ComesOfSet, ComesOfSets}
 use Rattle.version_answers.specs.Sets.{keys_of, reading_of}
-use Rattle.version_commands.specs.declared.faults.Fault.{Fault}
-use Rattle.version_commands.specs.declared.faults.Fault.TheVariants.{NotVersion, NotRequirement, NotSet, NotTested, NotTestedSet, BadLine, NoNext, NoColumn, Unclosed, Memory, Read, Write}
+use Rattle.version_commands.specs.declared.faults.TaskFault.{TaskFault}
+use Rattle.version_commands.specs.declared.faults.TaskFault.TheVariants.{NotVersion, NotRequirement, NotSet, NotTested, NotTestedSet, BadLine, NoNext, NoColumn, Unclosed, Memory, Read, Write}
 use Rattle.version_schemes.specs.declared.scheme.Scheme.{Scheme}
 use Rattle.version_sets.specs.Reading.{Reading, Right, Wrong, fault_of}
 use Rattle.version_sets.specs.declared.read.fault.Reason.{Reason}
@@ -20,7 +20,7 @@ wrong_none scheme word fault is = by (reading_of scheme word) refl
     by (Right first others) read = cc (rw read at is)
 
 -- the fault of a word
-pub of_word : (scheme : Scheme) (word : Bor (List ℕ)) (fault : Fault) → ComesOfSet scheme word.now fault
+pub of_word : (scheme : Scheme) (word : Bor (List ℕ)) (fault : TaskFault) → ComesOfSet scheme word.now fault
     → ComesOfSets scheme (wrong_word scheme (Some word)) fault
 of_word scheme word (NotSet wrong) comes =
     rw (wrong_none scheme word.now (wrong.place, wrong.reason) comes.fault_is) comes
@@ -37,7 +37,7 @@ of_word scheme word (Read name) comes = absurd comes
 of_word scheme word (Write name) comes = absurd comes
 
 -- is that of this word and another
-pub of_first : (scheme : Scheme) (one other : Option (List ℕ)) (fault : Fault) → ComesOfSets scheme one fault
+pub of_first : (scheme : Scheme) (one other : Option (List ℕ)) (fault : TaskFault) → ComesOfSets scheme one fault
     → ComesOfSets scheme (option_or one other) fault
 of_first scheme (Some word) other fault comes = comes
 of_first scheme None other (NotSet wrong) comes = absurd comes

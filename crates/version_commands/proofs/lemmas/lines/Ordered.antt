@@ -1,34 +1,31 @@
 -- The lines that are written, in their order.
-use Rattle.std.proofs.Common.{◌≡◌, ◌++◌, ◌∷◌, List, [], ℕ, Bool, true, false, Option, None, Some, flat_map, map, refl, subst, sym, ap, Bor, arith}
-use Rattle.version_commands.specs.lines.Arranged.{policy}
+use Rattle.std.proofs.Common.{◌≡◌, ◌∙◌, ◌++◌, ◌∷◌, List, [], ℕ, Bool, true, false, Option, None, Some, Result, flat_map, map, refl, subst, sym, ap, Bor, arith}
+use Rattle.version_commands.specs.Files.{Leaves, counts_before_last, is_open, joined, names_read, AreInputs, Reading}
+use Rattle.version_commands.specs.lines.Arranged.{arranged, policy}
+use Rattle.version_commands.specs.lines.LineRun.{Arranges, Finishes}
+use Rattle.version_commands.proofs.lemmas.Faults.{ends-weaker}
+use Rattle.version_commands.specs.declared.lines.pick.BadLines.{BadLines}
+use Rattle.version_commands.specs.declared.lines.run.Input.{Input}
 use Rattle.version_commands.specs.faults.Cause.{ComesOfArranged, ComesOfArranging, ComesOfInput, IsInItsFile}
-use Rattle.version_commands.specs.lines.Choice.{is_kept, keeps_of}
+use Rattle.version_commands.specs.lines.Choice.{keeps_of}
 use Rattle.version_commands.specs.faults.Fault.{ComesOfPut}
-use Rattle.version_commands.specs.files.Inputs.{counts_before_last, is_open, joined, names_read, AreInputs, Reading}
-use Rattle.version_commands.proofs.lemmas.files.Inputs.{texts-apart}
+use Rattle.version_commands.proofs.lemmas.Files.{texts-apart}
 use Rattle.std.specs.List.{list_any}
 use Rattle.version_commands.specs.lines.Ordered.{arranged_in, kept_in, kept_line, IsArranged, IsArrangedIn, IsOrdered, IsPlaced}
 use Rattle.version_commands.specs.lines.Picked.{Versions, bad_lines, has, kept_lines}
-use Rattle.version_commands.specs.lines.Place.{reads_of}
+use Rattle.version_commands.specs.lines.Place.{group_text, reads_of}
 use Rattle.version_commands.specs.declared.faults.bad.Blamed.{Blamed}
-use Rattle.version_commands.specs.declared.lines.choice.Chooser.{Chooser}
-use Rattle.version_commands.specs.declared.faults.Fault.{Fault}
-use Rattle.version_commands.specs.declared.faults.Fault.TheVariants.{NotVersion, NotRequirement, NotSet, NotTested, NotTestedSet, BadLine, NoNext, NoColumn, Unclosed, Memory, Read, Write}
+use Rattle.version_commands.specs.declared.faults.TaskFault.{TaskFault}
+use Rattle.version_commands.specs.declared.faults.TaskFault.TheVariants.{NotVersion, NotRequirement, NotSet, NotTested, NotTestedSet, BadLine, NoNext, NoColumn, Unclosed, Memory, Read, Write}
 use Rattle.version_commands.specs.declared.options.Arrangement.{Arrangement}
+use Rattle.version_commands.specs.declared.options.Arrangement.TheVariants.{Filter}
 use Rattle.version_commands.specs.declared.options.Invalid.TheVariants.{Fail, Skip}
 use Rattle.version_commands.specs.declared.options.LineOptions.{LineOptions}
 use Rattle.version_lines.specs.Lines.{lines_of, lines_output, output_by, whole_line}
+use Rattle.version_lines.specs.Sort.{Reads, version_in}
 use Rattle.version_lines.proofs.lemmas.Sorting.{by_test}
 use Rattle.version_schemes.specs.any.Order.{PlainAny}
 use Rattle.version_schemes.specs.declared.scheme.Scheme.TheVariants.{Mixed}
-
--- the lines without a version that were found, and those that stand in order, are those of the input
-pub is-arranged : (versions : Versions) (options : LineOptions) (head input : List ℕ)
-    (bad rows lines : List (List ℕ)) (leaves : Option (List ℕ × List ℕ) → Type 0)
-    (output : List ℕ) → bad ≡ bad_lines versions (lines_of options.end input) → rows ≡ lines
-    → (policy options ≡ Fail → bad ≡ []) → IsPlaced options head bad rows leaves output
-    → IsArranged versions options head input lines leaves output
-is-arranged versions options head input bad rows lines leaves output none are good placed = grind arith
 
 -- lines that are written as they are read are those that are kept
 written-at-once : (versions : Versions) (keeps : PlainAny → Bool) (end : ℕ)
@@ -52,7 +49,7 @@ at-once versions keeps options input leaves skips no_file left output is =
 
 -- the file for lines without a version is to blame
 pub put-faults : (options : LineOptions) (Refuses : List ℕ → Type 0) (versions : Versions) (input : List ℕ)
-    (fault : Fault) → ComesOfPut options Refuses fault → ComesOfArranged options Refuses versions input fault
+    (fault : TaskFault) → ComesOfPut options Refuses fault → ComesOfArranged versions options input Refuses fault
 put-faults options Refuses versions input (NotVersion text remark) is = absurd is
 put-faults options Refuses versions input (NotRequirement text) is = absurd is
 put-faults options Refuses versions input (NotSet wrong) is = absurd is
@@ -66,53 +63,77 @@ put-faults options Refuses versions input Memory is = is
 put-faults options Refuses versions input (Read name) is = absurd is
 put-faults options Refuses versions input (Write name) is = is
 
+-- lines that are put in their order are those that are asked for, if these have no version and those are kept
+module _ {F T : Type 0} {puts : F → F → List ℕ → List ℕ → Type 0} {refuses : F → List ℕ → Type 0}
+    {alters : F → F → List ℕ → Type 0} {files left : F} {old new : Option (List ℕ)} {result : Result T TaskFault} where
+  pub arranges : (versions : Versions) (options : LineOptions) (input : Input) (bad : BadLines) (rows lines : List (List ℕ))
+      → map (λ line. line.now) bad.lines.items ≡ bad_lines versions (lines_of options.end input.body.now)
+      → (policy options ≡ Fail → bad.lines.items ≡ []) → rows ≡ lines
+      → Finishes puts refuses alters files left old new options
+      (IsPlaced options input.head.now (map (λ line. line.now) bad.lines.items) rows) (ComesOfPut options) result
+      → Arranges puts refuses alters files left old new versions options input lines result
+  arranges versions options input bad rows lines are good same finishes = record {
+    ends = ends-weaker _ _ _ _ _ _ result
+        (λ output placed. record {
+          good = λ fail. sym are ∙ ap (map (λ (line : Bor (List ℕ)). line.now)) (good fail);
+          is_placed = subst (λ (l : List (List ℕ)). IsPlaced options input.head.now
+              (bad_lines versions (lines_of options.end input.body.now)) l (Leaves puts files left) output) same
+              (subst (λ (l : List (List ℕ)). IsPlaced options input.head.now l rows (Leaves puts files left) output) are placed);
+        })
+        (put-faults options (refuses files) versions input.body.now) finishes.ends;
+    files_are = finishes.files_are;
+    kept = finishes.kept;
+  }
+
 -- where each line is its version and each version is kept, nothing has to be asked
-module _ (options : LineOptions) (chooser : Chooser) (arrangement : Arrangement) (input : List ℕ)
+module _ (options : LineOptions) (keeps : PlainAny → Bool) (input : List ℕ)
     (whole : reads_of options.place ≡ record { scheme = Mixed; text_of = λ line. line })
-    (all : (v : PlainAny) → is_kept chooser v ≡ true) where
-  pub lines-alike : arranged_in (record { scheme = Mixed; text_of = λ line. line }) (λ v. true) arrangement options input
-      ≡ arranged_in (reads_of options.place) (is_kept chooser) arrangement options input
-  lines-alike = sym (λ i. arranged_in (whole i) (λ v. all v i) arrangement options input)
+    (all : (v : PlainAny) → keeps v ≡ true) where
+  pub lines-alike : arranged_in (record { scheme = Mixed; text_of = λ line. line }) (λ v. true) options input
+      ≡ arranged_in (reads_of options.place) keeps options input
+  lines-alike = sym (λ i. arranged_in (whole i) (λ v. all v i) options input)
+
+-- a filter leaves the lines that are kept in their order
+pub filter-arranged : (reads : Reads) (keeps : PlainAny → Bool) (options : LineOptions) (input : List ℕ)
+    (set : Option (Bor (List ℕ))) (inverted : Bool) → options.arrangement ≡ Filter set inverted
+    → kept_in (version_in reads) keeps options input ≡ arranged_in reads keeps options input
+filter-arranged reads keeps options input set inverted is =
+    ap (λ (a : Arrangement). arranged reads (group_text options.place.crlf) a (kept_in (version_in reads) keeps options input)) (sym is)
 
 -- the end of a run whose inputs were read in turn, by how it ends with these
-module _ (arrangement : Arrangement) (options : LineOptions) (files : Reading) (Refuses : List ℕ → Type 0) (fails : Bool)
+module _ (options : LineOptions) (names : List (List ℕ)) (files : Reading) (Refuses : List ℕ → Type 0) (fails : Bool)
     (old new : Option (List ℕ)) (leaves : Option (List ℕ × List ℕ) → Type 0) (keeps : PlainAny → Bool)
-    (texts : List (List ℕ)) (names : List (Bor (List ℕ))) (input : List ℕ)
-    (same : names ≡ options.files.items)
-    (are : AreInputs files old new (names_read (map (λ name. name.now) names)) texts)
+    (texts : List (List ℕ)) (input : List ℕ) (are : AreInputs files old new (names_read names) texts)
     (closed : list_any (is_open options.end) texts ≡ false)
-    (is : keeps_of options.place.scheme options.choice arrangement ≡ Some keeps)
+    (is : keeps_of options.place.spelling.scheme options.choice options.arrangement ≡ Some keeps)
     (whole : input ≡ joined options.end.byte texts) where
-  read : AreInputs files old new (names_read (map (λ name. name.now) options.files.items)) texts
-  read = subst (λ (n : List (Bor (List ℕ))).
-      AreInputs files old new (names_read (map (λ name. name.now) n)) texts) same are
-
-  pub is-ordered : (output : List ℕ) → IsArrangedIn arrangement options keeps input leaves output
-      → IsOrdered arrangement options files old new leaves output
+  pub is-ordered : (output : List ℕ) → IsArrangedIn options keeps input leaves output
+      → IsOrdered options names files old new leaves output
   is-ordered output arranged = record {
     texts = texts;
     keeps = keeps;
-    texts_are = read;
+    texts_are = are;
     closed = closed;
     apart = texts-apart options.end texts closed;
     keeps_are = is;
-    is_arranged = subst (λ (i : List ℕ). IsArrangedIn arrangement options keeps i leaves output) whole arranged;
+    is_arranged = subst (λ (i : List ℕ). IsArrangedIn options keeps i leaves output) whole arranged;
   }
 
-  since-read : (found told : Fault)
-      → IsInItsFile (map (λ name. name.now) options.files.items) (counts_before_last options.end texts) found told
-      → ComesOfInput options Refuses input found
-      → (end : Option (List ℕ)) × (given : List (List ℕ)) × (fault : Fault)
-      × AreInputs files old end (names_read (map (λ name. name.now) options.files.items)) given
-      × ComesOfInput options Refuses (joined options.end.byte given) fault
-      × IsInItsFile (map (λ name. name.now) options.files.items) (counts_before_last options.end given) fault told
-  since-read found told in_file comes =
-      (new, texts, found, read, subst (λ (i : List ℕ). ComesOfInput options Refuses i found) whole comes, in_file)
+  abbrev IsTold : TaskFault → TaskFault → Type 0
+  IsTold found told = IsInItsFile names (counts_before_last options.end texts) found told
 
-  blamed : (bad : Blamed) (told : Fault)
-      → IsInItsFile (map (λ name. name.now) options.files.items) (counts_before_last options.end texts)
-      (BadLine bad) told
-      → ComesOfInput options Refuses input (BadLine bad) → ComesOfArranging arrangement options files Refuses fails old told
+  abbrev Comes : TaskFault → Type 0
+  Comes = ComesOfArranging options names files fails old Refuses
+
+  since-read : (found told : TaskFault) → IsTold found told → ComesOfInput options input Refuses found
+      → (end : Option (List ℕ)) × (given : List (List ℕ)) × (fault : TaskFault) × AreInputs files old end (names_read names) given
+      × ComesOfInput options (joined options.end.byte given) Refuses fault
+      × IsInItsFile names (counts_before_last options.end given) fault told
+  since-read found told in_file comes =
+      (new, texts, found, are, subst (λ (i : List ℕ). ComesOfInput options i Refuses found) whole comes, in_file)
+
+  blamed : (bad : Blamed) (told : TaskFault) → IsTold (BadLine bad) told → ComesOfInput options input Refuses (BadLine bad)
+      → Comes told
   blamed bad (NotVersion text remark) same comes = cc same
   blamed bad (NotRequirement text) same comes = cc same
   blamed bad (NotSet wrong) same comes = cc same
@@ -126,9 +147,7 @@ module _ (arrangement : Arrangement) (options : LineOptions) (files : Reading) (
   blamed bad (Read name) same comes = cc same
   blamed bad (Write name) same comes = cc same
 
-  in-its-file : (found told : Fault)
-      → IsInItsFile (map (λ name. name.now) options.files.items) (counts_before_last options.end texts) found told
-      → ComesOfInput options Refuses input found → ComesOfArranging arrangement options files Refuses fails old told
+  in-its-file : (found told : TaskFault) → IsTold found told → ComesOfInput options input Refuses found → Comes told
   in-its-file (NotVersion text remark) told same comes = absurd comes.1
   in-its-file (NotRequirement text) told same comes = absurd comes.1
   in-its-file (NotSet wrong) told same comes = absurd comes.1
@@ -137,20 +156,13 @@ module _ (arrangement : Arrangement) (options : LineOptions) (files : Reading) (
   in-its-file (BadLine bad) told in_file comes = blamed bad told in_file comes
   in-its-file (NoNext text) told same comes = absurd comes.1
   in-its-file (NoColumn name) told same comes =
-      subst (ComesOfArranging arrangement options files Refuses fails old) (sym same)
-      (since-read (NoColumn name) (NoColumn name) refl comes)
+      subst Comes (sym same) (since-read (NoColumn name) (NoColumn name) refl comes)
   in-its-file (Unclosed name number) told same comes = absurd comes.1
-  in-its-file Memory told same comes = subst (ComesOfArranging arrangement options files Refuses fails old) (sym same) tt
+  in-its-file Memory told same comes = subst Comes (sym same) tt
   in-its-file (Read name) told same comes = absurd comes.1
   in-its-file (Write name) told same comes =
-      subst (ComesOfArranging arrangement options files Refuses fails old) (sym same)
-      (since-read (Write name) (Write name) refl comes)
+      subst Comes (sym same) (since-read (Write name) (Write name) refl comes)
 
-  pub ordered-faults : (counts : List ℕ) → counts ≡ counts_before_last options.end texts
-      → (names : List (Bor (List ℕ))) → names ≡ options.files.items → (found told : Fault)
-      → IsInItsFile (map (λ name. name.now) names) counts found told → ComesOfInput options Refuses input found
-      → ComesOfArranging arrangement options files Refuses fails old told
-  ordered-faults counts counted names named found told in_file comes =
-      in-its-file found told
-      (subst (λ (n : List (Bor (List ℕ))). IsInItsFile (map (λ name. name.now) n) (counts_before_last options.end texts)
-      found told) named (rw counted at in_file)) comes
+  pub ordered-faults : (counts : List ℕ) → counts ≡ counts_before_last options.end texts → (found told : TaskFault)
+      → IsInItsFile names counts found told → ComesOfInput options input Refuses found → Comes told
+  ordered-faults counts counted found told in_file comes = in-its-file found told (rw counted at in_file) comes

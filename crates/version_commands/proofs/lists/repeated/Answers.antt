@@ -1,7 +1,7 @@
 use Rattle.std.proofs.Common.{Bor, List, ℕ, ap, arith, length}
 use Rattle.std.proofs.lemmas.List.{length-map}
 use Rattle.version_commands.specs.Lists.{rows_of}
-use Rattle.version_commands.proofs.lemmas.hints.TaskHint.{rows-left}
+use Rattle.version_commands.proofs.lemmas.Hints.{rows-left}
 use Rattle.version_commands.proofs.lists.repeated.Goals as goal
 
 pub returns : goal.returns

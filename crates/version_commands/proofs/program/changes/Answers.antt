@@ -1,15 +1,15 @@
 use Rattle.std.proofs.Common.{◌++◌, None, Some, inl, inr, ◌∷◌, [], ℕ, Bool, List, refl, rules, subst, ap, sym, ◌∙◌}
 use Rattle.std.proofs.lemmas.Result.{IfErr-weaker}
 use Rattle.version_commands.specs.faults.Fault.{ComesOfBad, ComesOfReadingOne}
-use Rattle.version_commands.specs.hints.TaskHint.{repeated}
+use Rattle.version_commands.specs.Hints.{repeated}
 use Rattle.version_commands.specs.Lists.{difference_text, names_of, rows_of}
 use Rattle.version_commands.specs.lines.Picked.{AreBadOf}
 use Rattle.version_commands.specs.lines.Place.{reads_of}
 use Rattle.version_commands.specs.declared.files.Hint.TheVariants.{Repeated}
 use Rattle.version_lines.specs.Lines.{lines_of}
 use Rattle.version_lines.specs.Sort.{version_in}
-use Rattle.version_commands.proofs.lemmas.faults.Fault.{reading-at}
-use Rattle.version_commands.proofs.lemmas.Changes.{are-changes, changes-bad, changes-reading, input-bad, input-good}
+use Rattle.version_commands.proofs.lemmas.Faults.{reading-at}
+use Rattle.version_commands.proofs.lemmas.Lists.{are-changes, changes-bad, changes-reading, input-bad, input-good}
 use Rattle.version_commands.proofs.program.changes.Goals as goal
 
 pub returns-clause-output : goal.returns-clause-output

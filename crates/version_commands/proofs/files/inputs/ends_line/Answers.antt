@@ -1,5 +1,5 @@
 use Rattle.std.proofs.Common.{arith}
-use Rattle.version_commands.proofs.lemmas.files.Inputs.{ends_line-last}
+use Rattle.version_commands.proofs.lemmas.Files.{ends_line-last}
 use Rattle.version_commands.proofs.files.inputs.ends_line.Goals as goal
 
 pub returns-in-Some : goal.returns-in-Some

@@ -1,7 +1,7 @@
 use Rattle.std.proofs.Common.{◌<◌, ◌≤◌, ◌∙◌, ℕ, List, [], Bor, Option, Some, add-one, arith, get_or, length, map, refl, rules, subst, sym}
 use Rattle.std.proofs.lemmas.List.{get_or-map, length-map}
-use Rattle.version_commands.specs.files.Inputs.{IsLineIn}
-use Rattle.version_commands.proofs.lemmas.files.Inputs.{in-input, past-input}
+use Rattle.version_commands.specs.Files.{IsLineIn}
+use Rattle.version_commands.proofs.lemmas.Files.{in-input, past-input}
 use Rattle.version_commands.proofs.files.inputs.line_in.Goals.{then-place-counts-via-then-place-counts, then-place-counts-via-else-place-counts+then-left-counts}
 use Rattle.version_commands.proofs.files.inputs.line_in.Goals as goal
 

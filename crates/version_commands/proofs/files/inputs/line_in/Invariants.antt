@@ -1,6 +1,6 @@
 -- The line stands among the inputs from the place on, where it has the number that is left.
 use Rattle.std.proofs.Common.{◌≡◌, drop, map}
-use Rattle.version_commands.specs.files.Inputs.{line_in}
+use Rattle.version_commands.specs.Files.{line_in}
 use Rattle.version_commands.proofs.files.inputs.line_in.Given as goal
 
 abbrev pub invariant-loop-place : goal.invariant-loop-place

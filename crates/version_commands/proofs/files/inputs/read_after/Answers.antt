@@ -2,10 +2,10 @@ use Rattle.std.proofs.Common.{◌≡◌, ◌<◌, ◌-◌, ◌++◌, ◌∷◌, 
 use Rattle.std.proofs.Math.Seq.{drop-append_seam}
 use Rattle.std.proofs.lemmas.List.{length-drop, map-append, take_all}
 use Rattle.std.proofs.lemmas.Result.{IfErr-weaker}
-use Rattle.version_commands.specs.files.Inputs.{ended, line_count, AreInputs}
+use Rattle.version_commands.specs.Files.{ended, line_count, AreInputs}
 use Rattle.version_commands.specs.faults.Fault.{ComesOfReadingOne}
-use Rattle.version_commands.proofs.lemmas.faults.Fault.{reading-at}
-use Rattle.version_commands.proofs.lemmas.files.Inputs.{closed-push, counts-push, inputs-push, joined-next, none-of-both, none-standard, parts-around}
+use Rattle.version_commands.proofs.lemmas.Faults.{reading-at}
+use Rattle.version_commands.proofs.lemmas.Files.{closed-push, counts-push, inputs-push, joined-next, none-of-both, none-standard, parts-around}
 use Rattle.version_answers.proofs.lemmas.Pieces.{texts-next}
 use Rattle.version_lines.specs.Lines.{lines_of}
 use Rattle.version_commands.proofs.files.inputs.read_after.Goals as goal

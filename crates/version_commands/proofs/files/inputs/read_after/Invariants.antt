@@ -2,7 +2,7 @@
 -- is none of the inputs, and whether it may fail stays.
 use Rattle.std.proofs.Common.{◌≡◌, ℕ, false, List, map, take}
 use Rattle.std.specs.List.{list_any}
-use Rattle.version_commands.specs.files.Inputs.{is_open, joined, line_count, reads_standard, AreInputs}
+use Rattle.version_commands.specs.Files.{is_open, joined, line_count, reads_standard, AreInputs}
 use Rattle.version_commands.proofs.files.inputs.read_after.Given as goal
 
 abbrev pub invariant-loop-name : goal.invariant-loop-name

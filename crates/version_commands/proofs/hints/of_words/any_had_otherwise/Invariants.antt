@@ -2,7 +2,7 @@
 use Rattle.std.proofs.Common.{◌≡◌, drop}
 use Rattle.std.specs.List.{list_any}
 use Rattle.version_commands.specs.lines.Choice.{is_of}
-use Rattle.version_commands.specs.hints.Hint.{is_kept_otherwise}
+use Rattle.version_commands.specs.Hints.{is_kept_otherwise}
 use Rattle.version_commands.proofs.hints.of_words.any_had_otherwise.Given as goal
 use Rattle.version_sets.specs.Form.{has}
 

@@ -11,7 +11,7 @@ use Rattle.version_schemes.specs.any.AnyVersion.{plain_any}
 pub loop-line-preserved : goal.loop-line-preserved
 loop-line-preserved c =
     let (read, by, so_far) = c.loop-line.invariant in
-    let versions = version_as c.args.by.place c.args.column c.args.by.place.scheme in
+    let versions = version_as c.args.by.place c.args.column c.args.by.place.spelling.scheme in
     let i = c.loop-line.line-index in
     let d : Bor (List ℕ) = record { ref_ptr = (0, 0); now = [] } in
     let line = (get_or c.args.lines.now i d).now in
@@ -43,6 +43,6 @@ add-requires-clause-version c =
     let (read, by, so_far) = c.loop-line.invariant in
     let place = c.args.by.place in
     let line = (get_or c.args.lines.now c.loop-line.line-index (record { ref_ptr = (0, 0); now = [] })).now in
-    let some : version_as place c.args.column place.scheme line ≡ Some (plain_any c.in-Some.version) =
+    let some : version_as place c.args.column place.spelling.scheme line ≡ Some (plain_any c.in-Some.version) =
     sym c.version_as.ensures ∙ ap (option_map plain_any) c.in-Some.is in
-    rw by (as-read place c.args.column place.scheme line _ some)
+    rw by (as-read place c.args.column place.spelling.scheme line _ some)

@@ -8,7 +8,7 @@ use Rattle.version_commands.proofs.lines.by_schemes.lines_of_scheme.Given as goa
 
 abbrev pub invariant-loop-line : goal.invariant-loop-line
 invariant-loop-line l =
-    let kept = kept_lines (version_as l.by.place l.column l.by.place.scheme) (λ v. true) in
+    let kept = kept_lines (version_as l.by.place l.column l.by.place.spelling.scheme) (λ v. true) in
     AreRead (λ by. reads_of by.place) l.of_scheme × (l.of_scheme.by ≡ l.by)
     × (lines_in l.of_scheme ++ kept (drop l.line-index (map (λ line. line.now) l.lines))
     ≡ kept (map (λ line. line.now) l.lines))

@@ -1,80 +1,88 @@
-use Rattle.std.proofs.Common.{◌≡◌, ◌∷◌, ℕ, false, Bor, List, [], map, ap, inl, inr, refl, None, Some, IfNone, IfSome, subst, ◌∙◌, sym}
+use Rattle.std.proofs.Common.{◌≡◌, ◌∷◌, ℕ, false, Bor, List, [], map, ap, inl, inr, refl, IfNone, IfSome, subst, ◌∙◌, sym}
 use Rattle.std.specs.List.{list_any}
 use Rattle.std.specs.Option.{option_map_or}
-use Rattle.version_commands.specs.lines.FirstWord.{word_for_file, Finding, HoldsByWords, IsThere, StaysWord}
-use Rattle.version_commands.specs.files.Inputs.{is_standard, names_read, reads_standard}
-use Rattle.version_answers.specs.Sets.{IsWrongSet}
-use Rattle.version_answers.specs.declared.set.WrongSet.{WrongSet}
-use Rattle.version_commands.specs.declared.options.Arrangement.{Arrangement}
-use Rattle.version_commands.specs.declared.options.Arrangement.TheVariants.{Filter}
+use Rattle.version_commands.specs.faults.Cause.{ComesOfArranging}
+use Rattle.version_commands.specs.Files.{AltersAtMost, Leaves, is_standard, names_read, reads_standard}
+use Rattle.version_commands.specs.Hints.{IsOfRun}
+use Rattle.version_commands.specs.lines.FirstWord.{without_set, Finding, HoldsByWords, IsFirstFile, StaysWord}
+use Rattle.version_commands.specs.lines.Ordered.{bad_file, IsOrdered}
 use Rattle.version_commands.specs.declared.options.LineOptions.{LineOptions}
-use Rattle.version_commands.proofs.lemmas.faults.Ends.{ends-weaker}
-use Rattle.version_commands.proofs.lemmas.hints.TaskHint.{comes-of-lines}
+use Rattle.version_commands.proofs.lemmas.Faults.{ends-weaker}
+use Rattle.version_commands.proofs.lemmas.Hints.{comes-of-first}
 use Rattle.version_commands.proofs.lines.first_word.serve_by_words.Goals as goal
 
--- what is known of a first word that names a file
-abbrev IsNamed : Finding → Arrangement → LineOptions → Bor (List ℕ) → Type 0
-IsNamed finds arrangement options word = (word_for_file arrangement options.choice ≡ Some word)
-    × ((wrong : WrongSet) × IsWrongSet options.place.scheme word.now wrong) × IsThere finds word.now
+-- what holds with the first word as a file
+as-file : (finds : Finding) (Holds : LineOptions → List (List ℕ) → Type 0) (options made : LineOptions)
+    (names given : List (List ℕ)) (word : Bor (List ℕ)) → IsFirstFile finds options word
+    → made ≡ without_set options → given ≡ word.now ∷ names → Holds made given → HoldsByWords finds Holds options names
+as-file finds Holds options made names given word first made_is given_is holds = inr (
+  word,
+  first,
+  subst (λ (n : List (List ℕ)). Holds (without_set options) n) given_is
+      (subst (λ (o : LineOptions). Holds o given) made_is holds),
+)
 
--- what holds with it as a file
-as-file : (finds : Finding) (Holds : Arrangement → LineOptions → Type 0) (arrangement : Arrangement)
-    (options made : LineOptions) (word : Bor (List ℕ)) → IsNamed finds arrangement options word
-    → made ≡ record options { files = made.files }
-    → map (λ name. name.now) made.files.items ≡ word.now ∷ map (λ name. name.now) options.files.items
-    → Holds (Filter None false) made → HoldsByWords finds Holds arrangement options
-as-file finds Holds arrangement options made word (word_is, (wrong, no_set), there) made_is files_are holds = inr (record {
-  word = word;
-  word_is = word_is;
-  wrong = wrong;
-  no_set = no_set;
-  there = there;
-  made = made;
-  made_is = made_is;
-  files_are = files_are;
-  holds = holds;
-})
-
-pub returns-in_ok-options-in-Some-clause-ends : goal.returns-in_ok-options-in-Some-clause-ends
-returns-in_ok-options-in-Some-clause-ends g c =
+pub returns-in_ok-names-in-Some-clause-served : goal.returns-in_ok-names-in-Some-clause-served
+returns-in_ok-names-in-Some-clause-served g c =
     let finds = g.F.Files.finds c.args.files.now in
-    let named = subst (λ found. IfSome found (IsNamed finds c.args.arrangement c.args.options.now)) c.in-Some.is
-    c.in_ok-name.ensures.file in
-    let made = c.in_ok-options-in-Some in
-    ends-weaker _ _ _ _ _ _ c.serve_lines.result
-    (λ output ordered. as-file finds _ c.args.arrangement c.args.options.now made.options c.in-Some.name named
-    made.ensures.same made.ensures.files ordered)
-    (λ fault comes. comes-of-lines c.args.arrangement c.args.options.now _ finds _ _ _ fault
-    (as-file finds _ c.args.arrangement c.args.options.now made.options c.in-Some.name named made.ensures.same
-    made.ensures.files comes))
-    c.serve_lines.ensures.ends
+    let options = c.args.options.now in
+    let made = c.without_set-options.result in
+    let names = map (λ name. name.now) c.args.names.now in
+    let given = map (λ name. name.now) c.as_slice.result.now in
+    let first = subst (λ found. IfSome found (IsFirstFile finds options)) c.in-Some.is c.in_ok-name.ensures.file in
+    let made_is = c.without_set-options.ensures in
+    let given_is = ap (map (λ (name : Bor (List ℕ)). name.now)) c.as_slice.ensures.value ∙ c.in_ok-names-in-Some.ensures in
+    let served = c.serve_lines.ensures.served in
+    let reads = g.F.Files.reads c.args.files.now in
+    let Refuses = g.F.Files.refuses c.args.files.now in
+    let fails = g.R.Source.may_fail c.args.reader.now in
+    let old = g.R.Source.remaining c.args.reader.now in
+    let new = g.R.Source.remaining c.serve_lines.new.reader in
+    let leaves = Leaves g.F.Files.puts c.args.files.now c.serve_lines.new.files in
+    record {
+      ends = ends-weaker _ _ _ _ _ _ c.serve_lines.result
+          (λ output ordered. as-file finds (λ with files. IsOrdered with files reads old new leaves output) options made names given
+          c.in-Some.name first made_is given_is ordered)
+          (λ fault comes. comes-of-first finds options names reads fails old Refuses fault
+          (as-file finds (λ with files. ComesOfArranging with files reads fails old Refuses fault) options made names given
+          c.in-Some.name first made_is given_is comes))
+          served.ends;
+      files_are = subst (λ (o : LineOptions). AltersAtMost g.F.Files.alters (bad_file o) c.args.files.now c.serve_lines.new.files)
+          made_is served.files_are;
+      kept = served.kept;
+    }
 
-pub returns-in-None-clause-ends : goal.returns-in-None-clause-ends
-returns-in-None-clause-ends g c =
+pub returns-in-None-clause-served : goal.returns-in-None-clause-served
+returns-in-None-clause-served g c =
     let finds = g.F.Files.finds c.args.files.now in
-    let stays = subst (λ found. IfNone found (StaysWord finds c.args.arrangement c.args.options.now)) c.in-None.is
-    c.in_ok-name.ensures.word in
-    ends-weaker _ _ _ _ _ _ c.serve_lines-in-None.result
-    (λ output ordered. inl (stays, ordered))
-    (λ fault comes. comes-of-lines c.args.arrangement c.args.options.now _ finds _ _ _ fault (inl (stays, comes)))
-    c.serve_lines-in-None.ensures.ends
+    let options = c.args.options.now in
+    let stays = subst (λ found. IfNone found (StaysWord finds options)) c.in-None.is c.in_ok-name.ensures.word in
+    let served = c.serve_lines-in-None.ensures.served in
+    record {
+      ends = ends-weaker _ _ _ _ _ _ c.serve_lines-in-None.result (λ output ordered. inl (stays, ordered))
+          (λ fault comes. comes-of-first finds options (map (λ name. name.now) c.args.names.now) _ _ _ _ fault
+          (inl (stays, comes))) served.ends;
+      files_are = served.files_are;
+      kept = served.kept;
+    }
 
 pub serve_lines-requires : goal.serve_lines-requires
 serve_lines-requires g c =
     let finds = g.F.Files.finds c.args.files.now in
-    let named = subst (λ found. IfSome found (IsNamed finds c.args.arrangement c.args.options.now)) c.in-Some.is
-    c.in_ok-name.ensures.file in
-    let made = c.in_ok-options-in-Some in
+    let options = c.args.options.now in
+    let first = subst (λ found. IfSome found (IsFirstFile finds options)) c.in-Some.is c.in_ok-name.ensures.file in
+    let given_is = ap (map (λ (name : Bor (List ℕ)). name.now)) c.as_slice.ensures.value ∙ c.in_ok-names-in-Some.ensures in
     record {
-      hints = λ hint so. c.requires.hints hint (as-file finds _ c.args.arrangement c.args.options.now made.options
-          c.in-Some.name named made.ensures.same made.ensures.files so);
+      hints = λ hint so. c.requires.hints hint (as-file finds (λ with files. IsOfRun with files (g.F.Files.reads c.args.files.now)
+          (g.R.Source.remaining c.args.reader.now) hint) options c.without_set-options.result
+          (map (λ name. name.now) c.args.names.now) (map (λ name. name.now) c.as_slice.result.now) c.in-Some.name first
+          c.without_set-options.ensures given_is so);
     }
 
 pub serve_lines-requires-in-None : goal.serve_lines-requires-in-None
 serve_lines-requires-in-None g c =
     let finds = g.F.Files.finds c.args.files.now in
-    let stays = subst (λ found. IfNone found (StaysWord finds c.args.arrangement c.args.options.now)) c.in-None.is
-    c.in_ok-name.ensures.word in
+    let stays = subst (λ found. IfNone found (StaysWord finds c.args.options.now)) c.in-None.is c.in_ok-name.ensures.word in
     record { hints = λ hint so. c.requires.hints hint (inl (stays, so)) }
 
 -- where no name is that of standard input, it isn't read, though none is named
@@ -82,12 +90,12 @@ none_standard : (names : List (List ℕ)) → reads_standard (names_read names) 
 none_standard [] e = refl
 none_standard (name ∷ names) e = e
 
-pub returns-in_ok-options-in-Some-clause-unread : goal.returns-in_ok-options-in-Some-clause-unread
-returns-in_ok-options-in-Some-clause-unread g c unread may =
-    let (word_is, wrong, there) = subst (λ found. IfSome found
-    (IsNamed (g.F.Files.finds c.args.files.now) c.args.arrangement c.args.options.now)) c.in-Some.is
+pub returns-in_ok-names-in-Some-clause-unread : goal.returns-in_ok-names-in-Some-clause-unread
+returns-in_ok-names-in-Some-clause-unread g c unread may =
+    let first = subst (λ found. IfSome found (IsFirstFile (g.F.Files.finds c.args.files.now) c.args.options.now)) c.in-Some.is
     c.in_ok-name.ensures.file in
     let word : is_standard c.in-Some.name.now ≡ false =
-    sym (ap (λ found. option_map_or (λ word. is_standard word.now) found false) word_is) ∙ may in
-    let others = none_standard (map (λ name. name.now) c.args.options.now.files.items) unread in
-    c.serve_lines.ensures.unread (rw (c.in_ok-options-in-Some.ensures.files, word) others)
+    sym (ap (λ found. option_map_or (λ word. is_standard word.now) found false) first.word_is) ∙ may in
+    let others = none_standard (map (λ name. name.now) c.args.names.now) unread in
+    let given_is = ap (map (λ (name : Bor (List ℕ)). name.now)) c.as_slice.ensures.value ∙ c.in_ok-names-in-Some.ensures in
+    c.serve_lines.ensures.unread (rw (given_is, word) others)

@@ -2,7 +2,7 @@ use Rattle.std.proofs.Common.{◌≡◌, ◌∙◌, [], ℕ, List, Bor, ap, leng
 use Rattle.std.proofs.lemmas.Bool.{false≢true}
 use Rattle.std.proofs.lemmas.List.{nil_from_length}
 use Rattle.std.proofs.lemmas.Result.{IfErr-weaker, IfOk-weaker}
-use Rattle.version_commands.proofs.lemmas.words.Each.{all-are, line-texts, word-texts}
+use Rattle.version_commands.proofs.lemmas.Each.{all-are, line-texts, word-texts}
 use Rattle.version_commands.specs.words.Each.{others_among}
 use Rattle.version_commands.proofs.words.each.answer_each.Goals as goal
 

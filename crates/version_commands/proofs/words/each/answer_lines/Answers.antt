@@ -5,7 +5,7 @@ use Rattle.version_commands.specs.lines.Picked.{bad_lines}
 use Rattle.version_commands.specs.lines.Place.{line_text, reads_of}
 use Rattle.version_lines.specs.Lines.{lines_of, plain_end}
 use Rattle.version_lines.specs.Sort.{version_in}
-use Rattle.version_commands.proofs.lemmas.words.Each.{answering-early, asking-answering, line-texts}
+use Rattle.version_commands.proofs.lemmas.Each.{answering-early, asking-answering, line-texts}
 use Rattle.version_commands.proofs.lemmas.lines.Picked.{all-kept}
 use Rattle.version_commands.proofs.words.each.answer_lines.Goals as goal
 

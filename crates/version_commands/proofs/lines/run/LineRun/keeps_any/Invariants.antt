@@ -1,0 +1,15 @@
+-- No line before the rest is kept.
+use Rattle.std.proofs.Common.{◌≡◌, length}
+use Rattle.std.specs.List.{list_any}
+use Rattle.version_commands.specs.lines.Ordered.{versions_in}
+use Rattle.version_commands.specs.lines.Picked.{has}
+use Rattle.version_commands.proofs.lines.run.LineRun.keeps_any.Given as goal
+use Rattle.version_lines.specs.Lines.{lines_of}
+
+abbrev pub invariant-loop-rest : goal.invariant-loop-rest
+invariant-loop-rest g l =
+    let test = has (g.C.Chooses.keeps l.self.chooser.now) (versions_in l.self.options) in
+    list_any test (lines_of l.self.options.end l.self.input.body.now) ≡ list_any test (lines_of l.self.options.end l.rest)
+
+abbrev pub decreases-loop-rest : goal.decreases-loop-rest
+decreases-loop-rest g l = length l.rest

@@ -1,2 +1,0 @@
-pub mod Hint
-pub mod TaskHint
