@@ -9,7 +9,7 @@ ghost use Rattle.version_rules.specs.grammar.Body.{body_front, chunks_front, Bod
 ghost use Rattle.version_parts.specs.Body.{plain_chunks, Reads, release_fed};
 ghost use Rattle.version_parts.specs.Last.{plain_last, plain_last_ref};
 ghost use Rattle.version_order.specs.keys.Codes.{same_where_tied};
-ghost use Rattle.version_rules.specs.order.Parts.{chunks_cmp};
+ghost use Rattle.version_rules.specs.order.Parts.{chunks_cmp, release_cmp};
 ghost use Rattle.version_rules.specs.laws.Part.{chunks_cmp_ties, chunks_cmp_total};
 ghost use Rattle.version_rules.specs.grammar.Release.{release_text};
 ghost use Rattle.version_rules.specs.laws.Release.{release_total, releases_same};

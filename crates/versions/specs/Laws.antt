@@ -5,7 +5,7 @@ use Rattle.std.specs.Ordering.{eq_by_cmp}
 use Rattle.version_rules.specs.grammar.SemVer.{PlainSemVer}
 use Rattle.versions.specs.SemVer.{semver_fed}
 use Rattle.version_rules.specs.order.Kinds.{semver_cmp, version_plain_cmp}
-use Rattle.version_rules.specs.laws.Versioning.{tied_same, messes_same}
+use Rattle.version_rules.specs.laws.Versioning.{tied_same, messes_same, versions_same}
 use Rattle.std.specs.Hash.{HashWrites}
 use Rattle.version_rules.specs.grammar.Mess.{PlainMess, mess_plain_cmp}
 use Rattle.versions.specs.Mess.{mess_fed}

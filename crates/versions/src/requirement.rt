@@ -7,7 +7,7 @@ ghost use Rattle.versions.specs.Errors.{IllegalOp, ReadsOr};
 ghost use Rattle.version_rules.specs.requirement.Matching.{IsConvex, Matches};
 ghost use Rattle.versions.specs.Requirements.{plain_range, plain_requirement};
 ghost use Rattle.version_rules.specs.requirement.Range.{requirement_range, IsIn};
-ghost use Rattle.version_rules.specs.requirement.Requirement.{requirement_front, requirement_of, requirement_text, RequirementOwns};
+ghost use Rattle.version_rules.specs.requirement.Requirement.{op_front, requirement_front, requirement_of, requirement_text, RequirementOwns};
 ghost use Rattle.versions.specs.Versioning.{plain_versioning};
 ghost use Rattle.version_rules.specs.grammar.Versioning.{PlainVersioning};
 ghost use Rattle.version_rules.specs.declared.op.Op.TheVariants.{Wildcard};
