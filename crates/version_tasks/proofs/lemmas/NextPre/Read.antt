@@ -1,10 +1,8 @@
 -- What comes next among pre-releases, read off the text of a version.
-use Rattle.std.proofs.Common.{◌≡◌, ◌∙◌, ◌<◌, ◌≤◌, ◌^◌, ℕ, suc, true, false, List, [], ◌∷◌, Option, Some, None, refl, sym, ap, subst, arith, inl, inr}
-use Rattle.std.specs.Option.{unwrap_or}
+use Rattle.std.proofs.Common.{◌≡◌, ◌∙◌, ◌<◌, ◌≤◌, ◌^◌, ℕ, suc, true, false, List, ◌∷◌, Option, Some, refl, sym, ap, subst, arith, inl, inr}
 use Rattle.version_rules.specs.grammar.Chunk.{PlainChunk}
-use Rattle.version_rules.specs.grammar.Versioning.{versioning_kind, PlainVersioning, Ideal, General, Complex, SpellsVersioning, is_prerelease, versioning_nth, versioning_of, versioning_text}
-use Rattle.version_rules.specs.grammar.Release.{SpellsRelease, release_text}
-use Rattle.version_rules.specs.grammar.SemVer.{PlainSemVer}
+use Rattle.version_rules.specs.grammar.Versioning.{versioning_kind, PlainVersioning, Ideal, General, Complex, SpellsVersioning, versioning_nth, versioning_of, versioning_text}
+use Rattle.version_rules.specs.grammar.Release.{SpellsRelease}
 use Rattle.version_tasks.proofs.lemmas.Next.Text.{printed}
 use Rattle.version_tasks.proofs.lemmas.NextPre.Order.{is_next, none_past, none_unnamed}
 use Rattle.version_tasks.proofs.lemmas.NextPre.Text.{own_read, release_passes, release_spelled}
@@ -24,31 +22,6 @@ chosen_spelled (b ∷ word) passes = release_spelled (b ∷ word) passes
 pub not_chosen : (word : List ℕ) → is_release word ≡ false → (chunks : List PlainChunk)
     → ¬ (SpellsRelease word chunks)
 not_chosen word fails chunks s = cc (sym fails ∙ release_passes word chunks s)
-
--- ---- the pre-release of a version
-
-own_of : (v : PlainSemVer) (o : Option (List PlainChunk)) → v.pre_rel ≡ o
-    → Rattle.std.specs.Option.is_some o ≡ true
-    → Some (unwrap_or (Rattle.std.specs.Option.option_map release_text o) [])
-    ≡ Rattle.std.specs.Option.option_map release_text o
-own_of v None e some = cc some
-own_of v (Some chunks) e some = refl
-
-pub with_own : (v : PlainVersioning) → is_prerelease v ≡ true
-    → Some (unwrap_or (field_text PreRelease v) []) ≡ field_text PreRelease v
-with_own (Ideal v) some = own_of v v.pre_rel refl some
-with_own (General v) some = cc some
-with_own (Complex m) some = cc some
-
-no_own_of : (o : Option (List PlainChunk)) → Rattle.std.specs.Option.is_some o ≡ false
-    → None ≡ Rattle.std.specs.Option.option_map release_text o
-no_own_of None none = refl
-no_own_of (Some chunks) none = cc none
-
-pub without_own : (v : PlainVersioning) → is_prerelease v ≡ false → None ≡ field_text PreRelease v
-without_own (Ideal v) none = no_own_of v.pre_rel none
-without_own (General v) none = refl
-without_own (Complex m) none = refl
 
 -- ---- what comes next
 
