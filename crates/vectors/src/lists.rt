@@ -8,9 +8,7 @@ ghost use Rattle.version_schemes.specs.declared.scheme.Scheme.TheVariants.{Mixed
 use crate::answers::{Made, NOT_BEGUN, Written, lend, put};
 use crate::values;
 use std::alloc::{AllocError, Global};
-use version_lines::{
-    GroupBy, KeyedLines, SortBy, Trouble, WholeLines, make_buffer, read_all, read_onto,
-};
+use version_lines::{GroupBy, KeyedLines, SortBy, Trouble, WholeLines, make_buffer, read_all};
 use version_parts::key::{PartText, PieceBytes};
 use version_schemes::{AnyVersion, Scheme};
 use version_texts::VersioningRef;
@@ -23,9 +21,7 @@ pub fn answer(alloc: Global, call: &str, text: &str, output: &mut String) -> Wri
         "make_buffer" => put(make_buffer(alloc), output),
         "KeyedLines::new" => put(count_none(alloc, text), output),
         "KeyedLines::add" | "KeyedLines::keep_newest" => change_lines(alloc, call, text, output),
-        "read_onto" | "PieceBytes::append_to" | "KeyBytes::append_to" => {
-            append(alloc, call, text, output)
-        }
+        "PieceBytes::append_to" | "KeyBytes::append_to" => append(alloc, call, text, output),
         "VersioningRef::append_key" | "VersioningRef::append_end" | "AnyVersion::append_key" => {
             append(alloc, call, text, output)
         }
@@ -56,7 +52,6 @@ fn append(alloc: Global, call: &str, text: &str, output: &mut String) -> Written
 fn append_to(alloc: Global, call: &str, line: &str, list: &mut Vec<u8>) -> Result<(), Trouble> {
     let text = line.trim_end();
     match (call, VersioningRef::new(text)) {
-        ("read_onto", _) => read_onto(alloc, &mut line.as_bytes(), list),
         ("PieceBytes::append_to", _) => Ok(PieceBytes::part(PartText::text(text)).append_to(list)?),
         ("KeyBytes::append_to", _) => append_owned_key(alloc, text, list),
         ("AnyVersion::append_key", _) => append_key_of_deb(text, list),

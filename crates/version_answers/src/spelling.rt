@@ -29,6 +29,7 @@ pub struct Spelling<'w> {
 
 impl Spelling<'_> {
     /// Returns the version that a text spells.
+    #[inline(always)]
     pub fn version<'a>(&self, text: &'a [u8]) -> Option<AnyVersion<'a>>
         ensures { option_map plain_any result ≡ spelled self.now text.now }
     {

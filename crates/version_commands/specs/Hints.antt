@@ -1,20 +1,19 @@
 -- What makes a hint so: of words and lines, and of a task.
-use Rattle.std.specs.Prelude.{◌≡◌, ◌==◌, ◌&&◌, ◌||◌, ◌-◌, ◌<◌, ℕ, Bool, true, false, List, [], ◌∷◌, get_or, length, Option, Some, None, is_some, not, ◌⊎◌, map}
+use Rattle.std.specs.Prelude.{◌≡◌, ◌&&◌, ◌||◌, ◌-◌, ◌<◌, ℕ, Bool, true, false, List, [], ◌∷◌, get_or, length, Option, Some, None, is_some, not, ◌⊎◌, map}
 use Rattle.std.specs.List.{list_any}
 use Rattle.std.specs.Option.{option_map_or}
 use Rattle.std.specs.Ordering.{is_lt}
 use Rattle.std.specs.Str.{bytes_eq}
 use Rattle.std.specs.declared.cmp.Ordering.{Ordering}
 use Rattle.std.specs.declared.cmp.Ordering.TheVariants.{Less, Equal, Greater}
-use Rattle.version_commands.specs.faults.Fault.{ends_in_return, scheme_at}
-use Rattle.version_commands.specs.lines.Ordered.{versions_in, body_of, options_in, ordered_in}
-use Rattle.version_commands.specs.lines.Picked.{has}
+use Rattle.version_commands.specs.faults.Fault.{ends_in_return}
+use Rattle.version_commands.specs.lines.Ordered.{body_of, options_in, ordered_in}
 use Rattle.version_commands.specs.lines.Place.{group_text, text_of}
 use Rattle.version_commands.specs.declared.options.Arrangement.{Arrangement}
 use Rattle.version_commands.specs.declared.options.ColumnNames.{ColumnNames}
 use Rattle.version_commands.specs.declared.options.LineOptions.{LineOptions}
 use Rattle.version_commands.specs.declared.options.VersionPlace.{VersionPlace}
-use Rattle.version_lines.specs.Lines.{lines_of}
+use Rattle.version_lines.specs.Inputs.{lines_of_inputs, texts_of, PlainLine}
 use Rattle.version_lines.specs.declared.column.Column.{Column}
 use Rattle.version_lines.specs.declared.column.Separators.{Separators}
 use Rattle.version_lines.specs.declared.column.Separators.TheVariants.{Bytes}
@@ -26,8 +25,8 @@ use Rattle.version_commands.specs.faults.Cause.{ComesOfArranging}
 use Rattle.version_commands.specs.lines.Choice.{is_of, keeps_of}
 use Rattle.version_commands.specs.words.Each.{spelling_of, version_asked}
 use Rattle.version_commands.specs.lines.FirstWord.{Finding, HoldsByWords}
-use Rattle.version_commands.specs.Files.{ended, joined, names_read, AreInputs, Reading}
-use Rattle.version_commands.specs.Lists.{first_rows, names_of, rows_of}
+use Rattle.version_commands.specs.Files.{inputs_of, names_read, AreInputs, Reading}
+use Rattle.version_commands.specs.Lists.{first_rows, names_of, rows_of, Row}
 use Rattle.version_answers.specs.message.Remark.{IsRemark}
 use Rattle.version_answers.specs.Sets.{keys_of}
 use Rattle.version_commands.specs.words.Test.{answer_of_two}
@@ -102,12 +101,11 @@ takes_whole_lines options = are_bytes options.names.first.separators && not (is_
 module _ (options : LineOptions) (keeps : PlainAny → Bool) where
   -- whether a line is kept as a whole and isn't by the version in its tag, or the other way round
   abbrev pub line_kept_otherwise : List ℕ → Bool
-  line_kept_otherwise line = option_map_or (λ scheme. is_kept_otherwise keeps scheme (text_of options.place line))
-      (scheme_at options.place options.scheme_column line) false
+  line_kept_otherwise line = is_kept_otherwise keeps options.place.spelling.scheme (text_of options.place line)
 
   -- whether there is such a line
-  abbrev pub keeps_otherwise : List ℕ → Bool
-  keeps_otherwise input = is_bare options.place.spelling.naming && list_any line_kept_otherwise (lines_of options.end input)
+  abbrev pub keeps_otherwise : List PlainLine → Bool
+  keeps_otherwise lines = is_bare options.place.spelling.naming && list_any line_kept_otherwise (texts_of lines)
 
   -- whether a line is of the newest one's group, and newer by their tags; or where none is newest, whether it is kept
   -- by its tag
@@ -118,22 +116,14 @@ module _ (options : LineOptions) (keeps : PlainAny → Bool) where
       && is_newer keeps options.place.spelling.scheme (text_of options.place newest) (text_of options.place line)
 
   -- whether there is such a line
-  abbrev pub another_is_newest : Option Column → Option (List ℕ) → List ℕ → Bool
-  another_is_newest group newest input =
-      is_bare options.place.spelling.naming && list_any (is_another_newest group newest) (lines_of options.end input)
+  abbrev pub another_is_newest : Option Column → Option (List ℕ) → List PlainLine → Bool
+  another_is_newest group newest lines =
+      is_bare options.place.spelling.naming && list_any (is_another_newest group newest) (texts_of lines)
 
-  -- whether there are lines, and none is kept
-  abbrev pub keeps_none : List ℕ → Bool
-  keeps_none input =
-      not (length input == 0) && not (list_any (has keeps (versions_in options)) (lines_of options.end input))
-
--- whether the first line of an input ends in a carriage return that is taken for a part of it
-abbrev pub has_returns : LineOptions → List ℕ → Bool
-has_returns options input = by (lines_of options.end input)
-  where
-    by : List (List ℕ) → Bool
-    by [] = false
-    by (line ∷ lines) = not options.place.crlf && ends_in_return line
+-- whether the first of some lines ends in a carriage return that is taken for a part of it
+abbrev pub has_returns : LineOptions → List PlainLine → Bool
+has_returns options [] = false
+has_returns options (line ∷ lines) = not options.place.crlf && ends_in_return line.text
 
 -- each hint of which this holds may be told
 abbrev pub MayTell : (Hint → Type 0) → (Hint → Type 0) → Type 0
@@ -151,8 +141,8 @@ first_of (line ∷ lines) = Some line
 
 -- ---- of lines
 
-module _ (options : LineOptions) (keeps : PlainAny → Bool) (input : List ℕ) where
-  -- of the lines of an input that are sorted, which are written so
+module _ (options : LineOptions) (keeps : PlainAny → Bool) (input : List PlainLine) where
+  -- of lines that are sorted, which are written so
   abbrev pub IsOfSorted : (reverse : Bool) → (unique : Bool) → List (List ℕ) → Hint → Type 0
   IsOfSorted reverse unique lines = IfTags ((is_bare options.place.spelling.naming ≡ true)
       × (StandOtherwise reverse unique options.place lines ⊎ (keeps_otherwise options keeps input ≡ true)))
@@ -162,34 +152,35 @@ module _ (options : LineOptions) (keeps : PlainAny → Bool) (input : List ℕ) 
   IsOfNewest group newest = IfTags (another_is_newest options keeps group newest input ≡ true)
 
   -- of those that `filter` keeps
-  abbrev pub IsOfFilter : Hint → Type 0
-  IsOfFilter Tags = keeps_otherwise options keeps input ≡ true
-  IsOfFilter (NothingKept returns) = (keeps_none options keeps input ≡ true) × (returns ≡ has_returns options input)
-  IsOfFilter other = ⊥
+  abbrev pub IsOfFilter : List (List ℕ) → Hint → Type 0
+  IsOfFilter kept Tags = keeps_otherwise options keeps input ≡ true
+  IsOfFilter kept (NothingKept returns) =
+      (kept ≡ []) × (0 < length input) × (returns ≡ has_returns options input)
+  IsOfFilter kept other = ⊥
 
   -- of those that are arranged, which are written so
   abbrev pub IsOfArranged : Arrangement → List (List ℕ) → Hint → Type 0
   IsOfArranged (Sort reverse unique) lines = IsOfSorted reverse unique lines
   IsOfArranged (Newest count group) lines = IsOfNewest group (first_of lines)
-  IsOfArranged (Filter set inverted) lines = IsOfFilter
+  IsOfArranged (Filter set inverted) lines = IsOfFilter lines
 
   abbrev pub IsOfLines : List (List ℕ) → Hint → Type 0
   IsOfLines lines = IsOfArranged options.arrangement lines
 
 -- of those that are kept, by columns of numbers alone
-abbrev pub IsOfBody : (PlainAny → Bool) → LineOptions → List ℕ → Hint → Type 0
+abbrev pub IsOfBody : (PlainAny → Bool) → LineOptions → List PlainLine → Hint → Type 0
 IsOfBody keeps options body = IsOfLines options keeps body (ordered_in keeps options body)
 
 -- the same behind a header, by the columns of its names
-abbrev pub IsOfInput : (PlainAny → Bool) → LineOptions → List ℕ → Hint → Type 0
-IsOfInput keeps options input = IsOfBody keeps (options_in options input) (body_of options input)
+abbrev pub IsOfInput : (PlainAny → Bool) → LineOptions → List PlainLine → Hint → Type 0
+IsOfInput keeps options lines = IsOfBody keeps (options_in options lines) (body_of options lines)
 
 -- of a run whose inputs are read in turn
 abbrev pub IsOfRun : LineOptions → List (List ℕ) → Reading → Option (List ℕ) → Hint → Type 0
 IsOfRun options names reads old hint = (new : Option (List ℕ)) × (texts : List (List ℕ))
     × (keeps : PlainAny → Bool) × AreInputs reads old new (names_read names) texts
     × (keeps_of options.place.spelling.scheme options.choice options.arrangement ≡ Some keeps)
-    × IsOfInput keeps options (joined options.end.byte texts) hint
+    × IsOfInput keeps options (lines_of_inputs options.end (inputs_of names texts)) hint
 
 -- whether lines are filtered
 abbrev pub is_filter : Arrangement → Bool
@@ -229,14 +220,14 @@ IsOfEach question options (NotVersion word remark) = (version_asked question opt
 IsOfEach question options Tags = TagsMatter question options
 IsOfEach question options other = ⊥
 
--- how many lines of a list have a version, and the name of an earlier line
-abbrev pub repeated : Lists → List ℕ → ℕ
-repeated lists input = length (rows_of lists input) - length (first_rows (rows_of lists input))
+-- how many rows have the name of an earlier one
+abbrev pub repeated : List Row → ℕ
+repeated rows = length rows - length (first_rows rows)
 
--- of the input of a name with this text, that so many lines are repeated
+-- of the input of a name with this text, that so many lines have a version, and the name of an earlier line
 abbrev pub IsOfList : Lists → List ℕ → List ℕ → Hint → Type 0
 IsOfList lists name input (Repeated said count) =
-    (said.now ≡ name) × (0 < count) × (count ≡ repeated lists (ended lists.end.byte input))
+    (said.now ≡ name) × (0 < count) × (count ≡ repeated (rows_of lists input))
 IsOfList lists name input other = ⊥
 
 -- of two lists, which are read in turn

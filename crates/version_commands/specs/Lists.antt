@@ -8,7 +8,6 @@ use Rattle.std.specs.Ordering.{nat_cmp}
 use Rattle.std.specs.Str.{bytes_eq}
 use Rattle.std.specs.declared.cmp.Ordering.{Ordering}
 use Rattle.std.specs.declared.cmp.Ordering.TheVariants.{Less, Equal, Greater}
-use Rattle.version_commands.specs.Files.{lines_within}
 use Rattle.version_commands.specs.lines.Picked.{bad_lines}
 use Rattle.version_commands.specs.lines.Place.{column_text, line_text, reads_of}
 use Rattle.version_commands.specs.declared.lists.Named.{Named}
@@ -16,6 +15,7 @@ use Rattle.version_commands.specs.declared.lists.Names.{Names}
 use Rattle.version_commands.specs.declared.lists.WhichList.{WhichList}
 use Rattle.version_commands.specs.declared.lists.WhichList.TheVariants.{Old, New}
 use Rattle.version_commands.specs.declared.options.Lists.{Lists}
+use Rattle.version_lines.specs.Inputs.{lines_of_input, PlainLine}
 use Rattle.version_lines.specs.Lines.{lines_of, whole_line}
 use Rattle.version_lines.specs.Sort.{version_in}
 use Rattle.version_schemes.specs.any.AnyVersion.{plain_any}
@@ -25,13 +25,13 @@ use Rattle.version_schemes.specs.any.Order.{PlainAny, any_precedence}
 abbrev pub names_of : Lists → List (List ℕ)
 names_of lists = lists.old.now ∷ lists.new.now ∷ []
 
--- the lines of a list
-abbrev pub lines_of_list : Lists → List ℕ → List (List ℕ)
-lines_of_list lists input = lines_within lists.end input
+-- the lines of a list, which the file of a name holds
+abbrev pub lines_of_list : Lists → List ℕ → List ℕ → List PlainLine
+lines_of_list lists name input = lines_of_input lists.end (Some name, input)
 
 -- those that have no version
-abbrev pub bad_lines_of : Lists → List ℕ → List (List ℕ)
-bad_lines_of lists input = bad_lines (version_in (reads_of lists.place)) (lines_of_list lists input)
+abbrev pub bad_lines_of : Lists → List ℕ → List ℕ → List PlainLine
+bad_lines_of lists name input = bad_lines (version_in (reads_of lists.place)) (lines_of_list lists name input)
 
 -- a name, and the version beside it
 abbrev pub Row : Type 0
@@ -47,9 +47,13 @@ row_of lists line =
 abbrev pub rows_of_line : Lists → List ℕ → List Row
 rows_of_line lists line = option_map_or (λ row. row ∷ []) (row_of lists line) []
 
+-- what some lines name
+abbrev pub named_in : Lists → List (List ℕ) → List Row
+named_in lists lines = flat_map (rows_of_line lists) lines
+
 -- what the lines of an input name
 abbrev pub rows_of : Lists → List ℕ → List Row
-rows_of lists input = flat_map (rows_of_line lists) (lines_of lists.end input)
+rows_of lists input = named_in lists (lines_of lists.end input)
 
 -- the version of a name: that of its first row
 abbrev pub version_of : List Row → List ℕ → Option PlainAny

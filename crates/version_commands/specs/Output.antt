@@ -6,7 +6,7 @@ use Rattle.version_answers.specs.two.Difference.{difference_line}
 use Rattle.version_commands.specs.words.Each.{are_versions, IsAnswered, IsAsked}
 use Rattle.version_answers.specs.two.Explain.{explained_line}
 use Rattle.version_commands.specs.lines.FirstWord.{may_be_standard, Finding, HoldsByWords}
-use Rattle.version_commands.specs.Files.{ended, is_open, names_read, reads_standard, AreInputs, Reading}
+use Rattle.version_commands.specs.Files.{names_read, reads_standard, AreInputs, Reading}
 use Rattle.version_commands.specs.lines.Label.{AreLabelled}
 use Rattle.version_commands.specs.Lists.{bad_lines_of, difference_text, names_of, rows_of}
 use Rattle.version_commands.specs.lines.Ordered.{bad_file, IsOrdered}
@@ -17,7 +17,7 @@ use Rattle.version_commands.specs.declared.options.Invalid.TheVariants.{Fail}
 use Rattle.version_commands.specs.declared.options.Lists.{Lists}
 use Rattle.version_commands.specs.declared.options.Task.{Task}
 use Rattle.version_commands.specs.declared.options.Task.TheVariants as task
-use Rattle.version_lines.specs.Lines.{line_feed}
+use Rattle.version_lines.specs.Lines.{ends_quoted, line_feed}
 use Rattle.version_schemes.specs.declared.scheme.Scheme.{Scheme}
 use Rattle.version_sets.specs.Form.{IsPart, Meet}
 
@@ -37,10 +37,10 @@ pub record AreChanges (lists : Lists) (reads : Reading) (old new : Option (List 
   pub first : List ℕ
   pub second : List ℕ
   pub texts_are : AreInputs reads old new (names_of lists) (first ∷ second ∷ [])
-  pub closed : list_any (is_open lists.end) (first ∷ second ∷ []) ≡ false
-  pub good_are : lists.invalid ≡ Fail → (bad_lines_of lists first ≡ []) × (bad_lines_of lists second ≡ [])
-  pub output_is : output ≡ difference_text lists.end.byte
-      (rows_of lists (ended lists.end.byte first)) (rows_of lists (ended lists.end.byte second))
+  pub closed : list_any (ends_quoted lists.end) (first ∷ second ∷ []) ≡ false
+  pub good_are : lists.invalid ≡ Fail → (bad_lines_of lists lists.old.now first ≡ [])
+      × (bad_lines_of lists lists.new.now second ≡ [])
+  pub output_is : output ≡ difference_text lists.end.byte (rows_of lists first) (rows_of lists second)
 
 -- the line for the answer about two sets
 abbrev pub IsLineOfSets : Scheme → (Bool → (List ℕ → Bool) → (List ℕ → Bool) → Type 0) → List ℕ → List ℕ

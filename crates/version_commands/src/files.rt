@@ -1,10 +1,11 @@
 //! The files of a run, and what it tells while it works.
 
-ghost use Rattle.std.specs.Prelude.{◌≡◌, ⊤, ℕ, Bool, List, Option, None, Some, ◌++◌, IfErr, OnOk};
+ghost use Rattle.std.specs.Prelude.{◌≡◌, ⊤, ℕ, Bool, List, Option, None, Some, IfErr, IfOk, OnOk};
 ghost use Rattle.version_commands.specs.declared.files.Hint.{Hint as Told};
 
 pub(crate) mod inputs;
 
+use std::alloc::Global;
 use version_answers::Remark;
 use version_lines::Trouble;
 
@@ -59,13 +60,11 @@ pub trait Files {
     // The hints that may be told: those that are so, as who calls a task says of it.
     ghost may_hint: { Told → Type 0 } = { λ _. ⊤ };
 
-    /// Adds what the file holds to the input. After an error, part of it may have been added.
-    fn read_onto(&self, name: &str, input: &mut Vec<u8>) -> Result<(), Trouble>
-        ensures text { OnOk result ((text : List ℕ) × (input.new.items ≡ input.old.items ++ text)
-            × reads self.now name.now (Some text)) }
+    /// Returns what the file holds.
+    fn read(&self, alloc: Global, name: &str) -> Result<Vec<u8>, Trouble>
+        ensures text { IfOk result (λ text. reads self.now name.now (Some text.items)) }
         ensures failed { IfErr result
-            (λ trouble. trouble ≡ Trouble.System → reads self.now name.now None) }
-        ensures begun { (more : List ℕ) × (input.new.items ≡ input.old.items ++ more) };
+            (λ trouble. trouble ≡ Trouble.System → reads self.now name.now None) };
 
     /// Writes the bytes to the file, in place of what it holds. After an error, it may hold anything.
     fn put(&mut self, name: &str, bytes: &[u8]) -> Result<(), Trouble>
@@ -103,7 +102,7 @@ impl Files for NoFiles {
 
     ghost alters = { λ old new _. new ≡ old };
 
-    fn read_onto(&self, _name: &str, _input: &mut Vec<u8>) -> Result<(), Trouble> {
+    fn read(&self, _alloc: Global, _name: &str) -> Result<Vec<u8>, Trouble> {
         Err(Trouble::System)
     }
 

@@ -1,21 +1,22 @@
 //! What differs between two lists of names with versions.
-ghost use Rattle.std.specs.Prelude.{◌≡◌, ◌∷◌, ◌++◌, [], length, List, IfOk, OnOk};
+ghost use Rattle.std.specs.Prelude.{◌≡◌, ◌∷◌, ◌++◌, [], length, map, List, IfOk, OnOk};
 ghost use Rattle.std.specs.Option.{option_map};
 ghost use Rattle.version_commands.specs.Hints.{repeated};
-ghost use Rattle.version_commands.specs.Lists.{difference_text, first_rows, lines_against, name_line, plain_row, row_text, rows_of, version_of, AreNames, Row};
-ghost use Rattle.version_commands.specs.lines.Picked.{AreBadOf};
+ghost use Rattle.version_commands.specs.Lists.{difference_text, first_rows, bad_lines_of, lines_against, name_line, plain_row, row_text, rows_of, version_of, AreNames, Row};
 ghost use Rattle.version_commands.specs.lines.Place.{reads_of};
-ghost use Rattle.version_lines.specs.Lines.{lines_of, whole_line};
+ghost use Rattle.version_lines.specs.Inputs.{plain_line};
+ghost use Rattle.version_lines.specs.Lines.{whole_line};
 ghost use Rattle.version_lines.specs.Sort.{version_in};
 ghost use Rattle.version_schemes.specs.any.AnyVersion.{plain_any};
 
 use crate::files::inputs::count_lines;
-use crate::lines::pick::{BadLines, EveryVersion, Takes, pick};
+use crate::lines::pick::{EveryVersion, Takes, pick};
 use crate::lines::place::{column_text, line_text};
 use crate::options::Lists;
 use std::alloc::{AllocError, Global};
 use std::cmp::Ordering;
 use std::collections::BTreeMap;
+use version_lines::{Line, Lines};
 use version_schemes::AnyVersion;
 
 /// A name, and the version beside it.
@@ -81,33 +82,40 @@ impl<'a> Names<'a> {
     }
 }
 
-/// Returns the names of a list, and its lines without a version, which have none.
-pub fn read_names<'a>(
+/// Returns the names of a list, which the file of a name holds, and its lines without a version, which have none.
+pub fn read_names<'a, 'w: 'a>(
     alloc: Global,
     lists: &Lists<'_>,
-    input: &'a [u8],
-) -> Result<(Names<'a>, BadLines<'a>), AllocError>
-    ensures names { IfOk result (λ read. AreNames (rows_of lists.now input.now) read.0) }
-    ensures bad { IfOk result (λ read.
-        AreBadOf (version_in (reads_of lists.now.place)) (lines_of lists.now.end input.now) read.1) }
+    file: &'w str,
+    text: &'a [u8],
+) -> Result<(Names<'a>, Vec<Line<'a, 'w>>), AllocError>
+    ensures names { IfOk result (λ read. AreNames (rows_of lists.now text.now) read.0) }
+    ensures bad { IfOk result (λ read. map plain_line read.1.items ≡ bad_lines_of lists.now file.now text.now) }
 {
     let mut list = NamedList {
         lists,
         names: Names::new(alloc),
     };
-    let bad = pick(alloc, &mut list, &EveryVersion, lists.end, input)?;
-    Ok((list.names, bad))
+    let lines = Lines::of(lists.end, Some(file), text);
+    let picked = pick(alloc, &mut list, &EveryVersion, lines)?;
+    Ok((list.names, picked.bad))
 }
 
 /// Returns how many lines of a list have a version, and the name of an earlier line, by its names and its lines without
 /// a version.
-pub fn repeated(lists: &Lists<'_>, input: &[u8], names: &Names<'_>, bad: &BadLines<'_>) -> usize
-    requires names { AreNames (rows_of lists.now input.now) names.now }
-    requires bad { AreBadOf (version_in (reads_of lists.now.place)) (lines_of lists.now.end input.now) bad.now }
-    ensures { result ≡ repeated lists.now input.now }
+pub fn repeated(
+    lists: &Lists<'_>,
+    file: &str,
+    text: &[u8],
+    names: &Names<'_>,
+    bad: &[Line<'_, '_>],
+) -> usize
+    requires names { AreNames (rows_of lists.now text.now) names.now }
+    requires bad { map plain_line bad.now ≡ bad_lines_of lists.now file.now text.now }
+    ensures { result ≡ repeated (rows_of lists.now text.now) }
 {
-    count_lines(lists.end, input)
-        .saturating_sub(bad.lines.len())
+    count_lines(lists.end, text)
+        .saturating_sub(bad.len())
         .saturating_sub(names.count())
 }
 

@@ -1,5 +1,5 @@
 //! What a task does over any files, reader and writer.
-ghost use Rattle.std.specs.Prelude.{◌≡◌, ◌∷◌, ◌++◌, [], None, Some, false, true, IfErr, IfOk, OnOk};
+ghost use Rattle.std.specs.Prelude.{◌≡◌, ◌∷◌, ◌++◌, [], map, None, false, true, IfErr, IfOk, OnOk};
 ghost use Rattle.version_commands.specs.faults.Cause.{ComesOf, ComesOfChanges};
 ghost use Rattle.version_answers.specs.two.Compare.{comparison_line, sign_text};
 ghost use Rattle.version_answers.specs.two.Explain.{explained_line};
@@ -12,6 +12,7 @@ ghost use Rattle.version_commands.specs.Lists.{names_of};
 ghost use Rattle.version_commands.specs.Output.{asks_reader, file_of, Answers, AreChanges, IsLineOfTwo, IsOutput};
 ghost use Rattle.version_answers.specs.Spelling.{mixed_spelling, spelled, spelled_mixed};
 ghost use Rattle.version_commands.specs.words.Test.{answer_line};
+ghost use Rattle.version_lines.specs.Inputs.{plain_line};
 ghost use Rattle.version_lines.specs.Lines.{line_feed};
 
 use crate::faults::TaskFault;
@@ -23,7 +24,6 @@ use crate::hints::of_words::{tell_of_next, tell_of_two, tell_of_why, tell_others
 use crate::lines::first_word::serve_by_words;
 use crate::lines::label::write_labels;
 use crate::lines::matched::write_matched;
-use crate::lines::pick::BadLines;
 use crate::lines::write::write_answer;
 use crate::lists::{add_lists, read_names, repeated};
 use crate::options::{Invalid, Lists, Task};
@@ -34,7 +34,7 @@ use std::alloc::Global;
 use std::cmp::Ordering;
 use std::io::Write;
 use version_answers::{Naming, Spelling, add_difference, add_explained};
-use version_lines::Source;
+use version_lines::{Line, Source};
 use version_schemes::Scheme;
 
 /// Does a task, and returns whether it answers yes: one that answers by its output alone does. What it writes is
@@ -219,32 +219,31 @@ fn changes<'w, F: Files, R: Source>(
 {
     let old = read_input(alloc, lists.old, lists.end, files, reader)?;
     let new = read_input(alloc, lists.new, lists.end, files, reader)?;
-    let (old_names, old_bad) = read_names(alloc, lists, old.as_slice())?;
-    let (new_names, new_bad) = read_names(alloc, lists, new.as_slice())?;
-    refuse_of_list(alloc, lists, lists.old, &old_bad)?;
-    refuse_of_list(alloc, lists, lists.new, &new_bad)?;
-    let repeated_old = repeated(lists, old.as_slice(), &old_names, &old_bad);
+    let (old_text, new_text) = (old.as_slice(), new.as_slice());
+    let (old_names, old_bad) = read_names(alloc, lists, lists.old, old_text)?;
+    let (new_names, new_bad) = read_names(alloc, lists, lists.new, new_text)?;
+    refuse_of_list(alloc, lists, old_bad.as_slice())?;
+    refuse_of_list(alloc, lists, new_bad.as_slice())?;
+    let repeated_old = repeated(lists, lists.old, old_text, &old_names, old_bad.as_slice());
     tell_of_repeated(lists.old, repeated_old, files);
-    let repeated_new = repeated(lists, new.as_slice(), &new_names, &new_bad);
+    let repeated_new = repeated(lists, lists.new, new_text, &new_names, new_bad.as_slice());
     tell_of_repeated(lists.new, repeated_new, files);
     let mut output = Vec::new(alloc);
     add_lists(&old_names, &new_names, lists.end.byte, &mut output)?;
     Ok(output)
 }
 
-// Fails with the first line of a list that has no version, if there is one and the options ask for that.
+// Fails with the first of the lines of a list that have no version, if there is one and the options ask for that.
 fn refuse_of_list<'w>(
     alloc: Global,
     lists: &Lists<'_>,
-    file: &'w str,
-    bad: &BadLines<'_>,
+    bad: &[Line<'_, 'w>],
 ) -> Result<(), TaskFault<'w>>
-    ensures none { OnOk result (lists.now.invalid ≡ Invalid.Fail → bad.now.lines.items ≡ []) }
-    ensures faults { IfErr result
-        (ComesOfBad lists.now.invalid lists.now.place None (Some file.entry) 0 bad.now) }
+    ensures none { OnOk result (lists.now.invalid ≡ Invalid.Fail → bad.now ≡ []) }
+    ensures faults { IfErr result (ComesOfBad lists.now.invalid lists.now.place None (map plain_line bad.now)) }
 {
     match lists.invalid {
-        Invalid::Fail => refuse_first(alloc, &lists.place, None, Some(file), 0, bad),
+        Invalid::Fail => refuse_first(alloc, &lists.place, None, bad),
         Invalid::Skip | Invalid::First | Invalid::Last => Ok(()),
     }
 }

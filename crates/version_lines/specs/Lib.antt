@@ -1,7 +1,7 @@
 pub mod Column
 pub mod Csv
 pub mod Entry
-pub mod Input
+pub mod Inputs
 pub mod KeyedLines
 pub mod Lines
 pub mod Newest

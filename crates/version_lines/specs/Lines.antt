@@ -1,5 +1,5 @@
 -- The lines of an input, and an output that is made line by line.
-use Rattle.std.specs.Prelude.{ℕ, Bool, false, zero, suc, ◌-◌, List, [], ◌∷◌, ◌++◌, None, length, take, if◌then◌else◌, ◌≡◌, ◌<◌, Option}
+use Rattle.std.specs.Prelude.{ℕ, Bool, List, [], ◌∷◌, ◌++◌, None, length, if◌then◌else◌, ◌≡◌, ◌<◌, Option}
 use Rattle.std.specs.List.{flat_map}
 use Rattle.std.specs.Option.{option_map_or}
 use Rattle.version_lines.specs.Csv.{is_quoted, next, stops}
@@ -42,33 +42,13 @@ lines_of end bytes = lines_from end Start bytes
 abbrev pub state_behind : LineEnd → FieldState → ℕ → FieldState
 state_behind end state byte = if stops end.byte state byte then Start else state_after end state byte
 
--- whether the last of some bytes stands in quotes of CSV, so that their last line goes on in what follows them; if there
--- is none, this is said of the byte before
-abbrev pub ends_quoted_from : LineEnd → Bool → FieldState → List ℕ → Bool
-ends_quoted_from end before state [] = before
-ends_quoted_from end before state (byte ∷ bytes) =
-    ends_quoted_from end (is_quoted state) (state_behind end state byte) bytes
+-- whether some bytes end in quotes of CSV that never close
+abbrev pub ends_quoted_from : LineEnd → FieldState → List ℕ → Bool
+ends_quoted_from end state [] = is_quoted state
+ends_quoted_from end state (byte ∷ bytes) = ends_quoted_from end (state_behind end state byte) bytes
 
 abbrev pub ends_quoted : LineEnd → List ℕ → Bool
-ends_quoted end bytes = ends_quoted_from end false Start bytes
-
--- what follows the first line of some bytes
-abbrev pub after_line_from : LineEnd → FieldState → List ℕ → List ℕ
-after_line_from end state [] = []
-after_line_from end state (byte ∷ bytes) =
-    if stops end.byte state byte then bytes else after_line_from end (state_after end state byte) bytes
-
-abbrev pub after_line : LineEnd → List ℕ → List ℕ
-after_line end bytes = after_line_from end Start bytes
-
--- what follows so many lines
-abbrev pub after_lines : LineEnd → ℕ → List ℕ → List ℕ
-after_lines end zero bytes = bytes
-after_lines end (suc more) bytes = after_lines end more (after_line end bytes)
-
--- these lines
-abbrev pub first_lines : LineEnd → ℕ → List ℕ → List ℕ
-first_lines end count bytes = take (length bytes - length (after_lines end count bytes)) bytes
+ends_quoted end bytes = ends_quoted_from end Start bytes
 
 -- a line with the byte that ends it
 abbrev pub whole_line : ℕ → List ℕ → List ℕ

@@ -1,8 +1,7 @@
 //! Reading the whole input.
-ghost use Rattle.std.specs.Prelude.{◌≡◌, ◌++◌, ℕ, Bool, true, List, Option, vec_len, IfErr, IfOk, OnErr, OnOk};
+ghost use Rattle.std.specs.Prelude.{◌≡◌, ℕ, Bool, true, List, Option, vec_len, IfErr, IfOk, OnErr, OnOk};
 ghost use Rattle.std.specs.Io.{ReadsAtMost};
 ghost use Rattle.std.specs.Io.KnownBytes.{Consumes, IsAtEnd, ReadConsumes};
-ghost use Rattle.version_lines.specs.Input.{AddsRest};
 
 use std::alloc::{AllocError, Global};
 use std::io::Read;
@@ -74,31 +73,14 @@ pub fn read_all<R: Source>(alloc: Global, reader: &mut R) -> Result<Vec<u8>, Tro
         Consumes (R.remaining reader.old) (R.remaining reader.new) input.items) }
     ensures end { OnOk result (IsAtEnd (R.remaining reader.new)) }
     ensures failed { IfErr result (λ trouble. trouble ≡ Trouble.System → R.may_fail reader.old ≡ true) }
-{
-    let mut input = Vec::new(alloc);
-    read_onto(alloc, reader, &mut input)?;
-    Ok(input)
-}
-
-/// Reads to the end of the reader, and adds what it reads after the input so far. It stops as `read_all` does. After an
-/// error, part of it may have been added.
-pub fn read_onto<R: Source>(
-    alloc: Global,
-    reader: &mut R,
-    input: &mut Vec<u8>,
-) -> Result<(), Trouble>
-    ensures bytes { OnOk result
-        (AddsRest (R.remaining reader.old) (R.remaining reader.new) input.old.items input.new.items) }
-    ensures end { OnOk result (IsAtEnd (R.remaining reader.new)) }
-    ensures begun { (more : List ℕ) × (input.new.items ≡ input.old.items ++ more) }
-    ensures failed { IfErr result (λ trouble. trouble ≡ Trouble.System → R.may_fail reader.old ≡ true) }
     ensures stays { R.may_fail reader.new ≡ R.may_fail reader.old }
 {
+    let mut input = Vec::new(alloc);
     let mut piece = zeros(alloc, PIECE)?;
     for _ in 0..u64::MAX {
         let given = reader.read_piece(piece.as_mut_slice())?;
         if given == 0 {
-            return Ok(());
+            return Ok(input);
         }
         input.extend_from_slice(&piece[..given])?;
     }

@@ -5,14 +5,16 @@
 mod column;
 mod csv;
 mod input;
+mod inputs;
 mod laws;
 mod lines;
 mod output;
 mod sort;
 
 pub use column::{Column, Separators};
-pub use input::{Source, Trouble, read_all, read_onto};
-pub use lines::{Answer, LineCommand, LineEnd, after_lines, answer_lines, ends_quoted, split_line};
+pub use input::{Source, Trouble, read_all};
+pub use inputs::{InputText, Line, Lines};
+pub use lines::{Answer, LineCommand, LineEnd, answer_lines, ends_quoted};
 pub use output::{NotWritten, make_buffer, put, put_line, write_whole};
 pub use sort::by::{SortBy, WholeLines};
 pub use sort::keyed_lines::KeyedLines;

@@ -1,7 +1,7 @@
 //! The lines of an input, and outputs in which what is written for a line depends on that line alone.
 ghost use Rattle.std.specs.Prelude.{◌≡◌, ℕ, ◌<◌, ◌≤◌, ◌+◌, List, [], ◌∷◌, ◌++◌, drop, length, take, OnOk, OnErr};
 ghost use Rattle.std.specs.Io.KnownBytes.{Appends};
-ghost use Rattle.version_lines.specs.Lines.{after_line, after_lines, answer_text, ends_quoted, lines_of, output_by, plain_end, AppendsProperBeginning, AppendsUpTo};
+ghost use Rattle.version_lines.specs.Lines.{answer_text, ends_quoted, lines_of, output_by, plain_end, AppendsProperBeginning, AppendsUpTo};
 
 use crate::csv::{FieldState, length_before};
 use crate::output::{NotWritten, put_line, write_whole};
@@ -75,7 +75,6 @@ pub fn answer_lines<C: LineCommand, W: Write>(
 pub fn split_line(end: LineEnd, text: &[u8]) -> (&[u8], &[u8])
     requires { 0 < length text.now }
     ensures lines { lines_of end text.now ≡ result.0.now ∷ lines_of end result.1.now }
-    ensures rest { result.1.now ≡ after_line end text.now }
     ensures shorter { length result.1.now < length text.now }
 {
     let line = line_length(end, text);
@@ -87,7 +86,6 @@ pub fn split_line(end: LineEnd, text: &[u8]) -> (&[u8], &[u8])
 fn line_length(end: LineEnd, text: &[u8]) -> usize
     requires { 0 < length text.now }
     ensures lines { lines_of end text.now ≡ take result text.now ∷ lines_of end (drop (result + 1) text.now) }
-    ensures rest { after_line end text.now ≡ drop (result + 1) text.now }
     ensures within { result ≤ length text.now }
 {
     match end.csv {
@@ -96,37 +94,22 @@ fn line_length(end: LineEnd, text: &[u8]) -> usize
     }
 }
 
-/// Returns what follows so many lines of a text.
-pub fn after_lines(end: LineEnd, count: usize, text: &[u8]) -> &[u8]
-    ensures { result.now ≡ after_lines end count text.now }
-{
-    let mut rest = text;
-    for _ in 0..count {
-        if rest.is_empty() {
-            return rest;
-        }
-        rest = split_line(end, rest).1;
-    }
-    rest
-}
-
-/// Whether the last byte of a text stands in quotes of CSV, so that its last line goes on in what follows the text.
+/// Whether a text ends in quotes of CSV that never close.
 pub fn ends_quoted(end: LineEnd, text: &[u8]) -> bool
     ensures { result ≡ ends_quoted end text.now }
 {
     let Some(separator) = end.csv else {
         return false;
     };
-    let (mut state, mut quoted) = (FieldState::Start, false);
+    let mut state = FieldState::Start;
     for byte in text {
-        quoted = state.is_quoted();
-        state = if *byte == end.byte && !quoted {
+        state = if *byte == end.byte && !state.is_quoted() {
             FieldState::Start
         } else {
             state.next(separator, *byte)
         };
     }
-    quoted
+    state.is_quoted()
 }
 
 // Adds the answer for a line to the buffer.

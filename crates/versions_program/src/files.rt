@@ -1,11 +1,12 @@
 //! The files of the system, as the program reads and writes them.
 
+use std::alloc::Global;
 use std::cell::Cell;
 use std::fs;
 use std::io::{self, Read, Write};
 use version_answers::Shown;
 use version_commands::{Files, Hint, Stage, TaskFault};
-use version_lines::{Trouble, read_onto, write_whole};
+use version_lines::{Trouble, read_all, write_whole};
 
 /// The files of the system, and why it refused one. What they hold is not known to any contract.
 #[derive(Drop)]
@@ -79,9 +80,9 @@ impl Files for SystemFiles<'_> {
 
     ghost alters = { λ _ _ _. ⊤ };
 
-    fn read_onto(&self, name: &str, input: &mut Vec<u8>) -> Result<(), Trouble> {
+    fn read(&self, alloc: Global, name: &str) -> Result<Vec<u8>, Trouble> {
         let mut file = self.watched(fs::File::open(self.rt, name))?;
-        read_onto(self.rt.alloc(), &mut file, input)
+        read_all(alloc, &mut file)
     }
 
     fn put(&mut self, name: &str, bytes: &[u8]) -> Result<(), Trouble> {

@@ -1,19 +1,18 @@
 -- How a run ends, what is written at a fault, and what it comes of.
-use Rattle.std.proofs.Common.{◌≡◌, ℕ, Bool, false, true, List, Option, Result, Ok, Err, rules, ◌+◌, ◌++◌, ◌∷◌, Bor, ap, subst}
-use Rattle.version_commands.specs.faults.Ends.{takes_no_more, Ends, StopsBy}
-use Rattle.version_commands.specs.declared.faults.TaskFault.{TaskFault}
-use Rattle.version_commands.specs.declared.faults.bad.Blamed.{Blamed}
-use Rattle.version_commands.specs.declared.options.VersionPlace.{VersionPlace}
-use Rattle.version_lines.specs.declared.column.Column.{Column}
-use Rattle.version_commands.specs.faults.Cause.{IsInItsFile}
-use Rattle.version_commands.specs.faults.Fault.{ComesOfBad, ComesOfBadAfter, ComesOfLines, ComesOfReading, ComesOfReadingOne}
-use Rattle.version_commands.specs.lines.Picked.{bad_lines, AreBadOf, Versions}
+use Rattle.std.proofs.Common.{◌≡◌, ℕ, false, true, Bool, List, Option, Result, Ok, Err, rules, ◌++◌, ◌∷◌, Bor}
 use Rattle.std.specs.List.{list_any}
-use Rattle.version_commands.specs.Files.{is_open, AreInputs, ComesFirstAt, EndsOpen, MayFail, Reading}
-use Rattle.version_lines.specs.declared.lines.LineEnd.{LineEnd}
-use Rattle.version_commands.specs.declared.options.Invalid.{Invalid}
-use Rattle.version_commands.specs.declared.lines.pick.BadLines.{BadLines}
+use Rattle.version_commands.specs.faults.Ends.{takes_no_more, Ends, StopsBy}
+use Rattle.version_commands.specs.faults.Fault.{ComesOfBad, ComesOfReading, ComesOfReadingOne}
+use Rattle.version_commands.specs.Files.{AreInputs, ComesFirstAt, EndsOpen, MayFail, Reading}
+use Rattle.version_commands.specs.declared.faults.TaskFault.{TaskFault}
 use Rattle.version_commands.specs.declared.faults.TaskFault.TheVariants.{NotVersion, NotRequirement, NotSet, NotTested, NotTestedSet, BadLine, NoNext, NoColumn, Unclosed, Memory, Read, Write}
+use Rattle.version_commands.specs.declared.faults.bad.Blamed.{Blamed}
+use Rattle.version_commands.specs.declared.options.Invalid.{Invalid}
+use Rattle.version_commands.specs.declared.options.VersionPlace.{VersionPlace}
+use Rattle.version_lines.specs.Inputs.{PlainLine}
+use Rattle.version_lines.specs.Lines.{ends_quoted}
+use Rattle.version_lines.specs.declared.column.Column.{Column}
+use Rattle.version_lines.specs.declared.lines.LineEnd.{LineEnd}
 
 pub stops-weaker : (stopped : Bool) (IsOutput Other : List ℕ → Type 0) (Cause Follows : Type 0)
     (old new : Option (List ℕ)) → ((output : List ℕ) → IsOutput output → Other output)
@@ -42,34 +41,24 @@ pub ends-at : {T : Type 0} (IsOutput : List ℕ → Type 0) (Comes : TaskFault �
     → Ends IsOutput Comes old old result
 ends-at IsOutput Comes old fault result is stays comes = rw (is, stays) (search rules, comes)
 
--- the faults of lines without a version, by the lines themselves
-pub lines-bad : (invalid : Invalid) (place : VersionPlace) (schemes : Option Column) (file : Option (Bor (List ℕ)))
-    (header : ℕ) (at : Versions) (lines : List (List ℕ)) (bad : BadLines) → AreBadOf at lines bad → (fault : TaskFault)
-    → ComesOfBad invalid place schemes file header bad fault
-    → ComesOfLines invalid place schemes file header at lines fault
-lines-bad invalid place schemes file header at lines bad (same, before) fault is =
-    subst (λ (n : ℕ). ComesOfBadAfter invalid place schemes file (header + n) (bad_lines at lines) fault) before
-    (subst (λ (l : List (List ℕ)). ComesOfBadAfter invalid place schemes file (header + bad.before) l fault) same is)
-
 -- What follows from refused memory, and from what is reported of lines without a version, follows from
 -- each fault of such lines.
 pub bad-cases : (Follows : TaskFault → Type 0) (policy : Invalid) (place : VersionPlace) (schemes : Option Column)
-    (file : Option (Bor (List ℕ))) (before : ℕ) (bad : List (List ℕ)) → Follows Memory
-    → ((line : Blamed) → ComesOfBadAfter policy place schemes file before bad (BadLine line)
-    → Follows (BadLine line))
-    → (fault : TaskFault) → ComesOfBadAfter policy place schemes file before bad fault → Follows fault
-bad-cases Follows policy place schemes file before bad memory line (NotVersion text remark) is = absurd is
-bad-cases Follows policy place schemes file before bad memory line (NotRequirement text) is = absurd is
-bad-cases Follows policy place schemes file before bad memory line (NotSet wrong) is = absurd is
-bad-cases Follows policy place schemes file before bad memory line (NotTested text remark) is = absurd is
-bad-cases Follows policy place schemes file before bad memory line (NotTestedSet wrong) is = absurd is
-bad-cases Follows policy place schemes file before bad memory line (BadLine blamed) is = line blamed is
-bad-cases Follows policy place schemes file before bad memory line (NoNext text) is = absurd is
-bad-cases Follows policy place schemes file before bad memory line (NoColumn name) is = absurd is
-bad-cases Follows policy place schemes file before bad memory line (Unclosed name number) is = absurd is
-bad-cases Follows policy place schemes file before bad memory line Memory is = memory
-bad-cases Follows policy place schemes file before bad memory line (Read name) is = absurd is
-bad-cases Follows policy place schemes file before bad memory line (Write name) is = absurd is
+    (bad : List PlainLine) → Follows Memory
+    → ((line : Blamed) → ComesOfBad policy place schemes bad (BadLine line) → Follows (BadLine line))
+    → (fault : TaskFault) → ComesOfBad policy place schemes bad fault → Follows fault
+bad-cases Follows policy place schemes bad memory line (NotVersion text remark) is = absurd is
+bad-cases Follows policy place schemes bad memory line (NotRequirement text) is = absurd is
+bad-cases Follows policy place schemes bad memory line (NotSet wrong) is = absurd is
+bad-cases Follows policy place schemes bad memory line (NotTested text remark) is = absurd is
+bad-cases Follows policy place schemes bad memory line (NotTestedSet wrong) is = absurd is
+bad-cases Follows policy place schemes bad memory line (BadLine blamed) is = line blamed is
+bad-cases Follows policy place schemes bad memory line (NoNext text) is = absurd is
+bad-cases Follows policy place schemes bad memory line (NoColumn name) is = absurd is
+bad-cases Follows policy place schemes bad memory line (Unclosed name number) is = absurd is
+bad-cases Follows policy place schemes bad memory line Memory is = memory
+bad-cases Follows policy place schemes bad memory line (Read name) is = absurd is
+bad-cases Follows policy place schemes bad memory line (Write name) is = absurd is
 
 -- What follows from refused memory, from an input that can't be read, and from one that ends within quotes, follows from
 -- each fault of reading.
@@ -95,7 +84,7 @@ reading-cases Follows end reads fails old names memory read unclosed (Write name
 -- the faults of reading one input, behind others that end as they should, are those of all that are read in turn
 module _ (end : LineEnd) (reads : Reading) (fails : Bool) (old between : Option (List ℕ))
     (names before after texts : List (List ℕ)) (name : List ℕ) (are : names ≡ before ++ name ∷ after) (read : AreInputs reads old between before texts)
-    (closed : list_any (is_open end) texts ≡ false) where
+    (closed : list_any (ends_quoted end) texts ≡ false) where
   comes-at : (Comes : Option (List ℕ) → Type 0) (shown : List ℕ) → shown ≡ name → Comes between
       → ComesFirstAt end reads old names shown Comes
   comes-at Comes shown same comes = record {
@@ -124,31 +113,3 @@ module _ (end : LineEnd) (reads : Reading) (fails : Bool) (old between : Option 
   reading-at Memory is = tt
   reading-at (Read shown) (same, failed) = comes-at (λ b. MayFail reads fails shown.now) shown.now same (rw same failed)
   reading-at (Write shown) is = absurd is
-
--- a fault told by its file is as the one of all files, where lines to blame are alike
-pub told-alike : (test : TaskFault → Bool) → ((a b : Blamed) → test (BadLine a) ≡ test (BadLine b))
-    → (names : List (List ℕ)) (counts : List ℕ) (found told : TaskFault) → IsInItsFile names counts found told
-    → test told ≡ test found
-told-alike test alike names counts (BadLine bad) (NotVersion text remark) same = ap test same
-told-alike test alike names counts (BadLine bad) (NotRequirement text) same = ap test same
-told-alike test alike names counts (BadLine bad) (NotSet wrong) same = ap test same
-told-alike test alike names counts (BadLine bad) (NotTested text remark) same = ap test same
-told-alike test alike names counts (BadLine bad) (NotTestedSet wrong) same = ap test same
-told-alike test alike names counts (BadLine bad) (BadLine told) same = alike told bad
-told-alike test alike names counts (BadLine bad) (NoNext text) same = ap test same
-told-alike test alike names counts (BadLine bad) (NoColumn name) same = ap test same
-told-alike test alike names counts (BadLine bad) (Unclosed name number) same = ap test same
-told-alike test alike names counts (BadLine bad) Memory same = ap test same
-told-alike test alike names counts (BadLine bad) (Read name) same = ap test same
-told-alike test alike names counts (BadLine bad) (Write name) same = ap test same
-told-alike test alike names counts (NotVersion text remark) told same = ap test same
-told-alike test alike names counts (NotRequirement text) told same = ap test same
-told-alike test alike names counts (NotSet wrong) told same = ap test same
-told-alike test alike names counts (NotTested text remark) told same = ap test same
-told-alike test alike names counts (NotTestedSet wrong) told same = ap test same
-told-alike test alike names counts (NoNext text) told same = ap test same
-told-alike test alike names counts (NoColumn name) told same = ap test same
-told-alike test alike names counts (Unclosed name number) told same = ap test same
-told-alike test alike names counts Memory told same = ap test same
-told-alike test alike names counts (Read name) told same = ap test same
-told-alike test alike names counts (Write name) told same = ap test same

@@ -1,13 +1,12 @@
 -- Hints that are so of a part of a run are so of the whole.
 use Rattle.std.proofs.Common.{◌≡◌, inl, inr, ◌+◌, ◌-◌, ℕ, Bool, true, List, [], ◌∷◌, Bor, length, Option, None, Some, arith, refl, sym, subst}
-use Rattle.std.specs.List.{flat_map}
 use Rattle.std.specs.Option.{option_map}
 use Rattle.version_commands.proofs.lemmas.lines.Ordered.{lines-alike}
 use Rattle.version_commands.specs.faults.Cause.{ComesOfArranging, ComesOfFirst}
 use Rattle.version_commands.specs.lines.FirstWord.{without_set, Finding, HoldsByWords}
 use Rattle.version_commands.specs.Hints.{first_of, IfTags, IsOfArranged, IsOfArranging, IsOfBody, IsOfEach, IsOfInput, IsOfLines, IsOfRun, TagsMatter}
-use Rattle.version_commands.specs.Files.{joined, Reading}
-use Rattle.version_commands.specs.Lists.{rows_of, rows_of_line}
+use Rattle.version_commands.specs.Files.{inputs_of, Reading}
+use Rattle.version_commands.specs.Lists.{named_in}
 use Rattle.version_commands.specs.lines.Ordered.{arranged_in, body_of, options_in, ordered_in}
 use Rattle.version_commands.specs.lines.Picked.{bad_lines}
 use Rattle.version_commands.specs.lines.Place.{reads_of}
@@ -21,7 +20,7 @@ use Rattle.version_commands.specs.declared.options.EachOptions.{EachOptions}
 use Rattle.version_commands.specs.declared.options.LineOptions.{LineOptions}
 use Rattle.version_commands.specs.declared.options.Lists.{Lists}
 use Rattle.version_commands.specs.declared.options.Question.{Question}
-use Rattle.version_lines.specs.Lines.{lines_of}
+use Rattle.version_lines.specs.Inputs.{lines_of_inputs, texts_of, PlainLine}
 use Rattle.version_lines.specs.Newest.{rows_in}
 use Rattle.version_lines.specs.Sort.{version_in}
 use Rattle.version_schemes.specs.any.Order.{PlainAny}
@@ -34,7 +33,7 @@ first-row None = refl
 first-row (Some line) = refl
 
 -- where each line is its version and each version is kept, what is so of the lines as they are is so of these
-module _ (options : LineOptions) (keeps : PlainAny → Bool) (input : List ℕ)
+module _ (options : LineOptions) (keeps : PlainAny → Bool) (input : List PlainLine)
     (whole : reads_of options.place ≡ record { scheme = Mixed; text_of = λ line. line })
     (all : (v : PlainAny) → keeps v ≡ true) where
   pub hints-alike : (hint : Hint)
@@ -49,11 +48,11 @@ module _ (options : LineOptions) (keeps : PlainAny → Bool) (input : List ℕ)
       (lines-alike options keeps input whole all) so)
 
 -- what is so by the columns of the names in a header is so of the whole input
-pub hints-in : (options made : LineOptions) (keeps : PlainAny → Bool) (whole body : List ℕ)
+pub hints-in : (options made : LineOptions) (keeps : PlainAny → Bool) (whole body : List PlainLine)
     → made ≡ options_in options whole → body ≡ body_of options whole → (hint : Hint)
     → IsOfBody keeps made body hint → IsOfInput keeps options whole hint
 hints-in options made keeps whole body made_is body_is hint so =
-    subst (λ (b : List ℕ). IsOfBody keeps (options_in options whole) b hint) body_is
+    subst (λ (b : List PlainLine). IsOfBody keeps (options_in options whole) b hint) body_is
     (subst (λ (o : LineOptions). IsOfBody keeps o body hint) made_is so)
 
 -- a fault that comes of the words of a run over lines comes of it
@@ -75,25 +74,23 @@ comes-of-first finds options names reads fails old Refuses (Read name) comes = c
 comes-of-first finds options names reads fails old Refuses (Write name) comes = comes
 
 -- each line of a list has no version, or is a row
-rows-and-bad : (lists : Lists) (lines : List (List ℕ))
+rows-and-bad : (lists : Lists) (lines : List PlainLine)
     → length lines
-    ≡ length (bad_lines (version_in (reads_of lists.place)) lines) + length (flat_map (rows_of_line lists) lines)
+    ≡ length (bad_lines (version_in (reads_of lists.place)) lines) + length (named_in lists (texts_of lines))
 rows-and-bad lists [] = refl
-rows-and-bad lists (line ∷ lines) = by (version_in (reads_of lists.place) line) refl (rows-and-bad lists lines)
+rows-and-bad lists (line ∷ lines) = by (version_in (reads_of lists.place) line.text) refl (rows-and-bad lists lines)
   where
-    by : (found : Option PlainAny) → version_in (reads_of lists.place) line ≡ found
-        → length lines ≡ length (bad_lines (version_in (reads_of lists.place)) lines)
-        + length (flat_map (rows_of_line lists) lines)
+    by : (found : Option PlainAny) → version_in (reads_of lists.place) line.text ≡ found
+        → length lines
+        ≡ length (bad_lines (version_in (reads_of lists.place)) lines) + length (named_in lists (texts_of lines))
         → length (line ∷ lines) ≡ length (bad_lines (version_in (reads_of lists.place)) (line ∷ lines))
-        + length (flat_map (rows_of_line lists) (line ∷ lines))
+        + length (named_in lists (texts_of (line ∷ lines)))
     by None is others = rw is (omega (arith, others))
     by (Some v) is others = rw is (omega (arith, others))
 
-pub rows-left : (lists : Lists) (input : List ℕ)
-    → length (lines_of lists.end input)
-    - length (bad_lines (version_in (reads_of lists.place)) (lines_of lists.end input))
-    ≡ length (rows_of lists input)
-rows-left lists input = omega (arith, rows-and-bad lists (lines_of lists.end input))
+pub rows-left : (lists : Lists) (lines : List PlainLine)
+    → length lines - length (bad_lines (version_in (reads_of lists.place)) lines) ≡ length (named_in lists (texts_of lines))
+rows-left lists lines = omega (arith, rows-and-bad lists lines)
 
 -- what makes a hint of tags so, from something else
 pub if-tags : {A B : Type 0} → (A → B) → (hint : Hint) → IfTags A hint → IfTags B hint
@@ -115,7 +112,7 @@ tags-of-each question options (Repeated name count) so = absurd so
 tags-of-each question options (NothingKept returns) so = absurd so
 
 -- what is so of the lines of a run is neither of its options alone nor of a file
-module _ (options : LineOptions) (keeps : PlainAny → Bool) (input : List ℕ) where
+module _ (options : LineOptions) (keeps : PlainAny → Bool) (input : List PlainLine) where
   no-whole : (arrangement : Arrangement) (lines : List (List ℕ)) → IsOfArranged options keeps input arrangement lines WholeLines → ⊥
   no-whole (Sort reverse unique) lines so = so
   no-whole (Newest count group) lines so = so
@@ -128,11 +125,11 @@ module _ (options : LineOptions) (keeps : PlainAny → Bool) (input : List ℕ) 
   no-file name (Filter set inverted) lines so = so
 
 -- a hint that is so of no lines is so of no run
-module _ (hint : Hint) (never : (options : LineOptions) (keeps : PlainAny → Bool) (input : List ℕ) (lines : List (List ℕ))
+module _ (hint : Hint) (never : (options : LineOptions) (keeps : PlainAny → Bool) (input : List PlainLine) (lines : List (List ℕ))
     → IsOfLines options keeps input lines hint → ⊥) (reads : Reading) (old : Option (List ℕ)) where
   never-run : (options : LineOptions) (names : List (List ℕ)) → IsOfRun options names reads old hint → ⊥
   never-run options names (new, texts, keeps, are, kept, so) =
-      let whole = joined options.end.byte texts in
+      let whole = lines_of_inputs options.end (inputs_of names texts) in
       let by = options_in options whole in
       let body = body_of options whole in
       never by keeps body (ordered_in keeps by body) so

@@ -1,18 +1,18 @@
 -- The first row of each name, one row after another, and two lists that were read in turn.
-use Rattle.std.proofs.Common.{◌≡◌, ◌∙◌, ℕ, Bool, true, false, List, [], ◌∷◌, ◌++◌, ◌⊎◌, ◌≤◌, drop, length, Option, Some, None, append_assoc, append-nil, if◌then◌else◌, is_some, map, refl, ap, arith, sym, ◌+◌, Bor}
+use Rattle.std.proofs.Common.{◌≡◌, ◌∙◌, ℕ, Bool, true, false, List, [], ◌∷◌, ◌++◌, ◌⊎◌, ◌≤◌, drop, length, Option, Some, None, append_assoc, append-nil, if◌then◌else◌, is_some, map, refl, ap, arith, sym}
 use Rattle.std.proofs.lemmas.Bool.{cases_Bool}
 use Rattle.std.proofs.lemmas.List.{drop_all, map-append}
 use Rattle.std.proofs.lemmas.List.Folds.{flat_map-map}
 use Rattle.std.proofs.lemmas.Slice.Eq.{bytes_eq-Decides}
 use Rattle.std.specs.BTreeMap.{get_by}
 use Rattle.std.specs.Cmp.Lexicographic.{slice_cmp}
-use Rattle.std.specs.List.{flat_map, list_any}
+use Rattle.std.specs.List.{flat_map}
 use Rattle.std.specs.Map.{update}
 use Rattle.std.specs.Option.{option_map, option_or}
 use Rattle.std.specs.Ordering.{nat_cmp}
 use Rattle.std.specs.Str.{bytes_eq}
-use Rattle.version_commands.specs.Lists.{AreNames, Row, first_after, first_rows, lines_against, plain_row, rows_of_line, version_of, bad_lines_of, difference_text, names_of, rows_of}
-use Rattle.version_commands.specs.lines.Picked.{has, kept_lines, bad_lines, AreBadOf}
+use Rattle.version_commands.specs.Lists.{AreNames, Row, first_after, first_rows, lines_against, plain_row, rows_of_line, version_of, bad_lines_of, names_of}
+use Rattle.version_commands.specs.lines.Picked.{has, kept_lines}
 use Rattle.version_commands.specs.lines.Place.{reads_of}
 use Rattle.version_commands.specs.declared.options.Lists.{Lists}
 use Rattle.version_commands.specs.declared.lists.Named.{Named}
@@ -21,16 +21,15 @@ use Rattle.version_lines.specs.Sort.{version_in}
 use Rattle.version_schemes.specs.any.AnyVersion.{plain_any}
 use Rattle.version_schemes.specs.any.Order.{PlainAny}
 use Rattle.version_schemes.specs.declared.any.AnyVersion.{AnyVersion}
-use Rattle.version_commands.specs.faults.Cause.{ComesOfChanges, ComesOfEither, ComesOfOne}
+use Rattle.version_commands.specs.faults.Cause.{ComesOfChanges, ComesOfEither}
 use Rattle.version_commands.specs.faults.Fault.{ComesOfBad, ComesOfReading}
-use Rattle.version_commands.specs.Files.{ended, is_open, IsInput, Reading}
-use Rattle.version_commands.specs.Output.{AreChanges}
+use Rattle.version_commands.specs.Files.{IsInput, Reading}
 use Rattle.version_commands.specs.declared.faults.TaskFault.{TaskFault}
 use Rattle.version_commands.specs.declared.faults.TaskFault.TheVariants.{BadLine}
 use Rattle.version_commands.specs.declared.options.Invalid.TheVariants.{Fail}
-use Rattle.version_commands.specs.declared.lines.pick.BadLines.{BadLines}
-use Rattle.version_commands.proofs.lemmas.Faults.{bad-cases, lines-bad, reading-cases}
-use Rattle.version_lines.specs.Lines.{lines_of}
+use Rattle.version_commands.proofs.lemmas.Faults.{bad-cases, reading-cases}
+use Rattle.version_lines.specs.Inputs.{plain_line, PlainLine}
+use Rattle.version_lines.specs.declared.inputs.Line.{Line}
 
 -- the version of a name, if a row has it
 abbrev pub version_at : Row → List ℕ → Option PlainAny
@@ -193,55 +192,22 @@ rows-kept lists [] = refl
 rows-kept lists (line ∷ lines) =
     row-kept lists line lines (version_in (reads_of lists.place) line) refl (rows-kept lists lines)
 
--- two lists are two inputs
-pub are-changes : (lists : Lists) (reads : Reading) (old between new : Option (List ℕ))
-    (first second before after output : List ℕ)
-    → IsInput reads old between lists.old.now first → before ≡ ended lists.end.byte first
-    → IsInput reads between new lists.new.now second → after ≡ ended lists.end.byte second
-    → list_any (is_open lists.end) (first ∷ second ∷ []) ≡ false
-    → (lists.invalid ≡ Fail → (bad_lines_of lists first ≡ []) × (bad_lines_of lists second ≡ []))
-    → output ≡ difference_text lists.end.byte (rows_of lists before) (rows_of lists after)
-    → AreChanges lists reads old new output
-are-changes lists reads old between new first second before after output read is_old read_more is_new
-    closed good is = record {
-      first = first;
-      second = second;
-      texts_are = (between, read, (new, read_more, refl));
-      closed = closed;
-      good_are = good;
-      output_is = is
-          ∙ (λ i. difference_text lists.end.byte (rows_of lists (is_old i)) (rows_of lists (is_new i)));
-    }
-
--- a list's lines without a version, by what the list holds
-pub input-bad : (lists : Lists) (file : Bor (List ℕ)) (text input : List ℕ) (bad : BadLines)
-    → input ≡ ended lists.end.byte text
-    → AreBadOf (version_in (reads_of lists.place)) (lines_of lists.end input) bad
-    → (fault : TaskFault) → ComesOfBad lists.invalid lists.place None (Some file) 0 bad fault
-    → ComesOfOne lists file text fault
-input-bad lists file text input bad whole are fault is = grind (arith, lines-bad)
-
--- where none is left, each line of the list has a version
-pub input-good : (lists : Lists) (text input : List ℕ) (bad : BadLines)
-    → input ≡ ended lists.end.byte text
-    → AreBadOf (version_in (reads_of lists.place)) (lines_of lists.end input) bad → bad.lines.items ≡ []
-    → bad_lines_of lists text ≡ []
-input-good lists text input bad whole (same, before) none =
-    ap (λ (i : List ℕ). bad_lines (version_in (reads_of lists.place)) (lines_of lists.end i)) (sym whole)
-    ∙ sym same ∙ ap (map (λ (line : Bor (List ℕ)). line.now)) none
+-- where none is left, each line of a list has a version
+pub input-good : (lists : Lists) (name text : List ℕ) (bad : List Line)
+    → map plain_line bad ≡ bad_lines_of lists name text → bad ≡ [] → bad_lines_of lists name text ≡ []
+input-good lists name text bad are none = sym are ∙ ap (map plain_line) none
 
 -- so the faults of the lines without a version of a list are those of the two, if they are so for what
 -- is reported of them
-pub changes-bad : (lists : Lists) (reads : Reading) (fails : Bool) (old between new : Option (List ℕ)) (file : Bor (List ℕ))
-    (first second : List ℕ) (bad : BadLines) → IsInput reads old between lists.old.now first
+pub changes-bad : (lists : Lists) (reads : Reading) (fails : Bool) (old between new : Option (List ℕ))
+    (first second : List ℕ) (bad : List PlainLine) → IsInput reads old between lists.old.now first
     → IsInput reads between new lists.new.now second
-    → ((fault : TaskFault) → lists.invalid ≡ Fail → ComesOfBad lists.invalid lists.place None (Some file) 0 bad fault
+    → ((fault : TaskFault) → lists.invalid ≡ Fail → ComesOfBad lists.invalid lists.place None bad fault
     → ComesOfEither lists first second fault)
-    → (fault : TaskFault) → ComesOfBad lists.invalid lists.place None (Some file) 0 bad fault
+    → (fault : TaskFault) → ComesOfBad lists.invalid lists.place None bad fault
     → ComesOfChanges lists reads fails old fault
-changes-bad lists reads fails old between new file first second bad one other of_either =
-    bad-cases (ComesOfChanges lists reads fails old) lists.invalid lists.place None (Some file) (0 + bad.before)
-    (map (λ (line : Bor (List ℕ)). line.now) bad.lines.items) tt
+changes-bad lists reads fails old between new first second bad one other of_either =
+    bad-cases (ComesOfChanges lists reads fails old) lists.invalid lists.place None bad tt
     (λ line is. (
       new,
       first,

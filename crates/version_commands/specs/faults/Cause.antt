@@ -8,7 +8,7 @@ use Rattle.version_commands.specs.lines.Choice.{wrong_set}
 use Rattle.version_commands.specs.words.Each.{has_version, place_of, spelling_of, AreTexts, IsFirstWithoutNext}
 use Rattle.version_commands.specs.faults.Fault.{first_wrong, ComesOfLines, ComesOfMatching, ComesOfPut, ComesOfReading, ComesOfSets, ComesOfStandard, ComesOfTestOfSet, ComesOfTestOfSets, ComesOfTestOfTwo, ComesOfWords}
 use Rattle.version_commands.specs.lines.FirstWord.{Finding, HoldsByWords}
-use Rattle.version_commands.specs.Files.{counts_before_last, joined, line_in, names_read, AreInputs, IsLineIn, Reading}
+use Rattle.version_commands.specs.Files.{inputs_of, names_read, AreInputs, Reading}
 use Rattle.version_commands.specs.Lists.{bad_lines_of, lines_of_list, names_of}
 use Rattle.version_commands.specs.lines.Ordered.{body_of, name_missing, options_in, versions_in}
 use Rattle.version_commands.specs.lines.Picked.{Versions}
@@ -29,30 +29,23 @@ use Rattle.version_commands.specs.declared.options.Task.{Task}
 use Rattle.version_commands.specs.declared.options.Task.TheVariants as task
 use Rattle.version_commands.specs.declared.options.Invalid.TheVariants.{Fail}
 use Rattle.version_answers.specs.declared.set.WrongSet.{WrongSet}
-use Rattle.version_lines.specs.Lines.{lines_of, plain_end}
+use Rattle.version_lines.specs.Inputs.{lines_of_input, lines_of_inputs, PlainLine}
+use Rattle.version_lines.specs.Lines.{plain_end}
 use Rattle.version_lines.specs.Sort.{version_in}
 
 -- the faults of a run over the lines of an input: of the lines that have no version, or of the file
 -- for these
-abbrev pub ComesOfArranged : Versions → LineOptions → List ℕ → (List ℕ → Type 0) → TaskFault → Type 0
-ComesOfArranged versions options input Refuses (fault.Write name) = ComesOfPut options Refuses (fault.Write name)
-ComesOfArranged versions options input Refuses other =
-    ComesOfLines (policy options) options.place options.scheme_column None options.header versions
-    (lines_of options.end input) other
+abbrev pub ComesOfArranged : Versions → LineOptions → List PlainLine → (List ℕ → Type 0) → TaskFault → Type 0
+ComesOfArranged versions options lines Refuses (fault.Write name) = ComesOfPut options Refuses (fault.Write name)
+ComesOfArranged versions options lines Refuses other =
+    ComesOfLines (policy options) options.place options.scheme_column versions lines other
 
 -- those of an input: no column has a name that is asked for, or else those with the columns of the names
-abbrev pub ComesOfInput : LineOptions → List ℕ → (List ℕ → Type 0) → TaskFault → Type 0
-ComesOfInput options input Refuses fault.Memory = ⊤
-ComesOfInput options input Refuses (fault.NoColumn name) = name_missing options input ≡ Some name
-ComesOfInput options input Refuses other = (name_missing options input ≡ None)
-    × ComesOfArranged (versions_in (options_in options input)) (options_in options input) (body_of options input) Refuses other
-
--- the fault of a line is told by its file and its number there; each other stays
-abbrev pub IsInItsFile : List (List ℕ) → List ℕ → TaskFault → TaskFault → Type 0
-IsInItsFile names counts (fault.BadLine bad) (fault.BadLine told) =
-    IsLineIn (line_in names counts bad.number) bad.number told.file told.number × (told.text ≡ bad.text)
-    × (told.remark ≡ bad.remark) × (told.ends_in_return ≡ bad.ends_in_return) × (told.more ≡ bad.more)
-IsInItsFile names counts other told = told ≡ other
+abbrev pub ComesOfInput : LineOptions → List PlainLine → (List ℕ → Type 0) → TaskFault → Type 0
+ComesOfInput options lines Refuses fault.Memory = ⊤
+ComesOfInput options lines Refuses (fault.NoColumn name) = name_missing options lines ≡ Some name
+ComesOfInput options lines Refuses other = (name_missing options lines ≡ None)
+    × ComesOfArranged (versions_in (options_in options lines)) (options_in options lines) (body_of options lines) Refuses other
 
 -- the faults of `sort`, `newest` and `filter`: of a word that is no set, of an input, of a name that no column has, of
 -- the lines that have no version, or of the file for these
@@ -67,9 +60,8 @@ ComesOfArranging options names reads fails old Refuses (fault.Unclosed name numb
     ComesOfReading options.end reads fails old (names_read names) (fault.Unclosed name number)
 ComesOfArranging options names reads fails old Refuses fault.Memory = ⊤
 ComesOfArranging options names reads fails old Refuses other =
-    (new : Option (List ℕ)) × (texts : List (List ℕ)) × (found : TaskFault) × AreInputs reads old new (names_read names) texts
-    × ComesOfInput options (joined options.end.byte texts) Refuses found
-    × IsInItsFile names (counts_before_last options.end texts) found other
+    (new : Option (List ℕ)) × (texts : List (List ℕ)) × AreInputs reads old new (names_read names) texts
+    × ComesOfInput options (lines_of_inputs options.end (inputs_of names texts)) Refuses other
 
 -- the same by the words: the first of `filter` may name a file
 abbrev pub ComesOfFirst : Finding → LineOptions → List (List ℕ) → Reading → Bool → Option (List ℕ) → (List ℕ → Type 0)
@@ -109,8 +101,8 @@ ComesOfAsking question options fails old (fault.NotVersion text remark) =
 ComesOfAsking question options fails old (fault.BadLine bad) =
     (options.versions.items ≡ []) × (new : Option (List ℕ)) × (input : List ℕ)
     × Consumes old new input × IsAtEnd new
-    × ComesOfLines Fail (place_of question options.naming options.crlf) None None 0
-    (version_in (reads_of (place_of question options.naming options.crlf))) (lines_of (plain_end options.end) input)
+    × ComesOfLines Fail (place_of question options.naming options.crlf) None
+    (version_in (reads_of (place_of question options.naming options.crlf))) (lines_of_input (plain_end options.end) (None, input))
     (fault.BadLine bad)
 ComesOfAsking question options fails old (fault.Read name) =
     (options.versions.items ≡ []) × ComesOfStandard fails (fault.Read name)
@@ -122,13 +114,12 @@ ComesOfAsking question options fails old other = ComesOfQuestion question other
 -- the faults of the lines without a version of a list, which the file of this name holds
 abbrev pub ComesOfOne : Lists → Bor (List ℕ) → List ℕ → TaskFault → Type 0
 ComesOfOne lists file input =
-    ComesOfLines lists.invalid lists.place None (Some file) 0 (version_in (reads_of lists.place))
-    (lines_of_list lists input)
+    ComesOfLines lists.invalid lists.place None (version_in (reads_of lists.place)) (lines_of_list lists file.now input)
 
 -- those of two lists: of the new one only where each line of the old one has a version
 abbrev pub ComesOfEither : Lists → List ℕ → List ℕ → TaskFault → Type 0
 ComesOfEither lists first second fault = ComesOfOne lists lists.old first fault
-    ⊎ ((bad_lines_of lists first ≡ []) × ComesOfOne lists lists.new second fault)
+    ⊎ ((bad_lines_of lists lists.old.now first ≡ []) × ComesOfOne lists lists.new second fault)
 
 -- the faults of `diff --lists`: of an input, or of the lines of a list that have no version
 abbrev pub ComesOfChanges : Lists → Reading → Bool → Option (List ℕ) → TaskFault → Type 0

@@ -1,7 +1,7 @@
 -- The faults of a task: what a message says of them, and what they come of.
-use Rattle.std.specs.Prelude.{◌≡◌, ◌&&◌, ℕ, Bool, List, [], ◌∷◌, Option, None, Some, length, not, string_bytes, ◌⊎◌, ◌+◌, ◌-◌, ◌^◌, min, ⊤, true, IsSome, IsSomeAnd, codes, if◌then◌else◌, map, ◌++◌}
+use Rattle.std.specs.Prelude.{◌≡◌, ◌==◌, ◌&&◌, ℕ, Bool, List, [], ◌∷◌, Option, None, Some, length, not, string_bytes, ◌⊎◌, ⊤, false, true, ◌-◌, IsSome, IsSomeAnd, codes, if◌then◌else◌, ◌++◌}
 use Rattle.version_commands.specs.lines.BySchemes.{scheme_in}
-use Rattle.version_commands.specs.Files.{ends_line, ComesFirstAt, EndsOpen, MayFail, Reading}
+use Rattle.version_commands.specs.Files.{ComesFirstAt, EndsOpen, MayFail, Reading}
 use Rattle.version_commands.specs.lines.Place.{column_in, line_text}
 use Rattle.version_answers.specs.message.Quote.{shown_front, quoted}
 use Rattle.version_answers.specs.message.Remark.{IsRemark, no_version_text, others_text}
@@ -10,19 +10,19 @@ use Rattle.version_answers.specs.declared.spelling.Naming.{Naming}
 use Rattle.version_commands.specs.declared.options.VersionPlace.{VersionPlace}
 use Rattle.version_answers.specs.declared.message.remark.Remark.{Remark}
 use Rattle.version_answers.specs.declared.message.remark.Remark.TheVariants as added
-use Rattle.version_lines.specs.Column.{has_bytes}
 use Rattle.version_lines.specs.declared.column.Column.{Column}
 use Rattle.version_schemes.specs.declared.scheme.Scheme.{Scheme}
 use Rattle.std.proofs.Common.{Bor}
 use Rattle.std.specs.Fmt.{decimal}
-use Rattle.std.specs.Option.{option_map_or, option_or}
+use Rattle.std.specs.List.{slice_get}
+use Rattle.std.specs.Option.{option_map, option_map_or, option_or}
 use Rattle.version_commands.specs.declared.options.Invalid.{Invalid}
 use Rattle.version_commands.specs.declared.options.LineOptions.{LineOptions}
 use Rattle.version_answers.specs.declared.spelling.Spelling.{Spelling}
-use Rattle.version_commands.specs.declared.lines.pick.BadLines.{BadLines}
+use Rattle.version_lines.specs.Inputs.{PlainLine}
 use Rattle.version_lines.specs.declared.input.Trouble.{Trouble}
 use Rattle.version_lines.specs.declared.lines.LineEnd.{LineEnd}
-use Rattle.version_commands.specs.lines.Picked.{bad_lines, good_before, Versions}
+use Rattle.version_commands.specs.lines.Picked.{bad_lines, Versions}
 use Rattle.version_answers.specs.Spelling.{spelled}
 use Rattle.version_answers.specs.Sets.{wrong_set_text, IsWrongSet, keys_of}
 use Rattle.version_rules.specs.requirement.Requirements.{requirements_of}
@@ -33,7 +33,7 @@ use Rattle.version_lines.specs.declared.input.Trouble.TheVariants as trouble
 
 -- whether a line ends in a carriage return
 abbrev pub ends_in_return : List ℕ → Bool
-ends_in_return line = has_bytes line && ends_line 13 line
+ends_in_return line = option_map_or (λ byte. byte == 13) (slice_get line (length line - 1)) false
 
 -- the scheme of a line: that of all, or the one that a column names
 abbrev pub scheme_at : VersionPlace → Option Column → List ℕ → Option Scheme
@@ -52,13 +52,14 @@ abbrev pub Tells : VersionPlace → Option Column → List ℕ → List ℕ → 
 Tells place schemes line =
     TellsBy place.spelling.naming (scheme_at place schemes line) (column_in place.column (line_text place.crlf line)) line
 
--- What is reported of these lines, the first of which is to blame: its text and what is added to it, whether it ends in
--- a carriage return that is not taken for a part of its end, and how many more there are.
-abbrev pub Reports : VersionPlace → Option Column → List (List ℕ) → Blamed → Type 0
+-- What is reported of these lines, the first of which is to blame: its number in its file, its text and what is added to
+-- it, whether it ends in a carriage return that is not taken for a part of its end, and how many more there are.
+abbrev pub Reports : VersionPlace → Option Column → List PlainLine → Blamed → Type 0
 Reports place schemes [] bad = ⊥
 Reports place schemes (first ∷ others) bad =
-    Tells place schemes first (string_bytes bad.text) bad.remark
-    × (bad.ends_in_return ≡ (not place.crlf && ends_in_return first)) × (bad.more ≡ length others)
+    (bad.number ≡ first.number) × (option_map (λ name. name.now) bad.file ≡ first.file)
+    × Tells place schemes first.text (string_bytes bad.text) bad.remark
+    × (bad.ends_in_return ≡ (not place.crlf && ends_in_return first.text)) × (bad.more ≡ length others)
 
 -- the status that a fault ends the program with
 abbrev pub status_of : TaskFault → ℕ
@@ -139,25 +140,15 @@ ComesOfReading end reads fails old names (Unclosed shown number) =
     ComesFirstAt end reads old names shown.now (λ between. EndsOpen end reads between shown.now number)
 ComesOfReading end reads fails old names fault = ⊥
 
--- the faults that lines without a version can end in, of a file, before the first of which come so many with one
-abbrev pub ComesOfBadAfter : Invalid → VersionPlace → Option Column → Option (Bor (List ℕ)) → ℕ → List (List ℕ) → TaskFault
-    → Type 0
-ComesOfBadAfter policy place schemes file before lines Memory = ⊤
-ComesOfBadAfter policy place schemes file before lines (BadLine bad) =
-    (policy ≡ invalid.Fail) × (bad.number ≡ min (before + 1) (2 ^ 64 - 1)) × (bad.file ≡ file)
-    × Reports place schemes lines bad
-ComesOfBadAfter policy place schemes file before lines fault = ⊥
-
--- those of the lines without a version that were found, behind a header of so many lines
-abbrev pub ComesOfBad : Invalid → VersionPlace → Option Column → Option (Bor (List ℕ)) → ℕ → BadLines → TaskFault → Type 0
-ComesOfBad policy place schemes file header bad =
-    ComesOfBadAfter policy place schemes file (header + bad.before) (map (λ line. line.now) bad.lines.items)
+-- the faults that these lines without a version can end in
+abbrev pub ComesOfBad : Invalid → VersionPlace → Option Column → List PlainLine → TaskFault → Type 0
+ComesOfBad policy place schemes lines Memory = ⊤
+ComesOfBad policy place schemes lines (BadLine bad) = (policy ≡ invalid.Fail) × Reports place schemes lines bad
+ComesOfBad policy place schemes lines fault = ⊥
 
 -- those of some lines
-abbrev pub ComesOfLines : Invalid → VersionPlace → Option Column → Option (Bor (List ℕ)) → ℕ → Versions → List (List ℕ)
-    → TaskFault → Type 0
-ComesOfLines policy place schemes file header versions lines =
-    ComesOfBadAfter policy place schemes file (header + good_before versions lines) (bad_lines versions lines)
+abbrev pub ComesOfLines : Invalid → VersionPlace → Option Column → Versions → List PlainLine → TaskFault → Type 0
+ComesOfLines policy place schemes versions lines = ComesOfBad policy place schemes (bad_lines versions lines)
 
 -- the faults of `match` of `vers`, by the word of its list
 abbrev pub ComesOfMatching : List ℕ → Bool → TaskFault → Type 0

@@ -1,25 +1,24 @@
 //! The fault of lines that have no version.
-ghost use Rattle.std.specs.Prelude.{◌≡◌, [], None, string_bytes, IfErr, IfOk, OnOk};
+ghost use Rattle.std.specs.Prelude.{◌≡◌, [], map, string_bytes, IfErr, IfOk, OnOk};
 ghost use Rattle.version_commands.specs.lines.Arranged.{policy};
 ghost use Rattle.version_commands.specs.faults.Fault.{ends_in_return, scheme_at, Tells, ComesOfBad};
 ghost use Rattle.version_answers.specs.message.Quote.{shown_front};
+ghost use Rattle.version_lines.specs.Inputs.{plain_line};
 
 use crate::faults::TaskFault;
-use crate::files::inputs::ends_line;
 use crate::lines::by_schemes::scheme_in;
-use crate::lines::pick::BadLines;
 use crate::lines::place::{column_in, line_text};
 use crate::options::{Invalid, LineOptions, VersionPlace};
 use std::alloc::{AllocError, Global};
 use std::fmt;
 use version_answers::{NoVersion, Others, Remark, Shown, Spelling, shown_front};
-use version_lines::Column;
+use version_lines::{Column, Line};
 use version_schemes::Scheme;
 
 /// The first line that has no version, as a message tells of it.
 #[derive(Debug, PartialEq, Eq, Drop)]
 pub struct Blamed<'w> {
-    /// Its number, counted from 1: in its file, or through all files where they have no names.
+    /// Its number in its file, counted from 1.
     pub number: usize,
     /// The name of its file, if it has one.
     pub file: Option<&'w str>,
@@ -82,21 +81,18 @@ impl fmt::Display for OfFile<'_> {
     }
 }
 
-/// Fails with the first line that has no version, if there is one and the options ask for that.
+/// Fails with the first of the lines that have no version, if there is one and the options ask for that.
 pub fn refuse_bad<'w>(
     alloc: Global,
     options: &LineOptions<'_>,
-    bad: &BadLines<'_>,
+    bad: &[Line<'_, 'w>],
 ) -> Result<(), TaskFault<'w>>
-    ensures none { OnOk result (policy options.now ≡ Invalid.Fail → bad.now.lines.items ≡ []) }
-    ensures faults { IfErr result (ComesOfBad (policy options.now) options.now.place options.now.scheme_column None
-        options.now.header bad.now) }
+    ensures none { OnOk result (policy options.now ≡ Invalid.Fail → bad.now ≡ []) }
+    ensures faults { IfErr result (ComesOfBad (policy options.now) options.now.place options.now.scheme_column
+        (map plain_line bad.now)) }
 {
     match policy(options) {
-        Invalid::Fail => {
-            let (place, schemes) = (&options.place, options.scheme_column);
-            refuse_first(alloc, place, schemes, None, options.header, bad)
-        }
+        Invalid::Fail => refuse_first(alloc, &options.place, options.scheme_column, bad),
         Invalid::Skip | Invalid::First | Invalid::Last => Ok(()),
     }
 }
@@ -111,28 +107,26 @@ pub fn policy(options: &LineOptions<'_>) -> Invalid
     }
 }
 
-/// Fails with the first line of a file that has no version, if there is one, behind a header of so many lines.
+/// Fails with the first of the lines that have no version, if there is one.
 pub fn refuse_first<'w>(
     alloc: Global,
     place: &VersionPlace<'_>,
     schemes: Option<Column<'_>>,
-    file: Option<&'w str>,
-    header: usize,
-    bad: &BadLines<'_>,
+    bad: &[Line<'_, 'w>],
 ) -> Result<(), TaskFault<'w>>
-    ensures none { OnOk result (bad.now.lines.items ≡ []) }
-    ensures faults { IfErr result (ComesOfBad Invalid.Fail place.now schemes.entry file.entry header bad.now) }
+    ensures none { OnOk result (bad.now ≡ []) }
+    ensures faults { IfErr result (ComesOfBad Invalid.Fail place.now schemes.entry (map plain_line bad.now)) }
 {
-    match bad.lines.as_slice() {
+    match bad {
         [] => Ok(()),
         [first, others @ ..] => {
-            let (text, remark) = told(alloc, place, schemes, first)?;
+            let (text, remark) = told(alloc, place, schemes, first.text)?;
             Err(TaskFault::BadLine(Blamed {
-                number: header.saturating_add(bad.before).saturating_add(1),
-                file,
+                number: first.number,
+                file: first.file,
                 text,
                 remark,
-                ends_in_return: !place.crlf && ends_in_return(first),
+                ends_in_return: !place.crlf && ends_in_return(first.text),
                 more: others.len(),
             }))
         }
@@ -187,5 +181,8 @@ pub fn scheme_at(
 pub fn ends_in_return(line: &[u8]) -> bool
     ensures { result ≡ ends_in_return line.now }
 {
-    !line.is_empty() && ends_line(b'\r', line)
+    match line.last() {
+        Some(byte) => *byte == b'\r',
+        None => false,
+    }
 }

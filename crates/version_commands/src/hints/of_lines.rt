@@ -1,19 +1,17 @@
 //! What a run over lines tells beside: it may not have done what was meant.
 
 ghost use Rattle.std.proofs.Common.{Bor};
-ghost use Rattle.std.specs.Prelude.{◌≡◌, ◌<◌, ℕ, List, Option, is_some, true, IfErr, IsTrue};
+ghost use Rattle.std.specs.Prelude.{◌≡◌, ◌<◌, ℕ, List, Option, is_some, map, true, IfErr, IsTrue};
 ghost use Rattle.std.specs.List.{list_any};
 ghost use Rattle.std.specs.Option.{option_map};
-ghost use Rattle.version_commands.specs.Hints.{another_is_newest, asks_by_name, has_returns, is_another_newest, is_kept_by, is_kept_otherwise, is_newer, keeps_none, keeps_otherwise, line_kept_otherwise, stands_otherwise, takes_whole_lines, StandOtherwise, first_of, is_filter, IsOfFilter, IsOfLines, IsOfNewest, MayTell};
+ghost use Rattle.version_commands.specs.Hints.{another_is_newest, asks_by_name, is_another_newest, is_kept_by, is_kept_otherwise, is_newer, keeps_otherwise, line_kept_otherwise, stands_otherwise, takes_whole_lines, StandOtherwise, first_of, is_filter, IsOfFilter, IsOfLines, IsOfNewest, MayTell};
 ghost use Rattle.version_answers.specs.Tags.{begins_with_number, begins_with_v, is_bare, order_of_tags, tagged};
-ghost use Rattle.version_commands.specs.lines.Ordered.{versions_in};
-ghost use Rattle.version_commands.specs.lines.Picked.{has as has_kept};
 ghost use Rattle.version_lines.specs.KeyedLines.{lines_in};
-ghost use Rattle.version_lines.specs.Lines.{lines_of};
+ghost use Rattle.version_lines.specs.Inputs.{lines_left, texts_of};
 ghost use Rattle.version_schemes.specs.any.Order.{any_of};
 
 use crate::faults::TaskFault;
-use crate::faults::bad::{ends_in_return, scheme_at};
+use crate::faults::bad::ends_in_return;
 use crate::files::{Files, Hint};
 use crate::lines::pick::Chooses;
 use crate::lines::place::ByColumn;
@@ -21,27 +19,29 @@ use crate::lines::run::LineRun;
 use crate::options::{Arrangement, ColumnNames, LineOptions, VersionPlace};
 use std::cmp::Ordering;
 use version_answers::{begins_with_number, begins_with_v, order_of_tags, tagged};
-use version_lines::{Column, GroupBy, KeyedLines, Separators, SortBy, split_line};
+use version_lines::{Column, GroupBy, KeyedLines, Separators, SortBy};
 use version_schemes::{AnyVersion, Scheme};
 
 impl<C: Chooses> LineRun<'_, '_, C> {
-    /// Tells where `filter` would keep other lines by the versions in tags, and where it kept none.
-    pub fn tell_of_filter<F: Files>(&self, files: &F)
-        requires hints { MayTell (IsOfFilter self.now.options (C.keeps self.now.chooser.now) self.now.input.body.now) F.may_hint }
+    /// Tells where `filter` would keep other lines than these by the versions in tags, which may be others where that is
+    /// said, and where it kept none.
+    pub fn tell_of_filter<F: Files>(&self, kept: &[&[u8]], may_have_tags: bool, files: &F)
+        requires hints { MayTell (IsOfFilter self.now.options (C.keeps self.now.chooser.now) (lines_left self.now.input.body)
+            (map (λ line. line.now) kept.now)) F.may_hint }
     {
-        if self.keeps_otherwise() {
+        if may_have_tags && self.keeps_otherwise() {
             files.hint(Hint::Tags);
         }
-        if self.keeps_none() {
-            files.hint(Hint::NothingKept {
-                has_returns: has_returns(&self.options, self.input.body),
-            });
+        let mut lines = self.input.body;
+        if let (true, Some(line)) = (kept.is_empty(), lines.next()) {
+            let has_returns = !self.options.place.crlf && ends_in_return(line.text);
+            files.hint(Hint::NothingKept { has_returns });
         }
     }
 
     // Whether a line is kept as a whole and isn't by the version in its tag, or the other way round.
     fn keeps_otherwise(&self) -> bool
-        ensures { result ≡ keeps_otherwise self.now.options (C.keeps self.now.chooser.now) self.now.input.body.now }
+        ensures { result ≡ keeps_otherwise self.now.options (C.keeps self.now.chooser.now) (lines_left self.now.input.body) }
     {
         self.options.place.spelling.naming.is_bare() && self.any_kept_otherwise()
     }
@@ -49,15 +49,13 @@ impl<C: Chooses> LineRun<'_, '_, C> {
     // The same where texts are to be versions as a whole.
     fn any_kept_otherwise(&self) -> bool
         ensures { result ≡ list_any (line_kept_otherwise self.now.options (C.keeps self.now.chooser.now))
-            (lines_of self.now.options.end self.now.input.body.now) }
+            (texts_of (lines_left self.now.input.body)) }
     {
-        let mut rest = self.input.body;
-        while !rest.is_empty() {
-            let (line, after) = split_line(self.options.end, rest);
-            if self.line_kept_otherwise(line) {
+        let mut lines = self.input.body;
+        while let Some(line) = lines.next() {
+            if self.line_kept_otherwise(line.text) {
                 return true;
             }
-            rest = after;
         }
         false
     }
@@ -66,16 +64,13 @@ impl<C: Chooses> LineRun<'_, '_, C> {
     fn line_kept_otherwise(&self, line: &[u8]) -> bool
         ensures { result ≡ line_kept_otherwise self.now.options (C.keeps self.now.chooser.now) line.now }
     {
-        let options = &self.options;
-        match scheme_at(&options.place, options.scheme_column, line) {
-            Some(scheme) => is_kept_otherwise(self.chooser, scheme, options.place.text(line)),
-            None => false,
-        }
+        let place = &self.options.place;
+        is_kept_otherwise(self.chooser, place.spelling.scheme, place.text(line))
     }
 
     /// Tells where lines that were arranged would be others, or stand otherwise, by the versions in tags.
     pub fn tell_of_arranged<B: SortBy, F: Files>(&self, lines: &KeyedLines<'_, B>, files: &F)
-        requires hints { MayTell (IsOfLines self.now.options (C.keeps self.now.chooser.now) self.now.input.body.now
+        requires hints { MayTell (IsOfLines self.now.options (C.keeps self.now.chooser.now) (lines_left self.now.input.body)
             (lines_in lines.now)) F.may_hint }
     {
         match self.options.arrangement {
@@ -101,7 +96,7 @@ impl<C: Chooses> LineRun<'_, '_, C> {
         newest: Option<&[u8]>,
         files: &F,
     )
-        requires hints { MayTell (IsOfNewest self.now.options (C.keeps self.now.chooser.now) self.now.input.body.now
+        requires hints { MayTell (IsOfNewest self.now.options (C.keeps self.now.chooser.now) (lines_left self.now.input.body)
             group (option_map (λ line. line.now) newest)) F.may_hint }
     {
         if self.options.place.spelling.naming.is_bare() && self.another_is_newest(group, newest) {
@@ -113,15 +108,13 @@ impl<C: Chooses> LineRun<'_, '_, C> {
     // one is by these.
     fn another_is_newest(&self, group: Option<Column<'_>>, newest: Option<&[u8]>) -> bool
         ensures { result ≡ list_any (is_another_newest self.now.options (C.keeps self.now.chooser.now)
-            group.entry (option_map (λ line. line.now) newest.entry)) (lines_of self.now.options.end self.now.input.body.now) }
+            group.entry (option_map (λ line. line.now) newest.entry)) (texts_of (lines_left self.now.input.body)) }
     {
-        let mut rest = self.input.body;
-        while !rest.is_empty() {
-            let (line, after) = split_line(self.options.end, rest);
-            if self.is_another_newest(group, newest, line) {
+        let mut lines = self.input.body;
+        while let Some(line) = lines.next() {
+            if self.is_another_newest(group, newest, line.text) {
                 return true;
             }
-            rest = after;
         }
         false
     }
@@ -150,40 +143,6 @@ impl<C: Chooses> LineRun<'_, '_, C> {
                     place.text(line),
                 ),
             None => self.line_kept_otherwise(line),
-        }
-    }
-
-    // Whether there are lines, and no version is kept of them.
-    fn keeps_none(&self) -> bool
-        ensures { result ≡ keeps_none self.now.options (C.keeps self.now.chooser.now) self.now.input.body.now }
-    {
-        !self.input.body.is_empty() && !self.keeps_any()
-    }
-
-    // Whether a version is kept of some lines.
-    fn keeps_any(&self) -> bool
-        ensures { result ≡ list_any (has_kept (C.keeps self.now.chooser.now) (versions_in self.now.options))
-            (lines_of self.now.options.end self.now.input.body.now) }
-    {
-        let mut rest = self.input.body;
-        while !rest.is_empty() {
-            let (line, after) = split_line(self.options.end, rest);
-            if self.keeps_line(line) {
-                return true;
-            }
-            rest = after;
-        }
-        false
-    }
-
-    // Whether a line has a version that is kept.
-    fn keeps_line(&self, line: &[u8]) -> bool
-        ensures { result ≡ has_kept (C.keeps self.now.chooser.now) (versions_in self.now.options) line.now }
-    {
-        let options = &self.options;
-        match scheme_at(&options.place, options.scheme_column, line) {
-            Some(scheme) => is_kept(self.chooser, scheme, options.place.text(line)),
-            None => false,
         }
     }
 }
@@ -263,9 +222,12 @@ fn stands_otherwise(
 fn is_newer<C: Chooses>(chooser: &C, scheme: Scheme, newest: &[u8], text: &[u8]) -> bool
     ensures { result ≡ is_newer (C.keeps chooser.now) scheme newest.now text.now }
 {
-    match (order_of_tags(scheme, newest, text), tagged(scheme, text)) {
-        (Some(Ordering::Less), Some(tag)) => chooser.keeps(&tag),
-        _ => false,
+    if !matches!(order_of_tags(scheme, newest, text), Some(Ordering::Less)) {
+        return false;
+    }
+    match tagged(scheme, text) {
+        Some(tag) => chooser.keeps(&tag),
+        None => false,
     }
 }
 
@@ -333,15 +295,4 @@ pub fn tell_of_fault<F: Files>(
             files.hint(Hint::NoFile(name));
         }
     }
-}
-
-// Whether the first line ends in a carriage return that is taken for a part of it.
-fn has_returns(options: &LineOptions<'_>, input: &[u8]) -> bool
-    ensures { result ≡ has_returns options.now input.now }
-{
-    if options.place.crlf || input.is_empty() {
-        return false;
-    }
-    let (line, _) = split_line(options.end, input);
-    ends_in_return(line)
 }

@@ -2,36 +2,34 @@
 ghost use Rattle.std.specs.Prelude.{◌≡◌, ℕ, List, false, map, None, IsTrue, OnOk};
 ghost use Rattle.version_commands.specs.lines.Arranged.{arranged, is_reversed};
 ghost use Rattle.version_commands.specs.lines.BySchemes.{arranged_by_schemes, version_by};
-ghost use Rattle.version_commands.specs.faults.Cause.{ComesOfArranging, ComesOfInput, IsInItsFile};
+ghost use Rattle.version_commands.specs.faults.Cause.{ComesOfArranging, ComesOfInput};
 ghost use Rattle.version_commands.specs.lines.Choice.{is_kept};
 ghost use Rattle.version_commands.specs.faults.Ends.{IfOfWord, Ends};
-ghost use Rattle.version_commands.specs.Hints.{first_of, IsOfBody, IsOfInput, IsOfLines, IsOfNewest, IsOfRun, MayTell};
+ghost use Rattle.version_commands.specs.Hints.{first_of, IsOfBody, IsOfFilter, IsOfInput, IsOfLines, IsOfNewest, IsOfRun, MayTell};
 ghost use Rattle.version_commands.specs.Files.{names_read, reads_standard};
-ghost use Rattle.version_commands.specs.lines.LineRun.{Arranges, Finishes};
-ghost use Rattle.version_commands.specs.lines.Ordered.{body_of, head_of, arranged_in, kept_in, kept_line, ordered_in, versions_in, IsArrangedIn, IsOrdered};
+ghost use Rattle.version_commands.specs.lines.LineRun.{head_lines, Arranges, Finishes};
+ghost use Rattle.version_commands.specs.lines.Ordered.{body_of, head_of, arranged_in, ordered_in, versions_in, IsArrangedIn, IsOrdered};
+ghost use Rattle.version_commands.specs.lines.Picked.{kept_of};
 ghost use Rattle.version_commands.specs.lines.Place.{group_text, reads_of};
+ghost use Rattle.version_lines.specs.Inputs.{lines_left, PlainLine};
 ghost use Rattle.version_lines.specs.KeyedLines.{lines_in, AreRead};
-ghost use Rattle.version_lines.specs.Lines.{output_by};
 ghost use Rattle.version_lines.specs.Newest.{newest_alone};
 ghost use Rattle.version_lines.specs.Sort.{version_in};
 
 use crate::faults::TaskFault;
-use crate::faults::bad::{Blamed, refuse_bad};
-use crate::files::inputs::{line_in, read_inputs};
+use crate::faults::bad::refuse_bad;
+use crate::files::inputs::read_inputs;
 use crate::files::{Files, Stage};
 use crate::lines::by_schemes::{LinesOfSchemes, arrange_by_schemes};
 use crate::lines::choice::Chooser;
 use crate::lines::header::{names_line, options_by};
 use crate::lines::pick::{Chooses, EveryVersion, Takes, pick};
 use crate::lines::place::{ByColumn, ByVersion};
-use crate::lines::run::{Input, LineRun, tell};
-use crate::lines::write::{whole_if, write_answers};
-use crate::options::{Arrangement, Invalid, LineOptions, VersionPlace};
+use crate::lines::run::{Input, LineRun, split_lines, tell};
+use crate::options::{Arrangement, LineOptions, VersionPlace};
 use std::alloc::{AllocError, Global};
 use std::io::Write;
-use version_lines::{
-    Answer, Column, KeyedLines, LineCommand, NewestLine, SortBy, Source, WholeLines,
-};
+use version_lines::{Column, KeyedLines, Lines, NewestLine, SortBy, Source, WholeLines};
 use version_schemes::AnyVersion;
 
 /// Reads the inputs, and writes those of their lines that the arrangement asks for.
@@ -56,29 +54,14 @@ pub fn serve_lines<'w, F: Files, R: Source, W: Write>(
     let scheme = options.place.spelling.scheme;
     let chooser = Chooser::new(alloc, scheme, &options.choice, &options.arrangement)?;
     let inputs = read_inputs(alloc, names, options.end, files, reader)?;
-    tell(options, files, Stage::Read(inputs.text.len()));
-    let input = Input::of(options, inputs.text.as_slice());
-    match write_asked(alloc, options, &chooser, input, files, writer) {
-        Ok(()) => Ok(()),
-        Err(fault) => Err(in_its_file(names, inputs.counts.as_slice(), fault)),
-    }
-}
-
-// Returns the fault of a line by its file and its number there.
-fn in_its_file<'w>(names: &[&'w str], counts: &[usize], fault: TaskFault<'w>) -> TaskFault<'w>
-    ensures { IsInItsFile (map (λ name. name.now) names.now) counts.now fault.entry result }
-{
-    match fault {
-        TaskFault::BadLine(bad) => {
-            let (file, number) = line_in(names, counts, bad.number);
-            TaskFault::BadLine(Blamed {
-                number,
-                file,
-                ..bad
-            })
-        }
-        other => other,
-    }
+    let lines = Lines::of_inputs(options.end, inputs.as_slice());
+    tell(options, files, Stage::Read(lines.bytes()));
+    let (head, body) = split_lines(alloc, options.header, lines)?;
+    let input = Input {
+        head: head.as_slice(),
+        body,
+    };
+    write_asked(alloc, options, &chooser, input, files, writer)
 }
 
 // Writes those of the lines of an input that the arrangement asks for, by the columns of names in its header.
@@ -86,15 +69,15 @@ fn write_asked<'w, F: Files, W: Write>(
     alloc: Global,
     options: &LineOptions<'w>,
     chooser: &Chooser,
-    input: Input<'_>,
+    input: Input<'_, 'w>,
     files: &mut F,
     writer: &mut W,
 ) -> Result<(), TaskFault<'w>>
-    requires hints { (whole : List ℕ) × (input.head.now ≡ head_of options.now whole)
-        × (input.body.now ≡ body_of options.now whole)
+    requires hints { (whole : List PlainLine) × (head_lines input ≡ head_of options.now whole)
+        × (lines_left input.body ≡ body_of options.now whole)
         × MayTell (IsOfInput (is_kept chooser.now) options.now whole) F.may_hint }
-    ensures { (whole : List ℕ) → input.entry.head.now ≡ head_of options.now whole
-        → input.entry.body.now ≡ body_of options.now whole
+    ensures { (whole : List PlainLine) → head_lines input.entry ≡ head_of options.now whole
+        → lines_left input.entry.body ≡ body_of options.now whole
         → Finishes F.puts F.refuses F.alters files.old files.new (W.contents writer.old) (W.contents writer.new) options.now
         (IsArrangedIn options.now (is_kept chooser.now) whole) (ComesOfInput options.now whole) result }
 {
@@ -112,30 +95,12 @@ fn write_asked<'w, F: Files, W: Write>(
 }
 
 impl<'w, C: Chooses> LineRun<'_, 'w, C> {
-    // Writes the lines that the arrangement asks for, and tells hints.
-    fn write<F: Files, W: Write>(&self, files: &mut F, writer: &mut W) -> Result<(), TaskFault<'w>>
-        requires hints { MayTell (IsOfBody (C.keeps self.now.chooser.now) self.now.options self.now.input.body.now) F.may_hint }
-        ensures { Arranges F.puts F.refuses F.alters files.old files.new (W.contents writer.old) (W.contents writer.new)
-            (versions_in self.now.options) self.now.options self.now.input
-            (ordered_in (C.keeps self.now.chooser.now) self.now.options self.now.input.body.now) result }
-    {
-        let written = self.write_input(files, writer);
-        if let (Ok(()), Arrangement::Filter { .. }) = (&written, self.options.arrangement) {
-            self.tell_of_filter(files);
-        }
-        written
-    }
-
     // Writes the lines that the arrangement asks for: of each scheme, where a column names it.
-    fn write_input<F: Files, W: Write>(
-        &self,
-        files: &mut F,
-        writer: &mut W,
-    ) -> Result<(), TaskFault<'w>>
-        requires hints { MayTell (IsOfBody (C.keeps self.now.chooser.now) self.now.options self.now.input.body.now) F.may_hint }
+    fn write<F: Files, W: Write>(&self, files: &mut F, writer: &mut W) -> Result<(), TaskFault<'w>>
+        requires hints { MayTell (IsOfBody (C.keeps self.now.chooser.now) self.now.options (lines_left self.now.input.body)) F.may_hint }
         ensures { Arranges F.puts F.refuses F.alters files.old files.new (W.contents writer.old) (W.contents writer.new)
             (versions_in self.now.options) self.now.options self.now.input
-            (ordered_in (C.keeps self.now.chooser.now) self.now.options self.now.input.body.now) result }
+            (ordered_in (C.keeps self.now.chooser.now) self.now.options (lines_left self.now.input.body)) result }
     {
         match self.options.scheme_column {
             Some(column) => self.write_by_schemes(column, files, writer),
@@ -150,18 +115,15 @@ impl<'w, C: Chooses> LineRun<'_, 'w, C> {
         files: &mut F,
         writer: &mut W,
     ) -> Result<(), TaskFault<'w>>
-        requires hints { MayTell (IsOfLines self.now.options (C.keeps self.now.chooser.now) self.now.input.body.now
-            (arranged_in (reads_of self.now.options.place) (C.keeps self.now.chooser.now) self.now.options self.now.input.body.now))
+        requires hints { MayTell (IsOfLines self.now.options (C.keeps self.now.chooser.now) (lines_left self.now.input.body)
+            (arranged_in (reads_of self.now.options.place) (C.keeps self.now.chooser.now) self.now.options (lines_left self.now.input.body)))
             F.may_hint }
         ensures { Arranges F.puts F.refuses F.alters files.old files.new (W.contents writer.old) (W.contents writer.new)
             (version_in (reads_of self.now.options.place)) self.now.options self.now.input
-            (arranged_in (reads_of self.now.options.place) (C.keeps self.now.chooser.now) self.now.options self.now.input.body.now)
+            (arranged_in (reads_of self.now.options.place) (C.keeps self.now.chooser.now) self.now.options (lines_left self.now.input.body))
             result }
     {
         if let Arrangement::Filter { .. } = self.options.arrangement {
-            if self.input.head.is_empty() && leaves_others_out(&self.options) {
-                return self.write_at_once(writer);
-            }
             return self.write_kept(files, writer);
         }
         let reverse = is_reversed(&self.options.arrangement);
@@ -191,8 +153,8 @@ impl<'w, C: Chooses> LineRun<'_, 'w, C> {
         ensures { Arranges F.puts F.refuses F.alters files.old files.new (W.contents writer.old) (W.contents writer.new)
             (version_by self.now.options.place column.entry) self.now.options self.now.input
             (arranged_by_schemes self.now.options.place column.entry self.now.options.arrangement
-            (kept_in (version_by self.now.options.place column.entry) (C.keeps self.now.chooser.now) self.now.options
-            self.now.input.body.now)) result }
+            (kept_of (version_by self.now.options.place column.entry) (C.keeps self.now.chooser.now)
+            (lines_left self.now.input.body))) result }
     {
         let place = self.options.place;
         let mut kept = LinesOfSchemes {
@@ -200,14 +162,9 @@ impl<'w, C: Chooses> LineRun<'_, 'w, C> {
             column,
             lines: Vec::new(self.alloc),
         };
-        let bad = pick(
-            self.alloc,
-            &mut kept,
-            self.chooser,
-            self.options.end,
-            self.input.body,
-        )?;
-        refuse_bad(self.alloc, &self.options, &bad)?;
+        let picked = pick(self.alloc, &mut kept, self.chooser, self.input.body)?;
+        let bad = picked.bad.as_slice();
+        refuse_bad(self.alloc, &self.options, bad)?;
         self.tell(files, Stage::Kept(kept.lines.len()));
         let lines = arrange_by_schemes(
             self.alloc,
@@ -217,7 +174,7 @@ impl<'w, C: Chooses> LineRun<'_, 'w, C> {
             kept.lines.as_slice(),
         )?;
         self.tell(files, Stage::Ordered(lines.len()));
-        self.write_lines(&bad, &lines, files, writer)
+        self.write_lines(bad, &lines, files, writer)
     }
 
     // Writes the lines that are kept, in the order of the input.
@@ -226,45 +183,27 @@ impl<'w, C: Chooses> LineRun<'_, 'w, C> {
         files: &mut F,
         writer: &mut W,
     ) -> Result<(), TaskFault<'w>>
+        requires hints { MayTell (IsOfFilter self.now.options (C.keeps self.now.chooser.now) (lines_left self.now.input.body)
+            (kept_of (version_in (reads_of self.now.options.place)) (C.keeps self.now.chooser.now)
+            (lines_left self.now.input.body))) F.may_hint }
         ensures { Arranges F.puts F.refuses F.alters files.old files.new (W.contents writer.old) (W.contents writer.new)
             (version_in (reads_of self.now.options.place)) self.now.options self.now.input
-            (kept_in (version_in (reads_of self.now.options.place)) (C.keeps self.now.chooser.now) self.now.options
-            self.now.input.body.now) result }
+            (kept_of (version_in (reads_of self.now.options.place)) (C.keeps self.now.chooser.now)
+            (lines_left self.now.input.body)) result }
     {
         let mut kept = KeptLines {
             place: self.options.place,
             lines: Vec::new(self.alloc),
         };
-        let bad = pick(
-            self.alloc,
-            &mut kept,
-            self.chooser,
-            self.options.end,
-            self.input.body,
-        )?;
-        refuse_bad(self.alloc, &self.options, &bad)?;
+        let picked = pick(self.alloc, &mut kept, self.chooser, self.input.body)?;
+        let bad = picked.bad.as_slice();
+        refuse_bad(self.alloc, &self.options, bad)?;
         self.tell(files, Stage::Kept(kept.lines.len()));
-        self.write_lines(&bad, &kept.lines, files, writer)
-    }
-
-    // Writes the lines that are kept as they are read.
-    fn write_at_once<W: Write>(&self, writer: &mut W) -> Result<(), TaskFault<'w>>
-        ensures { Ends (λ output. output ≡ output_by self.now.options.end (kept_line
-            (version_in (reads_of self.now.options.place)) (C.keeps self.now.chooser.now) self.now.options.end.byte)
-            self.now.input.body.now)
-            (λ fault. fault ≡ TaskFault.Memory) (W.contents writer.old) (W.contents writer.new) result }
-    {
-        let chosen = Chosen {
-            place: self.options.place,
-            chooser: self.chooser,
-        };
-        write_answers(
-            self.alloc,
-            &chosen,
-            self.options.end,
-            self.input.body,
-            writer,
-        )
+        let written = self.write_lines(bad, &kept.lines, files, writer);
+        if written.is_ok() {
+            self.tell_of_filter(kept.lines.as_slice(), picked.may_have_tags, files);
+        }
+        written
     }
 
     // Writes the lines that are kept in the order of their versions, or the newest of them. Not inlined, so that each of
@@ -277,30 +216,25 @@ impl<'w, C: Chooses> LineRun<'_, 'w, C> {
         writer: &mut W,
     ) -> Result<(), TaskFault<'w>>
         requires reversed { is_reversed self.now.options.arrangement ≡ B.is_reversed by }
-        requires hints { MayTell (IsOfLines self.now.options (C.keeps self.now.chooser.now) self.now.input.body.now
-            (arranged_in (B.reads by) (C.keeps self.now.chooser.now) self.now.options self.now.input.body.now)) F.may_hint }
+        requires hints { MayTell (IsOfLines self.now.options (C.keeps self.now.chooser.now) (lines_left self.now.input.body)
+            (arranged_in (B.reads by) (C.keeps self.now.chooser.now) self.now.options (lines_left self.now.input.body))) F.may_hint }
         ensures { Arranges F.puts F.refuses F.alters files.old files.new (W.contents writer.old) (W.contents writer.new)
             (version_in (B.reads by)) self.now.options self.now.input
-            (arranged_in (B.reads by) (C.keeps self.now.chooser.now) self.now.options self.now.input.body.now) result }
+            (arranged_in (B.reads by) (C.keeps self.now.chooser.now) self.now.options (lines_left self.now.input.body)) result }
     {
         if asks_for_one(&self.options) {
             return self.write_newest(by, files, writer);
         }
         let arrangement = self.options.arrangement;
-        let mut kept = KeyedLines::new(self.alloc, by, self.input.body.len())?;
-        let bad = pick(
-            self.alloc,
-            &mut kept,
-            self.chooser,
-            self.options.end,
-            self.input.body,
-        )?;
-        refuse_bad(self.alloc, &self.options, &bad)?;
+        let mut kept = KeyedLines::new(self.alloc, by, self.input.body.bytes())?;
+        let picked = pick(self.alloc, &mut kept, self.chooser, self.input.body)?;
+        let bad = picked.bad.as_slice();
+        refuse_bad(self.alloc, &self.options, bad)?;
         self.tell(files, Stage::Kept(kept.count()));
         arrange(self.alloc, arrangement, self.options.place.crlf, &mut kept)?;
         self.tell(files, Stage::Ordered(kept.count()));
-        let written = self.write_lines(&bad, &kept, files, writer);
-        if written.is_ok() {
+        let written = self.write_lines(bad, &kept, files, writer);
+        if written.is_ok() && picked.may_have_tags {
             self.tell_of_arranged(&kept, files);
         }
         written
@@ -313,26 +247,21 @@ impl<'w, C: Chooses> LineRun<'_, 'w, C> {
         files: &mut F,
         writer: &mut W,
     ) -> Result<(), TaskFault<'w>>
-        requires hints { MayTell (IsOfNewest self.now.options (C.keeps self.now.chooser.now) self.now.input.body.now None (first_of
-            (newest_alone (B.reads by) (kept_in (version_in (B.reads by)) (C.keeps self.now.chooser.now) self.now.options
-            self.now.input.body.now)))) F.may_hint }
+        requires hints { MayTell (IsOfNewest self.now.options (C.keeps self.now.chooser.now) (lines_left self.now.input.body) None (first_of
+            (newest_alone (B.reads by) (kept_of (version_in (B.reads by)) (C.keeps self.now.chooser.now)
+            (lines_left self.now.input.body))))) F.may_hint }
         ensures { Arranges F.puts F.refuses F.alters files.old files.new (W.contents writer.old) (W.contents writer.new)
             (version_in (B.reads by)) self.now.options self.now.input
-            (newest_alone (B.reads by) (kept_in (version_in (B.reads by)) (C.keeps self.now.chooser.now) self.now.options
-            self.now.input.body.now)) result }
+            (newest_alone (B.reads by) (kept_of (version_in (B.reads by)) (C.keeps self.now.chooser.now)
+            (lines_left self.now.input.body))) result }
     {
         let mut newest = NewestLine::new(by);
-        let bad = pick(
-            self.alloc,
-            &mut newest,
-            self.chooser,
-            self.options.end,
-            self.input.body,
-        )?;
-        refuse_bad(self.alloc, &self.options, &bad)?;
+        let picked = pick(self.alloc, &mut newest, self.chooser, self.input.body)?;
+        let bad = picked.bad.as_slice();
+        refuse_bad(self.alloc, &self.options, bad)?;
         let line = newest.line();
-        let written = self.write_lines(&bad, &line, files, writer);
-        if written.is_ok() {
+        let written = self.write_lines(bad, &line, files, writer);
+        if written.is_ok() && picked.may_have_tags {
             self.tell_of_newest(None, line, files);
         }
         written
@@ -395,22 +324,6 @@ pub fn is_reversed(arrangement: &Arrangement<'_>) -> bool
     matches!(arrangement, Arrangement::Sort { reverse: true, .. })
 }
 
-// Whether nothing is asked of the lines that have no version, nor told while lines are read: lines can then be written
-// as they are read.
-fn leaves_others_out(options: &LineOptions<'_>) -> bool
-    ensures { IsTrue result → (options.now.invalid ≡ Invalid.Skip) × (options.now.invalid_to ≡ None) }
-{
-    matches!(
-        options,
-        LineOptions {
-            invalid: Invalid::Skip,
-            invalid_to: None,
-            progress: false,
-            ..
-        }
-    )
-}
-
 // Lines that are kept.
 #[derive(Drop)]
 struct KeptLines<'w, 'a> {
@@ -435,26 +348,5 @@ impl<'a> Takes<'a> for KeptLines<'_, 'a> {
     fn take(&mut self, _version: &AnyVersion<'a>, line: &'a [u8]) -> Result<(), AllocError> {
         self.lines.push(line)?;
         Ok(())
-    }
-}
-
-// Whole lines whose versions are kept, and nothing of others.
-#[derive(Drop)]
-struct Chosen<'c, C> {
-    place: VersionPlace<'c>,
-    chooser: &'c C,
-}
-
-impl<C: Chooses> LineCommand for Chosen<'_, C> {
-    ghost use Rattle.version_commands.specs.lines.Ordered.{kept_line};
-
-    ghost line_output = { λ chosen. kept_line (version_in (reads_of chosen.place)) (C.keeps chosen.chooser.now) };
-
-    #[inline(always)]
-    fn answer(&self, line: &[u8]) -> Answer {
-        whole_if(match self.place.version(line) {
-            Some(version) => self.chooser.keeps(&version),
-            None => false,
-        })
     }
 }

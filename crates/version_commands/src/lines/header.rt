@@ -1,13 +1,13 @@
 //! Columns that are asked for by their names in a header.
-ghost use Rattle.std.specs.Prelude.{◌≡◌, [], None, Some, IfErr, IsSomeAnd, OnOk};
+ghost use Rattle.std.specs.Prelude.{◌≡◌, [], map, None, Some, IfErr, IsSomeAnd, OnOk};
 ghost use Rattle.version_commands.specs.lines.Header.{arrangement_by, by_name, first_unnamed, last_of, options_by, unless_named};
 ghost use Rattle.version_commands.specs.lines.Place.{line_text};
-ghost use Rattle.version_lines.specs.Lines.{lines_of};
+ghost use Rattle.version_lines.specs.Inputs.{plain_line, texts_of};
 
 use crate::faults::TaskFault;
 use crate::lines::place::line_text;
 use crate::options::{Arrangement, ColumnNames, LineOptions, VersionPlace};
-use version_lines::{Column, LineEnd, split_line};
+use version_lines::{Column, Line};
 
 impl<'w> ColumnNames<'w> {
     /// Fails with the first of the names of which a line has no column.
@@ -83,23 +83,12 @@ fn arrangement_by<'w>(
     }
 }
 
-/// Returns the line of a header that names its columns: the last one.
-pub fn names_line<'a>(options: &LineOptions<'_>, head: &'a [u8]) -> &'a [u8]
-    ensures { result.now ≡ line_text options.now.place.crlf (last_of [] (lines_of options.now.end head.now)) }
+/// Returns the line of a header that names its columns: the last one. It is empty where there is none.
+pub fn names_line<'a>(options: &LineOptions<'_>, head: &[Line<'a, '_>]) -> &'a [u8]
+    ensures { result.now ≡ line_text options.now.place.crlf (last_of [] (texts_of (map plain_line head.now))) }
 {
-    line_text(options.place.crlf, last_line(options.end, head))
-}
-
-// Returns the last line of a text. It is empty where there is none.
-fn last_line(end: LineEnd, text: &[u8]) -> &[u8]
-    ensures { result.now ≡ last_of [] (lines_of end text.now) }
-{
-    let mut last: &[u8] = &[];
-    let mut rest = text;
-    while !rest.is_empty() {
-        let (line, after) = split_line(end, rest);
-        last = line;
-        rest = after;
+    match head.last() {
+        Some(line) => line_text(options.place.crlf, line.text),
+        None => &[],
     }
-    last
 }

@@ -1,13 +1,14 @@
 //! Which lines of an input are kept, and which have no version.
-ghost use Rattle.std.specs.Prelude.{◌≡◌, ◌<◌, ◌≤◌, ◌+◌, ◌^◌, ◌++◌, ◌∷◌, ℕ, Bool, List, [], false, true, Some, IfOk, IsTrue, OnOk};
+ghost use Rattle.std.specs.Prelude.{◌≡◌, ◌++◌, ◌∷◌, ℕ, Bool, List, [], map, true, Some, IfOk, IsTrue, OnOk};
 ghost use Rattle.std.specs.Option.{option_map};
-ghost use Rattle.version_commands.specs.lines.Picked.{is_bad, kept_lines, AreBadOf, Versions};
-ghost use Rattle.version_lines.specs.Lines.{lines_of};
+ghost use Rattle.version_commands.specs.lines.Picked.{bad_lines, kept_of, Versions};
+ghost use Rattle.version_lines.specs.Inputs.{lines_left, plain_line};
 ghost use Rattle.version_schemes.specs.any.AnyVersion.{plain_any};
 ghost use Rattle.version_schemes.specs.any.Order.{PlainAny};
 
 use std::alloc::{AllocError, Global};
-use version_lines::{KeyedLines, LineEnd, NewestLine, SortBy, split_line};
+use version_answers::begins_with_v;
+use version_lines::{KeyedLines, Line, Lines, NewestLine, SortBy};
 use version_schemes::AnyVersion;
 
 /// Which versions are kept.
@@ -43,50 +44,14 @@ impl Chooses for EveryVersion {
     }
 }
 
-/// The lines that have no version.
+/// What was seen of the lines of an input.
 #[derive(Drop)]
-pub struct BadLines<'a> {
-    /// Their texts, in the order of the input.
-    pub lines: Vec<&'a [u8]>,
-    /// How many lines come before the first of them.
-    pub before: usize,
-}
-
-impl<'a> BadLines<'a> {
-    /// None yet.
-    pub fn new(alloc: Global) -> BadLines<'a>
-        ensures { (versions : Versions) → AreBadOf versions [] result }
-    {
-        BadLines {
-            lines: Vec::new(alloc),
-            before: 0,
-        }
-    }
-
-    /// Adds a line that has none.
-    pub fn add(&mut self, line: &'a [u8]) -> Result<(), AllocError>
-        ensures before { OnOk result (self.new.before ≡ self.old.before) }
-        ensures bad { OnOk result ((versions : Versions) → (lines : List (List ℕ))
-            → is_bad versions line.now ≡ true → AreBadOf versions lines self.old
-            → AreBadOf versions (lines ++ line.now ∷ []) self.new) }
-    {
-        self.lines.push(line)?;
-        Ok(())
-    }
-
-    /// Counts a line that has one.
-    #[inline(always)]
-    pub fn pass(&mut self)
-        requires { self.old.before + 1 < 2 ^ 64 }
-        ensures before { self.new.before ≤ self.old.before + 1 }
-        ensures good { (versions : Versions) → (lines : List (List ℕ)) → (line : List ℕ)
-            → is_bad versions line ≡ false → AreBadOf versions lines self.old
-            → AreBadOf versions (lines ++ line ∷ []) self.new }
-    {
-        if self.lines.is_empty() {
-            self.before += 1;
-        }
-    }
+pub struct Picked<'a, 'w> {
+    /// Those that have no version, in their order.
+    pub bad: Vec<Line<'a, 'w>>,
+    /// Whether a version begins with a `v` and a digit, or a line without one holds a `v`: else versions in tags are those
+    /// of whole texts.
+    pub may_have_tags: bool,
 }
 
 /// What takes lines that have a version, one after another.
@@ -114,37 +79,56 @@ pub trait Takes<'a> {
             → HasTaken first self.old lines → HasTaken first self.new (lines ++ line.now ∷ [])) };
 }
 
-/// Gives the taker those lines of an input whose versions are kept, and returns the lines that have no version.
-pub fn pick<'a, T: Takes<'a>, C: Chooses>(
+/// Gives the taker those of some lines whose versions are kept, and returns the lines that have no version.
+pub fn pick<'a, 'w, T: Takes<'a>, C: Chooses>(
     alloc: Global,
     taker: &mut T,
     chooser: &C,
-    end: LineEnd,
-    input: &'a [u8],
-) -> Result<BadLines<'a>, AllocError>
+    lines: Lines<'a, 'w>,
+) -> Result<Picked<'a, 'w>, AllocError>
     requires ready { T.IsReady taker.old }
     requires none { T.HasTaken taker.old taker.old [] }
     ensures ready { OnOk result (T.IsReady taker.new) }
     ensures taken { OnOk result (T.HasTaken taker.old taker.new
-        (kept_lines (T.versions taker.old) (C.keeps chooser.now) (lines_of end input.now))) }
-    ensures bad { IfOk result (AreBadOf (T.versions taker.old) (lines_of end input.now)) }
+        (kept_of (T.versions taker.old) (C.keeps chooser.now) (lines_left lines.entry))) }
+    ensures bad { IfOk result (λ picked.
+        map plain_line picked.bad.items ≡ bad_lines (T.versions taker.old) (lines_left lines.entry)) }
 {
-    let mut bad = BadLines::new(alloc);
-    let mut rest = input;
-    while !rest.is_empty() {
-        let (line, after) = split_line(end, rest);
-        match taker.version(line) {
-            None => bad.add(line)?,
+    let mut picked = Picked {
+        bad: Vec::new(alloc),
+        may_have_tags: false,
+    };
+    let mut left = lines;
+    while let Some(line) = left.next() {
+        let version = taker.version(line.text);
+        match &version {
+            None => picked.add_bad(line)?,
             Some(version) => {
-                bad.pass();
-                if chooser.keeps(&version) {
-                    taker.take(&version, line)?;
+                picked.may_have_tags |= begins_with_v(version.bytes());
+                if chooser.keeps(version) {
+                    taker.take(version, line.text)?;
                 }
             }
         }
-        rest = after;
     }
-    Ok(bad)
+    Ok(picked)
+}
+
+impl<'a, 'w> Picked<'a, 'w> {
+    // Adds a line that has no version.
+    fn add_bad(&mut self, line: Line<'a, 'w>) -> Result<(), AllocError>
+        ensures { OnOk result (map plain_line self.new.bad.items
+            ≡ map plain_line self.old.bad.items ++ plain_line line.entry ∷ []) }
+    {
+        self.may_have_tags |= holds_v(line.text);
+        self.bad.push(line)?;
+        Ok(())
+    }
+}
+
+// Whether a `v` stands anywhere in a line.
+fn holds_v(line: &[u8]) -> bool {
+    line.iter().any(|byte| matches!(byte, b'v' | b'V'))
 }
 
 impl<'a, B: SortBy> Takes<'a> for KeyedLines<'a, B> {

@@ -3,7 +3,7 @@ ghost use Rattle.std.specs.Prelude.{◌≡◌, ◌<◌, ◌++◌, ℕ, List, [],
 ghost use Rattle.version_lines.specs.Lines.{lines_output, whole_line, AppendsProperBeginning, AppendsUpTo};
 
 use std::io::Write;
-use version_lines::{KeyedLines, NotWritten, SortBy, put_line};
+use version_lines::{KeyedLines, Line, NotWritten, SortBy, put_line};
 
 /// Lines in an order.
 pub trait Rows {
@@ -62,6 +62,20 @@ impl Rows for Vec<&[u8]> {
 
     fn row(&self, place: usize) -> &[u8] {
         self[place]
+    }
+}
+
+impl Rows for &[Line<'_, '_>] {
+    ghost use Rattle.std.specs.Prelude.{map};
+
+    ghost lines = { λ rows. map (λ row. row.text.now) rows.now };
+
+    fn count(&self) -> usize {
+        self.len()
+    }
+
+    fn row(&self, place: usize) -> &[u8] {
+        self[place].text
     }
 }
 

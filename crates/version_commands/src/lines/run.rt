@@ -1,39 +1,48 @@
 //! A run over the lines of an input.
-ghost use Rattle.std.specs.Prelude.{◌≡◌, ◌<◌, ◌+◌, [], false, length, IsTrue};
-ghost use Rattle.version_commands.specs.lines.Ordered.{body_of, head_of};
+ghost use Rattle.std.specs.Prelude.{◌≡◌, ◌<◌, ◌+◌, [], drop, false, length, map, take, IfOk, IsTrue};
+ghost use Rattle.version_commands.specs.lines.LineRun.{head_lines};
+ghost use Rattle.version_lines.specs.Inputs.{lines_left, plain_line};
 
 use crate::files::{Files, Stage};
 use crate::options::LineOptions;
-use std::alloc::Global;
-use version_lines::after_lines;
+use std::alloc::{AllocError, Global};
+use version_lines::{Line, Lines};
 
-/// An input: the lines that stay on top, and what follows them.
+/// The lines of a run: those that stay on top, and what follows them.
 #[derive(Clone, Copy)]
-pub struct Input<'a> {
-    pub head: &'a [u8],
-    pub body: &'a [u8],
+pub struct Input<'a, 'w> {
+    pub head: &'a [Line<'a, 'w>],
+    pub body: Lines<'a, 'w>,
 }
 
-impl<'a> Input<'a> {
-    /// Returns an input by its parts.
-    pub fn of(options: &LineOptions<'_>, input: &'a [u8]) -> Input<'a>
-        ensures head { result.head.now ≡ head_of options.now input.now }
-        ensures body { result.body.now ≡ body_of options.now input.now }
-    {
-        let body = after_lines(options.end, options.header, input);
-        Input {
-            head: &input[..input.len().saturating_sub(body.len())],
-            body,
-        }
-    }
-
+impl Input<'_, '_> {
     /// Whether it has no line.
     pub fn is_empty(&self) -> bool
-        ensures none { IsTrue result → (self.now.head.now ≡ []) × (self.now.body.now ≡ []) }
-        ensures some { result ≡ false → 0 < length self.now.head.now + length self.now.body.now }
+        ensures none { IsTrue result → (head_lines self.now ≡ []) × (lines_left self.now.body ≡ []) }
+        ensures some { result ≡ false → 0 < length (head_lines self.now) + length (lines_left self.now.body) }
     {
-        self.head.is_empty() && self.body.is_empty()
+        let mut body = self.body;
+        self.head.is_empty() && body.next().is_none()
     }
+}
+
+/// Returns the first lines, so many if there are, and what follows them.
+pub fn split_lines<'a, 'w>(
+    alloc: Global,
+    count: usize,
+    lines: Lines<'a, 'w>,
+) -> Result<(Vec<Line<'a, 'w>>, Lines<'a, 'w>), AllocError>
+    ensures first { IfOk result (λ parts. map plain_line parts.0.items ≡ take count (lines_left lines.entry)) }
+    ensures left { IfOk result (λ parts. lines_left parts.1 ≡ drop count (lines_left lines.entry)) }
+{
+    let (mut first, mut left) = (Vec::new(alloc), lines);
+    while first.len() < count {
+        let Some(line) = left.next() else {
+            return Ok((first, left));
+        };
+        first.push(line)?;
+    }
+    Ok((first, left))
 }
 
 /// What is asked of the lines of an input, by columns of numbers alone, and which versions are kept.
@@ -42,7 +51,7 @@ pub struct LineRun<'r, 'w, C> {
     pub alloc: Global,
     pub options: LineOptions<'w>,
     pub chooser: &'r C,
-    pub input: Input<'r>,
+    pub input: Input<'r, 'w>,
 }
 
 impl<C> LineRun<'_, '_, C> {

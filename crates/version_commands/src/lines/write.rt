@@ -12,14 +12,13 @@ ghost use Rattle.version_lines.specs.Lines.{answer_text, lines_output, output_by
 use crate::faults::TaskFault;
 use crate::faults::bad::policy;
 use crate::files::Files;
-use crate::lines::pick::BadLines;
 use crate::lines::rows::{Rows, put_rows};
 use crate::lines::run::LineRun;
 use crate::options::{Invalid, LineOptions};
 use std::alloc::{AllocError, Global};
 use std::io::Write;
 use version_lines::{
-    Answer, LineCommand, LineEnd, NotWritten, Trouble, answer_lines, make_buffer, write_whole,
+    Answer, Line, LineCommand, LineEnd, NotWritten, Trouble, answer_lines, make_buffer, write_whole,
 };
 
 impl<'w, C> LineRun<'_, 'w, C> {
@@ -27,22 +26,23 @@ impl<'w, C> LineRun<'_, 'w, C> {
     /// file for these. All memory is taken before anything is written.
     pub fn write_lines<L: Rows, F: Files, W: Write>(
         &self,
-        bad: &BadLines<'_>,
+        bad: &[Line<'_, '_>],
         rows: &L,
         files: &mut F,
         writer: &mut W,
     ) -> Result<(), TaskFault<'w>>
         ensures { Finishes F.puts F.refuses F.alters files.old files.new (W.contents writer.old) (W.contents writer.new)
-            self.now.options (IsPlaced self.now.options self.now.input.head.now (map (λ line. line.now) bad.now.lines.items)
-            (L.lines rows.now)) (ComesOfPut self.now.options) result }
+            self.now.options (IsPlaced self.now.options (map (λ line. line.text.now) self.now.input.head.now)
+            (map (λ line. line.text.now) bad.now) (L.lines rows.now)) (ComesOfPut self.now.options) result }
     {
         let options = &self.options;
         let mut buffer = make_buffer(self.alloc)?;
-        buffer.extend_from_slice(self.input.head)?;
         put_bad(self.alloc, options, bad, files)?;
+        let (end, invalid) = (options.end.byte, policy(options));
         write_placed(
-            policy(options),
-            options.end.byte,
+            invalid,
+            end,
+            self.input.head,
             bad,
             rows,
             writer,
@@ -52,22 +52,25 @@ impl<'w, C> LineRun<'_, 'w, C> {
     }
 }
 
-// Writes what is in the buffer, and the lines in their order.
+// Writes the lines that stay on top and the others in their order, through an empty buffer.
 fn write_placed<L: Rows, W: Write>(
     invalid: Invalid,
     end: u8,
-    bad: &BadLines<'_>,
+    head: &[Line<'_, '_>],
+    bad: &[Line<'_, '_>],
     rows: &L,
     writer: &mut W,
     buffer: &mut Vec<u8>,
 ) -> Result<(), NotWritten>
+    requires { buffer.old.items ≡ [] }
     ensures ok { OnOk result (Appends (W.contents writer.old) (W.contents writer.new)
-        (buffer.old.items ++ lines_output (whole_line end) (placed invalid
-        (map (λ line. line.now) bad.now.lines.items) (L.lines rows.now)))) }
+        (lines_output (whole_line end) (map (λ line. line.text.now) head.now ++ placed invalid
+        (map (λ line. line.text.now) bad.now) (L.lines rows.now)))) }
     ensures err { OnErr result (AppendsProperBeginning (W.contents writer.old)
-        (W.contents writer.new) (buffer.old.items ++ lines_output (whole_line end) (placed invalid
-        (map (λ line. line.now) bad.now.lines.items) (L.lines rows.now)))) }
+        (W.contents writer.new) (lines_output (whole_line end) (map (λ line. line.text.now) head.now
+        ++ placed invalid (map (λ line. line.text.now) bad.now) (L.lines rows.now)))) }
 {
+    put_rows(writer, buffer, end, &head)?;
     put_placed(invalid, end, bad, rows, writer, buffer)?;
     write_whole(writer, buffer.as_slice())
 }
@@ -76,21 +79,21 @@ fn write_placed<L: Rows, W: Write>(
 fn put_placed<L: Rows, W: Write>(
     invalid: Invalid,
     end: u8,
-    bad: &BadLines<'_>,
+    bad: &[Line<'_, '_>],
     rows: &L,
     writer: &mut W,
     buffer: &mut Vec<u8>,
 ) -> Result<(), NotWritten>
     ensures ok { OnOk result (AppendsUpTo (W.contents writer.old) (W.contents writer.new)
         buffer.new.items (buffer.old.items ++ lines_output (whole_line end) (placed invalid
-        (map (λ line. line.now) bad.now.lines.items) (L.lines rows.now)))) }
+        (map (λ line. line.text.now) bad.now) (L.lines rows.now)))) }
     ensures err { OnErr result (AppendsProperBeginning (W.contents writer.old)
         (W.contents writer.new) (buffer.old.items ++ lines_output (whole_line end) (placed invalid
-        (map (λ line. line.now) bad.now.lines.items) (L.lines rows.now)))) }
+        (map (λ line. line.text.now) bad.now) (L.lines rows.now)))) }
 {
     match invalid {
-        Invalid::First => put_both(end, &bad.lines, rows, writer, buffer),
-        Invalid::Last => put_both(end, rows, &bad.lines, writer, buffer),
+        Invalid::First => put_both(end, &bad, rows, writer, buffer),
+        Invalid::Last => put_both(end, rows, &bad, writer, buffer),
         Invalid::Fail | Invalid::Skip => put_rows(writer, buffer, end, rows),
     }
 }
@@ -118,18 +121,18 @@ fn put_both<A: Rows, B: Rows, W: Write>(
 fn put_bad<'w, F: Files>(
     alloc: Global,
     options: &LineOptions<'w>,
-    bad: &BadLines<'_>,
+    bad: &[Line<'_, '_>],
     files: &mut F,
 ) -> Result<(), TaskFault<'w>>
     ensures put { OnOk result (Leaves F.puts files.old files.new
-        (put_of options.now (map (λ line. line.now) bad.now.lines.items))) }
+        (put_of options.now (map (λ line. line.text.now) bad.now))) }
     ensures files { AltersAtMost F.alters (bad_file options.now) files.old files.new }
     ensures faults { IfErr result (ComesOfPut options.now (F.refuses files.old)) }
 {
     let Some(name) = options.invalid_to else {
         return Ok(());
     };
-    let bytes = joined_lines(alloc, options.end.byte, bad.lines.as_slice())?;
+    let bytes = joined_lines(alloc, options.end.byte, bad)?;
     match files.put(name, bytes.as_slice()) {
         Ok(()) => Ok(()),
         Err(Trouble::Memory) => Err(TaskFault::Memory),
@@ -138,13 +141,13 @@ fn put_bad<'w, F: Files>(
 }
 
 // Returns the lines, each with the byte that ends it.
-fn joined_lines(alloc: Global, end: u8, lines: &[&[u8]]) -> Result<Vec<u8>, AllocError>
+fn joined_lines(alloc: Global, end: u8, lines: &[Line<'_, '_>]) -> Result<Vec<u8>, AllocError>
     ensures { IfOk result (λ bytes. bytes.items
-        ≡ lines_output (whole_line end) (map (λ line. line.now) lines.now)) }
+        ≡ lines_output (whole_line end) (map (λ line. line.text.now) lines.now)) }
 {
     let mut bytes = Vec::new(alloc);
     for line in lines {
-        bytes.extend_from_slice(line)?;
+        bytes.extend_from_slice(line.text)?;
         bytes.push(end)?;
     }
     Ok(bytes)

@@ -25,7 +25,7 @@ use version_answers::{
     Naming, Set, Spelling, add_head, add_json, add_key_line, add_next, add_show, add_why, quoted,
     room_of,
 };
-use version_lines::{LineEnd, Source};
+use version_lines::{LineEnd, Lines, Source};
 use version_schemes::{AnyVersion, Scheme};
 
 /// The answers to a question, and the words that were left out.
@@ -194,13 +194,10 @@ fn answer_lines<'w>(
         output: asked.head,
         unanswered: None,
     };
-    let end = LineEnd {
-        byte: options.end,
-        csv: None,
-    };
-    let bad = pick(alloc, &mut answers, &EveryVersion, end, input)?;
+    let lines: Lines<'_, 'w> = Lines::of(LineEnd::plain(options.end), None, input);
+    let picked = pick(alloc, &mut answers, &EveryVersion, lines)?;
     let place = question.place(options.naming, options.crlf);
-    refuse_first(alloc, &place, None, None, 0, &bad)?;
+    refuse_first(alloc, &place, None, picked.bad.as_slice())?;
     answers.finish(Vec::new(alloc))
 }
 

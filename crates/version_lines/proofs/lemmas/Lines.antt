@@ -6,7 +6,7 @@ use Rattle.std.proofs.Math.ListN.{drop_of_length-le}
 use Rattle.std.specs.Option.{unwrap_or}
 use Rattle.memchr.specs.Find.{is_byte, IsFirstByte}
 use Rattle.version_lines.specs.Csv.{length_before, next, stops}
-use Rattle.version_lines.specs.Lines.{after_line, after_line_from, after_lines, before_lines, ends_quoted, lines_from, lines_of, lines_output, plain_end, AppendsUpTo, AppendsProperBeginning}
+use Rattle.version_lines.specs.Lines.{before_lines, ends_quoted, lines_from, lines_of, lines_output, plain_end, AppendsUpTo, AppendsProperBeginning}
 use Rattle.version_lines.specs.declared.csv.FieldState.{FieldState}
 use Rattle.version_lines.specs.declared.csv.FieldState.TheVariants.{Start}
 use Rattle.version_lines.specs.declared.lines.LineEnd.{LineEnd}
@@ -24,9 +24,8 @@ abbrev pub IsEndAt : ℕ → List ℕ → ℕ → Type 0
 IsEndAt byte text k = nat_eq (get_or text k 0) byte ≡ true
 
 -- this is the first line of a text, and what follows it
-pub record IsFirstLine (end : LineEnd) (text line rest : List ℕ) : Type 0 where
-  pub lines : lines_of end text ≡ line ∷ lines_of end rest
-  pub after : after_line end text ≡ rest
+abbrev pub IsFirstLine : LineEnd → List ℕ → List ℕ → List ℕ → Type 0
+IsFirstLine end text line rest = lines_of end text ≡ line ∷ lines_of end rest
 
 module _ (end : ℕ) where
   -- a byte that ends no line goes before the first line
@@ -34,22 +33,15 @@ module _ (end : ℕ) where
       → lines_of (plain_end end) (byte ∷ bytes) ≡ before_lines byte (lines_of (plain_end end) bytes)
   lines_of-byte byte bytes other = rw (false_from_ne_true _ other)
 
-  after_line-byte : (byte : ℕ) (bytes : List ℕ) → ¬ (nat_eq byte end ≡ true)
-      → after_line (plain_end end) (byte ∷ bytes) ≡ after_line (plain_end end) bytes
-  after_line-byte byte bytes other = rw (false_from_ne_true _ other)
-
   -- the bytes before the first that ends a line are the first line
   pub lines_of-before : (text : List ℕ) (k : ℕ) → k < length text → IsEndAt end text k
       → ((j : ℕ) → 0 ≤ j → j < k → ¬ (IsEndAt end text j))
       → IsFirstLine (plain_end end) text (take k text) (drop (suc k) text)
   lines_of-before [] k inside here before = absurd (omega arith)
-  lines_of-before (byte ∷ bytes) zero inside here before = record { lines = rw here refl; after = rw here refl }
+  lines_of-before (byte ∷ bytes) zero inside here before = rw here refl
   lines_of-before (byte ∷ bytes) (suc k) inside here before =
       let more = lines_of-before bytes k (omega arith) here (λ j least below. before (suc j) (omega arith) (omega arith)) in
-      let other = before 0 (omega arith) (omega arith) in record {
-        lines = lines_of-byte byte bytes other ∙ ap (before_lines byte) more.lines;
-        after = after_line-byte byte bytes other ∙ more.after;
-      }
+      lines_of-byte byte bytes (before 0 (omega arith) (omega arith)) ∙ ap (before_lines byte) more
 
   -- bytes none of which ends a line are one line, if there are any
   pub lines_of-last : (text : List ℕ) → 0 < length text
@@ -57,15 +49,10 @@ module _ (end : ℕ) where
       → IsFirstLine (plain_end end) text text []
   lines_of-last [] some none = absurd (omega arith)
   lines_of-last (byte ∷ []) some none =
-      let other = none 0 (omega arith) (omega arith) in
-      record { lines = lines_of-byte byte [] other; after = after_line-byte byte [] other }
+      lines_of-byte byte [] (none 0 (omega arith) (omega arith))
   lines_of-last (byte ∷ next ∷ bytes) some none =
-      let other = none 0 (omega arith) (omega arith) in
       let more = lines_of-last (next ∷ bytes) (omega arith) (λ j least below. none (suc j) (omega arith) (omega arith)) in
-      record {
-        lines = lines_of-byte byte (next ∷ bytes) other ∙ ap (before_lines byte) more.lines;
-        after = after_line-byte byte (next ∷ bytes) other ∙ more.after;
-      }
+      lines_of-byte byte (next ∷ bytes) (none 0 (omega arith) (omega arith)) ∙ ap (before_lines byte) more
 
 -- the first line goes to the first byte that ends lines, or to the end
 pub plain-line : (end : LineEnd) (text : List ℕ) (place : Option ℕ) → end.csv ≡ None → 0 < length text
@@ -96,9 +83,8 @@ plain-unquoted end bytes other = by end.csv refl where
 -- ---- lines of CSV
 
 -- the bytes before the first that ends a line outside quotes are the first line
-pub record IsFirstFrom (end : LineEnd) (state : FieldState) (text line rest : List ℕ) : Type 0 where
-  pub lines : lines_from end state text ≡ line ∷ lines_of end rest
-  pub after : after_line_from end state text ≡ rest
+abbrev pub IsFirstFrom : LineEnd → FieldState → List ℕ → List ℕ → List ℕ → Type 0
+IsFirstFrom end state text line rest = lines_from end state text ≡ line ∷ lines_of end rest
 
 abbrev csv_end : ℕ → ℕ → LineEnd
 csv_end byte separator = record { byte = byte; csv = Some separator }
@@ -112,18 +98,15 @@ pub csv-first : (end separator : ℕ) (state : FieldState) (text : List ℕ) →
 csv-first end separator state [] some = absurd (omega (arith, some))
 csv-first end separator state (byte ∷ []) some =
     elim (cases_Bool (stops end state byte)) [
-      | inl here ↦ record { lines = rw here refl; after = rw here refl }
-      | inr other ↦ record { lines = rw other refl; after = rw other refl }
+      | inl here ↦ rw here refl
+      | inr other ↦ rw other refl
     ]
 csv-first end separator state (byte ∷ following ∷ bytes) some =
     elim (cases_Bool (stops end state byte)) [
-      | inl here ↦ record { lines = rw here refl; after = rw here refl }
+      | inl here ↦ rw here refl
       | inr other ↦
-          let more = csv-first end separator (next separator state byte) (following ∷ bytes) (omega arith) in
-          record {
-            lines = rw other (ap (before_lines byte) more.lines);
-            after = rw other more.after;
-          }
+          rw other (ap (before_lines byte)
+          (csv-first end separator (next separator state byte) (following ∷ bytes) (omega arith)))
     ]
 
 pub csv-line : (end : LineEnd) (separator k : ℕ) (text : List ℕ) → end.csv ≡ Some separator
@@ -143,15 +126,6 @@ length_before-within stop separator state (byte ∷ bytes) =
     ]
 
 -- ---- lines one after another
-
-pub after_lines-nothing : (end : LineEnd) (count : ℕ) → after_lines end count [] ≡ []
-after_lines-nothing end zero = refl
-after_lines-nothing end (suc more) = after_lines-nothing end more
-
-pub after_lines-next : (end : LineEnd) (count i : ℕ) (text rest : List ℕ) → i < count → rest ≡ after_line end text
-    → after_lines end (count - i) text ≡ after_lines end (count - (i + 1)) rest
-after_lines-next end count i text rest below is =
-    let left : count - i ≡ suc (count - (i + 1)) = omega (arith, below) in rw left (rw is refl)
 
 -- the output for some bytes is that for their first line, and then that for what follows it
 pub lines_output-first : (end : LineEnd) (line_output : List ℕ → List ℕ) (text line after answer : List ℕ)

@@ -1,12 +1,10 @@
--- Lines without a version, counted one by one.
-use Rattle.std.proofs.Common.{◌≡◌, ◌+◌, ◌<◌, ◌≤◌, ℕ, Bool, true, false, not, List, [], ◌∷◌, ◌++◌, length, Option, None, Some, refl, sym, ap, ◌∙◌, arith, append-nil, append_assoc}
-use Rattle.std.specs.List.{filter, prefix_len}
+-- Lines are picked one by one.
+use Rattle.std.proofs.Common.{◌≡◌, ℕ, Bool, true, false, List, [], ◌∷◌, ◌++◌, Option, None, Some, refl, sym, ap, ◌∙◌, append-nil, append_assoc}
+use Rattle.std.specs.List.{filter}
+use Rattle.std.proofs.lemmas.List.{map-append}
 use Rattle.std.proofs.lemmas.List.Elements.{filter-append}
-use Rattle.version_commands.specs.lines.Picked.{AreBadOf, Versions, bad_lines, is_bad, kept_lines, has}
-use Rattle.version_commands.specs.declared.lines.pick.BadLines.{BadLines}
-use Rattle.version_lines.specs.Lines.{lines_of}
-use Rattle.version_lines.specs.declared.lines.LineEnd.{LineEnd}
-use Rattle.version_lines.proofs.lemmas.Sorting.{by_test}
+use Rattle.version_commands.specs.lines.Picked.{Versions, bad_lines, is_bad, kept_lines, kept_of, has}
+use Rattle.version_lines.specs.Inputs.{texts_of, PlainLine}
 use Rattle.version_schemes.specs.any.Order.{PlainAny}
 
 -- an element that passes a test, and one that does not, after others
@@ -18,121 +16,84 @@ pub filter-fail : {X : Type 0} (p : X → Bool) (xs : List X) (x : X) → p x �
     → filter p (xs ++ x ∷ []) ≡ filter p xs
 filter-fail p xs x fails = filter-append p xs (x ∷ []) ∙ rw fails (append-nil (filter p xs))
 
--- how many elements come before the first that a test names, if one more follows
-pub before-bad : {X : Type 0} (bad : X → Bool) (xs : List X) (x : X) → bad x ≡ true
-    → prefix_len (λ y. not (bad y)) (xs ++ x ∷ []) ≡ prefix_len (λ y. not (bad y)) xs
-before-bad bad [] x is = rw is refl
-before-bad bad (y ∷ ys) x is =
-    by_test (bad y)
-    (λ here. rw here refl)
-    (λ other. rw other (ap (λ (n : ℕ). 1 + n) (before-bad bad ys x is)))
+-- the lines before those that are left are picked
+pub record IsPicked (versions : Versions) (keeps : PlainAny → Bool) (lines left : List PlainLine)
+    (kept : List (List ℕ)) (bad : List PlainLine) : Type 0 where
+  pub done : List PlainLine
+  pub lines_are : lines ≡ done ++ left
+  pub kept_are : kept ≡ kept_of versions keeps done
+  pub bad_are : bad ≡ bad_lines versions done
 
-pub before-good : {X : Type 0} (bad : X → Bool) (xs : List X) (x : X) → bad x ≡ false
-    → filter bad xs ≡ []
-    → prefix_len (λ y. not (bad y)) (xs ++ x ∷ []) ≡ prefix_len (λ y. not (bad y)) xs + 1
-before-good bad [] x good none = rw good (omega arith)
-before-good bad (y ∷ ys) x good none =
-    by_test (bad y)
-    (λ here. absurd (some_not_none here none))
-    (λ other. let rest : filter bad ys ≡ [] = rw other at none in
-    rw other (ap (λ (n : ℕ). 1 + n) (before-good bad ys x good rest) ∙ omega arith))
-  where
-    some_not_none : bad y ≡ true → filter bad (y ∷ ys) ≡ [] → ⊥
-    some_not_none here none = let e : y ∷ filter bad ys ≡ [] = rw here at none in cc
+module _ (versions : Versions) (keeps : PlainAny → Bool) (lines left after : List PlainLine) (line : PlainLine)
+    (kept : List (List ℕ)) (bad : List PlainLine) (so_far : IsPicked versions keeps lines left kept bad)
+    (next : left ≡ line ∷ after) where
+  one-more : lines ≡ (so_far.done ++ line ∷ []) ++ after
+  one-more = so_far.lines_are ∙ ap (λ (l : List PlainLine). so_far.done ++ l) next
+      ∙ sym (append_assoc so_far.done (line ∷ []) after)
 
-pub before-stays : {X : Type 0} (bad : X → Bool) (xs : List X) (x : X)
-    → ¬ (filter bad xs ≡ [])
-    → prefix_len (λ y. not (bad y)) (xs ++ x ∷ []) ≡ prefix_len (λ y. not (bad y)) xs
-before-stays bad [] x some = absurd (some refl)
-before-stays bad (y ∷ ys) x some =
-    by_test (bad y)
-    (λ here. rw here refl)
-    (λ other. let rest : ¬ (filter bad ys ≡ []) = λ none. some (rw other none) in
-    rw other (ap (λ (n : ℕ). 1 + n) (before-stays bad ys x rest)))
+  texts-more : texts_of (so_far.done ++ line ∷ []) ≡ texts_of so_far.done ++ line.text ∷ []
+  texts-more = map-append (λ (l : PlainLine). l.text) so_far.done (line ∷ [])
 
--- the lines before a place are picked, the lines after it are not yet
-pub record IsPicked (versions : Versions) (keeps : PlainAny → Bool) (end : LineEnd)
-    (input rest : List ℕ) (kept : List (List ℕ)) (bad : BadLines) : Type 0 where
-  pub done : List (List ℕ)
-  pub lines : lines_of end input ≡ done ++ lines_of end rest
-  pub kept_are : kept ≡ kept_lines versions keeps done
-  pub bad_are : AreBadOf versions done bad
-  pub fits : bad.before + length rest ≤ length input
+  -- one line more that has no version
+  pub picked-bad : versions line.text ≡ None → (more : List PlainLine) → more ≡ bad ++ line ∷ []
+      → IsPicked versions keeps lines after kept more
+  picked-bad none more added =
+      let here : is_bad versions line.text ≡ true = rw none refl in
+      let out : has keeps versions line.text ≡ false = rw none refl in
+      record {
+        done = so_far.done ++ line ∷ [];
+        lines_are = one-more;
+        kept_are = so_far.kept_are ∙ sym (filter-fail (has keeps versions) (texts_of so_far.done) line.text out)
+            ∙ ap (kept_lines versions keeps) (sym texts-more);
+        bad_are = added ∙ ap (λ (l : List PlainLine). l ++ line ∷ []) so_far.bad_are
+            ∙ sym (filter-pass (λ (l : PlainLine). is_bad versions l.text) so_far.done line here);
+      }
 
--- none is picked
-pub picked-start : (versions : Versions) (keeps : PlainAny → Bool) (end : LineEnd)
-    (input : List ℕ) (kept : List (List ℕ)) (bad : BadLines) → kept ≡ []
-    → AreBadOf versions [] bad → IsPicked versions keeps end input input kept bad
-picked-start versions keeps end input kept bad none bad_are = grind arith
+  -- one that has a version, and is left out
+  pub picked-left : (v : PlainAny) → versions line.text ≡ Some v → keeps v ≡ false
+      → IsPicked versions keeps lines after kept bad
+  picked-left v some out =
+      let good : is_bad versions line.text ≡ false = rw some refl in
+      let left_out : has keeps versions line.text ≡ false = rw some out in
+      record {
+        done = so_far.done ++ line ∷ [];
+        lines_are = one-more;
+        kept_are = so_far.kept_are ∙ sym (filter-fail (has keeps versions) (texts_of so_far.done) line.text left_out)
+            ∙ ap (kept_lines versions keeps) (sym texts-more);
+        bad_are = so_far.bad_are
+            ∙ sym (filter-fail (λ (l : PlainLine). is_bad versions l.text) so_far.done line good);
+      }
 
--- one line more
-picked-next : (versions : Versions) (keeps : PlainAny → Bool) (end : LineEnd)
-    (input rest after line : List ℕ) (kept longer : List (List ℕ)) (bad now : BadLines)
-    (so_far : IsPicked versions keeps end input rest kept bad)
-    → lines_of end rest ≡ line ∷ lines_of end after → length after < length rest
-    → longer ≡ kept_lines versions keeps (so_far.done ++ line ∷ [])
-    → AreBadOf versions (so_far.done ++ line ∷ []) now → now.before ≤ bad.before + 1
-    → IsPicked versions keeps end input after longer now
-picked-next versions keeps end input rest after line kept longer bad now so_far first shorter
-    kept_now bad_now step = record {
-      done = so_far.done ++ line ∷ [];
-      lines = so_far.lines ∙ ap (λ (l : List (List ℕ)). so_far.done ++ l) first
-          ∙ sym (append_assoc so_far.done (line ∷ []) (lines_of end after));
-      kept_are = kept_now;
-      bad_are = bad_now;
-      fits = omega (arith, so_far.fits, shorter, step);
-    }
-
--- one that is left out
-pub picked-left : (versions : Versions) (keeps : PlainAny → Bool) (end : LineEnd)
-    (input rest after line : List ℕ) (kept : List (List ℕ)) (bad now : BadLines)
-    (v : PlainAny) → IsPicked versions keeps end input rest kept bad
-    → lines_of end rest ≡ line ∷ lines_of end after → length after < length rest
-    → versions line ≡ Some v → keeps v ≡ false
-    → ((of : Versions) → (lines : List (List ℕ)) → (l : List ℕ) → is_bad of l ≡ false
-    → AreBadOf of lines bad → AreBadOf of (lines ++ l ∷ []) now)
-    → now.before ≤ bad.before + 1 → IsPicked versions keeps end input after kept now
-picked-left versions keeps end input rest after line kept bad now v so_far first shorter some out
-    passed step =
-    let good : is_bad versions line ≡ false = rw some refl in
-    let left : has keeps versions line ≡ false = rw some out in
-    picked-next versions keeps end input rest after line kept kept bad now so_far first shorter
-    (so_far.kept_are
-    ∙ sym (filter-fail (has keeps versions) so_far.done line left))
-    (passed versions so_far.done line good so_far.bad_are) step
-
--- one that is kept
-pub picked-kept : (versions : Versions) (keeps : PlainAny → Bool) (end : LineEnd)
-    (input rest after line : List ℕ) (kept longer : List (List ℕ)) (bad now : BadLines)
-    (v : PlainAny) → IsPicked versions keeps end input rest kept bad
-    → lines_of end rest ≡ line ∷ lines_of end after → length after < length rest
-    → versions line ≡ Some v → keeps v ≡ true → longer ≡ kept ++ line ∷ []
-    → ((of : Versions) → (lines : List (List ℕ)) → (l : List ℕ) → is_bad of l ≡ false
-    → AreBadOf of lines bad → AreBadOf of (lines ++ l ∷ []) now)
-    → now.before ≤ bad.before + 1 → IsPicked versions keeps end input after longer now
-picked-kept versions keeps end input rest after line kept longer bad now v so_far first shorter some
-    stays added passed step =
-    let good : is_bad versions line ≡ false = rw some refl in
-    let here : has keeps versions line ≡ true = rw some stays in
-    picked-next versions keeps end input rest after line kept longer bad now so_far first shorter
-    (added ∙ ap (λ (l : List (List ℕ)). l ++ line ∷ []) so_far.kept_are
-    ∙ sym (filter-pass (has keeps versions) so_far.done line here))
-    (passed versions so_far.done line good so_far.bad_are) step
+  -- one that is kept
+  pub picked-kept : (v : PlainAny) → versions line.text ≡ Some v → keeps v ≡ true
+      → IsPicked versions keeps lines after (kept ++ line.text ∷ []) bad
+  picked-kept v some stays =
+      let good : is_bad versions line.text ≡ false = rw some refl in
+      let here : has keeps versions line.text ≡ true = rw some stays in
+      record {
+        done = so_far.done ++ line ∷ [];
+        lines_are = one-more;
+        kept_are = ap (λ (l : List (List ℕ)). l ++ line.text ∷ []) so_far.kept_are
+            ∙ sym (filter-pass (has keeps versions) (texts_of so_far.done) line.text here)
+            ∙ ap (kept_lines versions keeps) (sym texts-more);
+        bad_are = so_far.bad_are
+            ∙ sym (filter-fail (λ (l : PlainLine). is_bad versions l.text) so_far.done line good);
+      }
 
 -- where no line is bad, each has a version
-kept-first : (versions : Versions) (line : List ℕ) (lines : List (List ℕ))
-    (v : Option PlainAny) → versions line ≡ v
+kept-first : (versions : Versions) (line : PlainLine) (lines : List PlainLine)
+    (v : Option PlainAny) → versions line.text ≡ v
     → bad_lines versions (line ∷ lines) ≡ []
-    → (bad_lines versions lines ≡ [] → kept_lines versions (λ w. true) lines ≡ lines)
-    → kept_lines versions (λ w. true) (line ∷ lines) ≡ line ∷ lines
+    → (bad_lines versions lines ≡ [] → kept_of versions (λ w. true) lines ≡ texts_of lines)
+    → kept_of versions (λ w. true) (line ∷ lines) ≡ texts_of (line ∷ lines)
 kept-first versions line lines None is none rest =
     let bad : line ∷ bad_lines versions lines ≡ [] = rw is at none in cc
 kept-first versions line lines (Some v) is none rest =
     let others : bad_lines versions lines ≡ [] = rw is at none in
-    rw is (ap (λ (l : List (List ℕ)). line ∷ l) (rest others))
+    rw is (ap (λ (l : List (List ℕ)). line.text ∷ l) (rest others))
 
-pub all-kept : (versions : Versions) (lines : List (List ℕ)) → bad_lines versions lines ≡ []
-    → kept_lines versions (λ w. true) lines ≡ lines
+pub all-kept : (versions : Versions) (lines : List PlainLine) → bad_lines versions lines ≡ []
+    → kept_of versions (λ w. true) lines ≡ texts_of lines
 all-kept versions [] none = refl
 all-kept versions (line ∷ lines) none =
-    kept-first versions line lines (versions line) refl none (all-kept versions lines)
+    kept-first versions line lines (versions line.text) refl none (all-kept versions lines)

@@ -1,5 +1,7 @@
 -- Lines that are written one by one.
 use Rattle.std.proofs.Common.{◌≡◌, ◌<◌, ◌+◌, ℕ, List, [], ◌∷◌, ◌++◌, Option, length, drop, get_or, refl, sym, subst, ap, ◌∙◌, add-one, append_assoc, arith}
+use Rattle.std.proofs.KnownBytes.{Appends-trans}
+use Rattle.std.specs.Io.KnownBytes.{Appends}
 use Rattle.std.proofs.lemmas.Grind.{flat_map-append}
 use Rattle.std.proofs.Math.Seq.{drop-cons}
 use Rattle.version_lines.specs.Lines.{lines_output, whole_line, AppendsProperBeginning, AppendsUpTo}
@@ -42,6 +44,12 @@ pub first-part : (end : ℕ) (first second : List (List ℕ)) (a b : Option (Lis
 first-part end first second a b waiting part =
     subst (AppendsProperBeginning a b) (sym (output-both end first second waiting))
     (AppendsProperBeginning-with_more a b waiting _ _ part)
+
+-- what was left of an output was written too
+pub all-appended : (a b c : Option (List ℕ)) (left output : List ℕ) → AppendsUpTo a b left output → Appends b c left
+    → Appends a c output
+all-appended a b c left output part all =
+    subst (Appends a c) (sym part.whole) (Appends-trans a b c part.written left part.appended all)
 
 -- a line and its end were added, and others are left
 pub joined-next : (end : ℕ) (old between new line more rest output : List ℕ)

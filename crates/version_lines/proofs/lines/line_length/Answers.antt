@@ -5,13 +5,8 @@ use Rattle.version_lines.proofs.lines.line_length.Goals as goal
 
 pub returns-in-Some-clause-lines : goal.returns-in-Some-clause-lines
 returns-in-Some-clause-lines c =
-    (csv-line c.args.end c.in-Some.separator c.length_before.result c.args.text.now c.in-Some.is c.requires
-    c.length_before.ensures).lines
-
-pub returns-in-Some-clause-rest : goal.returns-in-Some-clause-rest
-returns-in-Some-clause-rest c =
-    (csv-line c.args.end c.in-Some.separator c.length_before.result c.args.text.now c.in-Some.is c.requires
-    c.length_before.ensures).after
+    csv-line c.args.end c.in-Some.separator c.length_before.result c.args.text.now c.in-Some.is c.requires
+    c.length_before.ensures
 
 pub returns-in-Some-clause-within : goal.returns-in-Some-clause-within
 returns-in-Some-clause-within c =
@@ -19,8 +14,4 @@ returns-in-Some-clause-within c =
 
 pub returns-in-None-clause-lines : goal.returns-in-None-clause-lines
 returns-in-None-clause-lines c =
-    rw c.unwrap_or.ensures (plain-line c.args.end c.args.text.now c.memchr.result c.in-None.is c.requires c.memchr.ensures).lines
-
-pub returns-in-None-clause-rest : goal.returns-in-None-clause-rest
-returns-in-None-clause-rest c =
-    rw c.unwrap_or.ensures (plain-line c.args.end c.args.text.now c.memchr.result c.in-None.is c.requires c.memchr.ensures).after
+    rw c.unwrap_or.ensures (plain-line c.args.end c.args.text.now c.memchr.result c.in-None.is c.requires c.memchr.ensures)

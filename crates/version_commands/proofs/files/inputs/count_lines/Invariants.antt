@@ -1,12 +1,13 @@
--- The lines before the rest are counted, and are no more than the bytes before it.
-use Rattle.std.proofs.Common.{◌≡◌, ◌+◌, ◌≤◌, length}
+-- The lines that are left are numbered behind those that were counted.
+use Rattle.std.proofs.Common.{◌≡◌, ◌+◌, ℕ, List, None, length}
+use Rattle.version_lines.specs.Inputs.{lines_left, numbered}
 use Rattle.version_lines.specs.Lines.{lines_of}
 use Rattle.version_commands.proofs.files.inputs.count_lines.Given as goal
 
-abbrev pub invariant-loop-rest : goal.invariant-loop-rest
-invariant-loop-rest l =
-    (length (lines_of l.end l.text) ≡ l.count + length (lines_of l.end l.rest))
-    × (l.count + length l.rest ≤ length l.text)
+abbrev pub invariant-loop-line : goal.invariant-loop-line
+invariant-loop-line l =
+    (texts : List (List ℕ)) × (lines_left l.lines ≡ numbered None l.count texts)
+    × (l.count + length texts ≡ length (lines_of l.fn.end l.text))
 
-abbrev pub decreases-loop-rest : goal.decreases-loop-rest
-decreases-loop-rest l = length l.rest
+abbrev pub decreases-loop-line : goal.decreases-loop-line
+decreases-loop-line l = length (lines_left l.lines)

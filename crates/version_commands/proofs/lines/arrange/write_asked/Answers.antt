@@ -1,7 +1,9 @@
 use Rattle.std.proofs.Common.{◌≡◌, ◌∙◌, [], ℕ, List, None, ap, rules}
 use Rattle.version_commands.specs.lines.Choice.{is_kept}
 use Rattle.version_commands.specs.lines.Header.{first_unnamed, options_by}
+use Rattle.version_commands.specs.lines.LineRun.{head_lines}
 use Rattle.version_commands.specs.lines.Ordered.{name_missing}
+use Rattle.version_lines.specs.Inputs.{lines_left}
 use Rattle.version_commands.proofs.lemmas.Faults.{ends-at}
 use Rattle.version_commands.proofs.lemmas.lines.Header.{finishes-in, header-is, missing-is, missing-not, unnamed-faults}
 use Rattle.version_commands.proofs.lemmas.Hints.{hints-in}
@@ -11,8 +13,8 @@ use Rattle.version_commands.proofs.lines.arrange.write_asked.Goals as goal
 pub returns-in_err-refuse_unnamed : goal.returns-in_err-refuse_unnamed
 returns-in_err-refuse_unnamed g c = λ whole head_is body_is.
     let options = c.args.options.now in
-    let head = c.args.input.head.now in
-    let body = c.args.input.body.now in
+    let head = head_lines c.args.input in
+    let body = lines_left c.args.input.body in
     let header = c.names_line-header.result.now in
     let is = header-is options whole head body head_is body_is header c.names_line-header.ensures in
     let missing = missing-is options whole head body head_is body_is header is (c.is_empty.ensures.some (search rules)) in
@@ -27,8 +29,8 @@ returns-in_err-refuse_unnamed g c = λ whole head_is body_is.
 pub returns : goal.returns
 returns g c = λ whole head_is body_is.
     let options = c.args.options.now in
-    let head = c.args.input.head.now in
-    let body = c.args.input.body.now in
+    let head = head_lines c.args.input in
+    let body = lines_left c.args.input.body in
     let header = c.names_line-header.result.now in
     let is = header-is options whole head body head_is body_is header c.names_line-header.ensures in
     let has : name_missing options whole ≡ None =
@@ -49,9 +51,9 @@ write-requires g c =
     let options = c.args.options.now in
     let (whole, head_is, body_is, told) = c.requires.hints in
     let header = c.names_line-header.result.now in
-    let is = header-is options whole c.args.input.head.now c.args.input.body.now head_is body_is header
+    let is = header-is options whole (head_lines c.args.input) (lines_left c.args.input.body) head_is body_is header
     c.names_line-header.ensures in
     record {
       hints = λ hint so. told hint (hints-in options c.options_by.result (is_kept c.args.chooser.now) whole
-          c.args.input.body.now (c.options_by.ensures ∙ ap (λ (l : List ℕ). options_by l options) is) body_is hint so);
+          (lines_left c.args.input.body) (c.options_by.ensures ∙ ap (λ (l : List ℕ). options_by l options) is) body_is hint so);
     }

@@ -1,49 +1,48 @@
-use Rattle.std.proofs.Common.{◌≡◌, ◌∙◌, ◌∷◌, ◌++◌, [], Some, ap, refl, sym}
+use Rattle.std.proofs.Common.{◌≡◌, ◌∙◌, ◌∷◌, ◌++◌, [], None, Some, ap, sym}
 use Rattle.std.specs.Option.{option_map}
-use Rattle.version_commands.proofs.lemmas.lines.Picked.{picked-kept, picked-left, picked-start}
+use Rattle.version_commands.proofs.lemmas.lines.Picked.{picked-bad, picked-kept, picked-left}
 use Rattle.version_commands.specs.lines.Picked.{Versions}
+use Rattle.version_lines.specs.Inputs.{plain_line}
 use Rattle.version_schemes.specs.any.AnyVersion.{plain_any}
 use Rattle.version_commands.proofs.lines.pick.pick.Goals as goal
 
-pub loop-rest-init : goal.loop-rest-init
-loop-rest-init g c = (
-  c.requires.ready,
-  refl,
-  [],
-  c.requires.none,
-  picked-start _ _ _ _ _ _ refl (c.new-bad.ensures (g.T.Takes.versions c.args.taker.now)),
-)
+pub loop-line-preserved-in-Continue-1 : goal.loop-line-preserved-in-Continue-1
+loop-line-preserved-in-Continue-1 g c =
+    let (ready, same, kept, taken, so_far) = c.loop-line.invariant in
+    let line = plain_line c.in-Some.line in
+    let none : g.T.Takes.versions c.args.taker.now line.text ≡ None =
+    ap (λ (versions : Versions). versions line.text) (sym same) ∙ sym c.version-version.ensures
+    ∙ ap (option_map plain_any) c.in-None.is in
+    (ready, same, kept, taken, picked-bad _ _ _ _ _ line kept _ so_far c.in-Some.ensures.steps none _ c.in_ok-add_bad-in-None.ensures)
 
-pub loop-rest-preserved-in_ok-take-in-Some : goal.loop-rest-preserved-in_ok-take-in-Some
-loop-rest-preserved-in_ok-take-in-Some g c =
-    let (ready, same, kept, taken, so_far) = c.loop-rest.invariant in
-    let line = c.split_line.result.0.now in
-    let version = plain_any c.in-Some.version in
-    let some : g.T.Takes.versions c.args.taker.now line ≡ Some version =
-    ap (λ (versions : Versions). versions line) (sym same) ∙ sym c.version.ensures
-    ∙ ap (option_map plain_any) c.in-Some.is in (
+pub loop-line-preserved-in-Continue-branch-2 : goal.loop-line-preserved-in-Continue-branch-2
+loop-line-preserved-in-Continue-branch-2 g c =
+    let (ready, same, kept, taken, so_far) = c.loop-line.invariant in
+    let line = plain_line c.in-Some.line in
+    let version = plain_any c.in-Some-version.version in
+    let some : g.T.Takes.versions c.args.taker.now line.text ≡ Some version =
+    ap (λ (versions : Versions). versions line.text) (sym same) ∙ sym c.version-version.ensures
+    ∙ ap (option_map plain_any) c.in-Some-version.is in (
       c.take.ensures.ready,
       c.take.ensures.versions ∙ same,
-      kept ++ line ∷ [],
-      c.in_ok-take-in-Some.ensures.taken c.args.taker.now kept taken,
-      picked-kept _ _ _ _ _ _ line kept _ _ _ version so_far c.split_line.ensures.lines
-          c.split_line.ensures.shorter some (sym c.keeps.ensures ∙ c.if-keeps.true) refl
-          c.pass.ensures.good c.pass.ensures.before,
+      kept ++ line.text ∷ [],
+      c.in_ok-take-in-Some-version.ensures.taken c.args.taker.now kept taken,
+      picked-kept _ _ _ _ _ line kept _ so_far c.in-Some.ensures.steps version some
+          (sym c.keeps.ensures ∙ c.if-keeps.true),
     )
 
-pub loop-rest-preserved : goal.loop-rest-preserved
-loop-rest-preserved g c =
-    let (ready, same, kept, taken, so_far) = c.loop-rest.invariant in
-    let line = c.split_line.result.0.now in
-    let version = plain_any c.in-Some.version in
-    let some : g.T.Takes.versions c.args.taker.now line ≡ Some version =
-    ap (λ (versions : Versions). versions line) (sym same) ∙ sym c.version.ensures
-    ∙ ap (option_map plain_any) c.in-Some.is in (
+pub loop-line-preserved : goal.loop-line-preserved
+loop-line-preserved g c =
+    let (ready, same, kept, taken, so_far) = c.loop-line.invariant in
+    let line = plain_line c.in-Some.line in
+    let version = plain_any c.in-Some-version.version in
+    let some : g.T.Takes.versions c.args.taker.now line.text ≡ Some version =
+    ap (λ (versions : Versions). versions line.text) (sym same) ∙ sym c.version-version.ensures
+    ∙ ap (option_map plain_any) c.in-Some-version.is in (
       ready,
       same,
       kept,
       taken,
-      picked-left _ _ _ _ _ _ line kept _ _ version so_far c.split_line.ensures.lines
-          c.split_line.ensures.shorter some (sym c.keeps.ensures ∙ c.if-keeps.false)
-          c.pass.ensures.good c.pass.ensures.before,
+      picked-left _ _ _ _ _ line kept _ so_far c.in-Some.ensures.steps version some
+          (sym c.keeps.ensures ∙ c.if-keeps.false),
     )

@@ -6,5 +6,5 @@ use Rattle.version_commands.proofs.lines.write.joined_lines.Given as goal
 abbrev pub invariant-loop-line : goal.invariant-loop-line
 invariant-loop-line l =
     let output = lines_output (whole_line l.end) in
-    l.bytes.items ++ output (drop l.line-index (map (λ line. line.now) l.lines))
-    ≡ output (map (λ line. line.now) l.lines)
+    l.bytes.items ++ output (drop l.line-index (map (λ line. line.text.now) l.lines))
+    ≡ output (map (λ line. line.text.now) l.lines)

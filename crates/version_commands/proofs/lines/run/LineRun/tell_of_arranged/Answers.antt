@@ -1,5 +1,6 @@
 use Rattle.std.proofs.Common.{◌∙◌, List, ℕ, Option, rules, inl, inr, subst, sym}
 use Rattle.version_commands.specs.Hints.{IsOfNewest}
+use Rattle.version_lines.specs.Inputs.{lines_left}
 use Rattle.version_commands.specs.declared.files.Hint.TheVariants.{Tags}
 use Rattle.version_commands.proofs.lines.run.LineRun.tell_of_arranged.Goals.{then-stand_otherwise, else-stand_otherwise}
 use Rattle.version_commands.proofs.lines.run.LineRun.tell_of_arranged.Goals as goal
@@ -10,7 +11,7 @@ tell_of_newest-requires g c =
     let keeps = g.C.Chooses.keeps run.chooser.now in
     record {
       hints = λ hint so. c.requires.hints hint (rw c.in-Newest.is (subst (λ (first : Option (List ℕ)).
-          IsOfNewest run.options keeps run.input.body.now c.in-Newest.group first hint) c.first_line.ensures so));
+          IsOfNewest run.options keeps (lines_left run.input.body) c.in-Newest.group first hint) c.first_line.ensures so));
     }
 
 pub hint-requires : goal.hint-requires

@@ -1,10 +1,9 @@
-use Rattle.std.proofs.Common.{ℕ, List, rules, subst, ◌∙◌}
+use Rattle.std.proofs.Common.{ℕ, List, rules, subst, ◌∙◌, ap, map}
 use Rattle.version_commands.specs.lines.Arranged.{arranged}
-use Rattle.version_commands.specs.lines.Picked.{bad_lines}
+use Rattle.version_commands.specs.lines.Picked.{bad_lines, kept_of}
 use Rattle.version_commands.proofs.lemmas.lines.Ordered.{arranges}
-use Rattle.version_commands.specs.lines.Ordered.{kept_in}
 use Rattle.version_commands.specs.lines.Place.{group_text}
-use Rattle.version_lines.specs.Lines.{lines_of}
+use Rattle.version_lines.specs.Inputs.{lines_left, plain_line}
 use Rattle.version_lines.specs.Sort.{version_in}
 use Rattle.version_commands.specs.Hints.{IsOfLines}
 use Rattle.version_commands.proofs.lines.run.LineRun.write_keyed.Goals as goal
@@ -13,17 +12,17 @@ pub returns : goal.returns
 returns g c =
     let run = c.args.self.now in
     let keeps = g.C.Chooses.keeps run.chooser.now in
-    let body = run.input.body.now in
-    let (kept, stays) = c.in_ok-bad.ensures.taken in
+    let body = lines_left run.input.body in
+    let (kept, stays) = c.in_ok-picked.ensures.taken in
     let by = c.in_ok-kept.ensures.by in
     let rows = c.in_ok-arrange.ensures
     ∙ (λ i. arranged (g.B.SortBy.reads (stays i)) (group_text run.options.place.crlf) run.options.arrangement (kept i))
     ∙ (λ i. arranged (g.B.SortBy.reads (by i)) (group_text run.options.place.crlf) run.options.arrangement
-    (kept_in (version_in (g.B.SortBy.reads (by i))) keeps run.options body)) in
+    (kept_of (version_in (g.B.SortBy.reads (by i))) keeps body)) in
     let versions = version_in (g.B.SortBy.reads c.args.by) in
-    let bad = c.in_ok-bad.ensures.bad.0
-    ∙ (λ i. bad_lines (version_in (g.B.SortBy.reads (by i))) (lines_of run.options.end body)) in
-    arranges versions run.options run.input c.in_ok-bad.bad _ _ bad c.in_ok-refuse_bad.ensures.none rows
+    let bad = ap (map plain_line) c.as_slice-bad.ensures.value ∙ c.in_ok-picked.ensures.bad
+    ∙ (λ i. bad_lines (version_in (g.B.SortBy.reads (by i))) body) in
+    arranges versions run.options run.input c.as_slice-bad.result.now _ _ bad c.in_ok-refuse_bad.ensures.none rows
     c.write_lines-written.ensures
 
 pub write_newest-requires : goal.write_newest-requires
@@ -35,13 +34,13 @@ pub tell_of_arranged-requires : goal.tell_of_arranged-requires
 tell_of_arranged-requires g c =
     let run = c.args.self.now in
     let keeps = g.C.Chooses.keeps run.chooser.now in
-    let body = run.input.body.now in
-    let (kept, stays) = c.in_ok-bad.ensures.taken in
+    let body = lines_left run.input.body in
+    let (kept, stays) = c.in_ok-picked.ensures.taken in
     let by = c.in_ok-kept.ensures.by in
     let rows = c.in_ok-arrange.ensures
     ∙ (λ i. arranged (g.B.SortBy.reads (stays i)) (group_text run.options.place.crlf) run.options.arrangement (kept i))
     ∙ (λ i. arranged (g.B.SortBy.reads (by i)) (group_text run.options.place.crlf) run.options.arrangement
-    (kept_in (version_in (g.B.SortBy.reads (by i))) keeps run.options body)) in
+    (kept_of (version_in (g.B.SortBy.reads (by i))) keeps body)) in
     record {
       hints = λ hint so. c.requires.hints hint
           (subst (λ (lines : List (List ℕ)). IsOfLines run.options keeps body lines hint) rows so);

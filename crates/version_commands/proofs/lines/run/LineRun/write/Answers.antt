@@ -1,7 +1,8 @@
+use Rattle.version_lines.specs.Inputs.{lines_left}
 use Rattle.std.proofs.Common.{Option, sym, subst}
 use Rattle.version_commands.specs.lines.LineRun.{Arranges}
 use Rattle.version_commands.specs.lines.Ordered.{ordered_by, versions_by}
-use Rattle.version_commands.proofs.lines.run.LineRun.write_input.Goals as goal
+use Rattle.version_commands.proofs.lines.run.LineRun.write.Goals as goal
 use Rattle.version_lines.specs.declared.column.Column.{Column}
 
 pub returns-in-Some : goal.returns-in-Some
@@ -10,7 +11,7 @@ returns-in-Some g c =
     subst (λ (at : Option Column). Arranges {F = g.row.F.Denot} g.F.Files.puts g.F.Files.refuses g.F.Files.alters c.args.files.now
     c.write_by_schemes.new.files (g.W.Write.contents c.args.writer.now) (g.W.Write.contents c.write_by_schemes.new.writer)
     (versions_by run.options.place at) run.options run.input
-    (ordered_by at (g.C.Chooses.keeps run.chooser.now) run.options run.input.body.now) c.write_by_schemes.result) (sym c.in-Some.is)
+    (ordered_by at (g.C.Chooses.keeps run.chooser.now) run.options (lines_left run.input.body)) c.write_by_schemes.result) (sym c.in-Some.is)
     c.write_by_schemes.ensures
 
 pub returns-in-None : goal.returns-in-None
@@ -19,5 +20,5 @@ returns-in-None g c =
     subst (λ (at : Option Column). Arranges {F = g.row.F.Denot} g.F.Files.puts g.F.Files.refuses g.F.Files.alters c.args.files.now
     c.write_arranged.new.files (g.W.Write.contents c.args.writer.now) (g.W.Write.contents c.write_arranged.new.writer)
     (versions_by run.options.place at) run.options run.input
-    (ordered_by at (g.C.Chooses.keeps run.chooser.now) run.options run.input.body.now) c.write_arranged.result) (sym c.in-None.is)
+    (ordered_by at (g.C.Chooses.keeps run.chooser.now) run.options (lines_left run.input.body)) c.write_arranged.result) (sym c.in-None.is)
     c.write_arranged.ensures
