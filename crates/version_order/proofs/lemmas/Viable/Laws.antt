@@ -6,7 +6,7 @@ use Rattle.std.proofs.lemmas.Bool.{cases_Bool}
 use Rattle.std.specs.List.{list_all, prefix_len, slice_split, take_while}
 use Rattle.version_order.specs.texts.Front.{begins}
 use Rattle.version_order.proofs.lemmas.Runs.{and-false, last_piece, next_piece, other_piece, run_cons, run_none, split_end, split_mark, split_other, rest_within}
-use Rattle.version_order.proofs.lemmas.Viable.Walks.{is_nothing, next}
+use Rattle.version_order.proofs.lemmas.Viable.Left.{is_nothing, next}
 
 module _ (test : List ℕ → Bool) (text : List ℕ) where
   no_longer : (n m : ℕ) → IsLongestViable test text n → IsLongestViable test text m → n < m → ⊥
