@@ -65,6 +65,17 @@ pub fn compare_if_numbers(x: &[u8], y: &[u8]) -> Option<Ordering>
     }
 }
 
+/// Compares the numbers of two epochs. Mostly there is none.
+#[inline(always)]
+pub fn compare_epochs(x: &[u8], y: &[u8]) -> Ordering
+    ensures { result ≡ nat_cmp (run_value x.now) (run_value y.now) }
+{
+    if x.is_empty() && y.is_empty() {
+        return Ordering::Equal;
+    }
+    compare_numbers(x, y).order
+}
+
 // Compares the counts of the digits that two texts begin with.
 #[inline(always)]
 fn compare_lengths(x: &[u8], y: &[u8]) -> Ordering

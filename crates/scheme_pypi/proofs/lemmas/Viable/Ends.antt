@@ -88,7 +88,8 @@ at_plus text more left cut is =
 pub not_plus : (text left : List ℕ) → begins (λ b. b == plus) text ≡ false → left ≡ without_blanks text
     → IsLeft after_dev text left
 not_plus text left none left_is =
-    where_begins (λ b. b == plus) false after_dev is_ended no_plus blank_no_plus text left none (blanks_left text left left_is)
+    where_begins (λ b. b == plus) false after_dev is_ended no_plus blank_no_plus text left none
+    (blanks_left text left left_is)
 
 -- ---- its pieces
 

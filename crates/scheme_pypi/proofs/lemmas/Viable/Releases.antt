@@ -366,7 +366,9 @@ digit_no_v [] e = refl
 digit_no_v (byte ∷ text) e = grind (arith, nat_tests)
 
 pub v_left : (text left : List ℕ) → IsLeft after_v (without_v text) left → IsLeft after_blanks text left
-v_left [] left is = where_begins (λ b. to_ascii_lowercase b == 118) false after_blanks after_v (λ t e. ap after_v (without t e)) (λ t e. digit_no_v t (v_begins t e))
+v_left [] left is =
+    where_begins (λ b. to_ascii_lowercase b == 118) false after_blanks after_v (λ t e. ap after_v (without t e))
+    (λ t e. digit_no_v t (v_begins t e))
     [] left refl is
 v_left (byte ∷ text) left is = elim (cases_Bool (to_ascii_lowercase byte == 118)) [
   | inl same ↦

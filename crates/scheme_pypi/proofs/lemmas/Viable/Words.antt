@@ -129,7 +129,8 @@ module _ (test : List ℕ → Bool) (word : List ℕ) (some : word ≡ [] → �
 
   pub worded_left : (text left : List ℕ) → IsLeft plain (without_separator text) left
       → IsLeft (worded test word) text left
-  worded_left [] left is = where_begins is_separator false (worded test word) plain plain_worded plain_apart [] left refl is
+  worded_left [] left is =
+      where_begins is_separator false (worded test word) plain plain_worded plain_apart [] left refl is
   worded_left (byte ∷ text) left is = elim (cases_Bool (is_separator byte)) [
     | inl marked ↦
         let here : (t : List ℕ) → without_separator (byte ∷ t) ≡ t = λ t. rw marked refl in
