@@ -12,6 +12,7 @@ use crate::compared::Compared;
 use std::cmp::Ordering;
 
 /// Returns whether a text is digits, one or more.
+#[tactic(auto, using(crate::proofs::lemmas::Runs::run_is))]
 pub fn is_digits(text: &[u8]) -> bool
     ensures { result ≡ is_digits text.now }
 {

@@ -14,7 +14,7 @@ use Rattle.version_order.proofs.lemmas.Runs.{and-false, larger_run, not_false, n
 use Rattle.version_order.proofs.lemmas.Viable.Epochs.{cut_by, cutting, not_all}
 use Rattle.version_order.proofs.lemmas.Viable.Left.{after_run, empty_run, is_nothing, longest, next, nothing_apart, whole_run}
 use Rattle.version_order.proofs.lemmas.Viable.Walks.{IsSplit, cut_at, stops_at_piece, stops_begun, stops_behind, stops_here, stops_in_next, stops_in_tail}
-use Rattle.version_order.proofs.lemmas.Viable.Laws.{and-assoc, and-true, split_pieces, split_within}
+use Rattle.version_order.proofs.lemmas.Viable.Pieces.{and-assoc, and-true, split_pieces, split_within}
 use Rattle.version_order.specs.Viable.{IsLeft, IsLongestViable, IsCut, Stops}
 use Rattle.version_order.specs.texts.Bytes.{dot, hyphen, is_identifier_byte, is_metadata_byte}
 use Rattle.version_order.specs.texts.DigitRun.{is_digits}

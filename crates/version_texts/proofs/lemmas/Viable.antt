@@ -14,7 +14,7 @@ use Rattle.version_order.proofs.lemmas.Runs.{and-false, not_true, run_in_section
 use Rattle.version_texts.proofs.lemmas.scan.Section.{no_mark_in_run, no_dot_in_run, chunk_digits}
 use Rattle.version_order.specs.Viable.{IsLeft}
 use Rattle.version_order.proofs.lemmas.Bytes.{identifier_no_dot, dot_no_identifier, dot_no_letter}
-use Rattle.version_order.proofs.lemmas.Viable.Laws.{split_pieces, split_within, and-assoc}
+use Rattle.version_order.proofs.lemmas.Viable.Pieces.{split_pieces, split_within, and-assoc}
 use Rattle.version_order.proofs.lemmas.Viable.Left.{alone, grown, run_left, behind, is_nothing, last_piece, nothing_apart, nothing_left, run_is_run, next, next_piece, wrong_piece, after_run, at_end, last_rest, next_closed, next_rest, next_tail, nothing_nil, whole_run, where_begins}
 use Rattle.std.proofs.lemmas.List.{drop-drop, take-append-drop}
 use Rattle.version_order.specs.texts.DigitRun.{is_digits, starts_with_digit}
