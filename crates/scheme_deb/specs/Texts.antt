@@ -14,6 +14,11 @@ use Rattle.scheme_deb.specs.Order.{More, Pair, Part, PlainDeb, deb_cmp}
 abbrev pub is_run : ℕ → Bool
 is_run byte = not (is_ascii_digit byte)
 
+-- the byte that a text begins with, or its end
+abbrev pub first_of : List ℕ → Option ℕ
+first_of [] = None
+first_of (byte ∷ text) = Some byte
+
 -- a text in runs and digits in turn: a run, perhaps empty, the digits behind it, perhaps none, and further ones,
 -- whose runs are not empty: their first byte, what follows, and their digits
 pub record Cut : Type 0 where

@@ -10,7 +10,7 @@ ghost use Rattle.version_order.specs.keys.Codes.{Writes, list_bytes};
 ghost use Rattle.version_order.specs.keys.Lists.{ended_cmp};
 ghost use Rattle.version_order.specs.texts.Cuts.{cut_first};
 ghost use Rattle.scheme_deb.specs.Order.{byte_cmp, byte_code, deb_bytes, deb_cmp, part_bytes, part_cmp, rank};
-ghost use Rattle.scheme_deb.specs.Texts.{behind_epoch, deb_of, is_of_revision, is_of_upstream, is_revision, is_run, is_upstream, part_of};
+ghost use Rattle.scheme_deb.specs.Texts.{behind_epoch, deb_of, first_of, is_of_revision, is_of_upstream, is_revision, is_run, is_upstream, part_of};
 
 use crate::rank::{END, rank};
 use crate::sets::{OfRevision, OfUpstream};
@@ -18,8 +18,8 @@ use crate::viable::left_of_deb;
 use std::cmp::Ordering;
 use version_order::{
     Beside, Class, Compared, Facts, Kept, Operators, SchemeVersion, Sink, are_of, begins_with,
-    common_length, compare_if_numbers, compare_numbers, cut_last, put_number, run_start,
-    split_byte, split_epoch, split_set,
+    common_length, compare_epochs, compare_if_numbers, compare_numbers, cut_last, put_number,
+    run_start, split_begun, split_byte, split_epoch,
 };
 
 /// The largest epoch.
@@ -72,7 +72,7 @@ impl<'t> Deb<'t> {
         if !begins_with(text, Class::Digit) {
             return None;
         }
-        let (upstream, rest) = split_set::<OfRevision>(text);
+        let (upstream, rest) = split_begun::<OfRevision>(text);
         match rest {
             [] => Some(Deb {
                 epoch,
@@ -166,17 +166,6 @@ fn split_run_byte(text: &[u8]) -> Option<(u8, &[u8])>
     }
 }
 
-// Compares two epochs. Mostly there is none.
-#[inline(always)]
-fn compare_epochs(x: &[u8], y: &[u8]) -> Ordering
-    ensures { result ≡ nat_cmp (run_value x.now) (run_value y.now) }
-{
-    if x.is_empty() && y.is_empty() {
-        return Ordering::Equal;
-    }
-    compare_numbers(x, y).order
-}
-
 // Compares two upstream versions or revisions. Mostly both begin with one digit.
 #[inline(always)]
 fn compare_parts(x: &[u8], y: &[u8]) -> Ordering
@@ -207,18 +196,32 @@ fn compare_digits(x: &[u8], y: &[u8]) -> Option<Ordering>
 }
 
 // Compares two upstream versions or revisions of any form.
+#[tactic(auto, using(crate::proofs::lemmas::Front::all_rest))]
 fn compare_whole(x: &[u8], y: &[u8]) -> Ordering
     requires x { list_all is_of_upstream x.now ≡ true }
     requires y { list_all is_of_upstream y.now ≡ true }
     ensures { result ≡ part_cmp (part_of x.now) (part_of y.now) }
 {
     let common = common_length(x, y);
-    if common == x.len() && common == y.len() {
-        return Ordering::Equal;
+    let (rest, other_rest) = (&x[common..], &y[common..]);
+    if !begins_with(rest, Class::Digit) && !begins_with(other_rest, Class::Digit) {
+        return first_rank(rest).cmp(&first_rank(other_rest));
     }
     // What both begin with doesn't count, but for the digits just before they differ.
     let start = run_start(x, common, Class::Digit);
     compare_rests(&x[start..], &y[start..])
+}
+
+// Returns the rank of the byte of a run that a text begins with, or of the end of the run.
+#[inline(always)]
+fn first_rank(text: &[u8]) -> u8
+    requires { list_all is_of_upstream text.now ≡ true }
+    ensures { result ≡ rank (first_of text.now) }
+{
+    match text {
+        [first, ..] => rank(*first),
+        [] => END,
+    }
 }
 
 // Compares what is left of two upstream versions or revisions. Mostly they begin with numbers that differ.

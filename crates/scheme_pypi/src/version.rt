@@ -17,7 +17,8 @@ use crate::read::{
 use crate::viable::pypi_length;
 use std::cmp::Ordering;
 use version_order::{
-    Beside, Facts, Kept, Operators, SchemeVersion, Sink, compare_numbers, put_number,
+    Beside, Facts, Kept, Operators, SchemeVersion, Sink, compare_epochs, compare_numbers,
+    put_number,
 };
 
 /// A version of Python, borrowed from its text. Each piece is the text from where it begins on.
@@ -62,7 +63,7 @@ impl<'t> Pypi<'t> {
     pub fn compare(&self, other: &Pypi<'_>) -> Ordering
         ensures { result ≡ pypi_cmp (plain_pypi self.now) (plain_pypi other.now) }
     {
-        let order = compare_numbers(self.epoch, other.epoch).order;
+        let order = compare_epochs(self.epoch, other.epoch);
         if order.is_ne() {
             return order;
         }

@@ -18,8 +18,8 @@ use crate::viable::left_of_rpm;
 use std::cmp::Ordering;
 use version_order::{
     Beside, Class, Compared, Facts, Kept, Operators, SchemeVersion, Sink, are_of, begins_with,
-    common_length, compare_numbers, cut_last, put_number, put_run, run_start, split_byte,
-    split_epoch, split_set,
+    common_length, compare_epochs, compare_numbers, cut_last, put_number, put_run, run_start,
+    split_byte, split_epoch, split_set,
 };
 
 /// The largest epoch.
@@ -44,8 +44,17 @@ impl<'t> Rpm<'t> {
     {
         match Rpm::read_plain(&[], text) {
             Some(version) => Some(version),
-            None => Rpm::read_any(text),
+            None => Rpm::read_slowly(text),
         }
+    }
+
+    // Reads any version. A function of its own, so that only this makes room for what the call returns.
+    #[inline(always)]
+    fn read_slowly(text: &'t [u8]) -> Option<Rpm<'t>>
+        ensures { option_map plain_rpm result ≡ rpm_of text.now }
+    {
+        let version = Rpm::read_any(text)?;
+        Some(version)
     }
 
     // Reads what stands behind an epoch in one pass. Where it returns None, `read_any` and `read_behind` decide.
@@ -112,7 +121,7 @@ impl<'t> Rpm<'t> {
     pub fn compare(&self, other: &Rpm<'_>) -> Ordering
         ensures { result ≡ rpm_cmp (plain_rpm self.now) (plain_rpm other.now) }
     {
-        let epochs = compare_numbers(self.epoch, other.epoch).order;
+        let epochs = compare_epochs(self.epoch, other.epoch);
         if epochs.is_ne() {
             return epochs;
         }

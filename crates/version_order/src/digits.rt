@@ -12,6 +12,7 @@ use crate::compared::Compared;
 use std::cmp::Ordering;
 
 /// Returns whether a text is digits, one or more.
+#[tactic(auto, using(crate::proofs::lemmas::Runs::run_is))]
 pub fn is_digits(text: &[u8]) -> bool
     ensures { result ≡ is_digits text.now }
 {
@@ -63,6 +64,17 @@ pub fn compare_if_numbers(x: &[u8], y: &[u8]) -> Option<Ordering>
         (false, true) if other != b'0' => Some(Ordering::Less),
         _ => Some(compare_numbers(x, y).order),
     }
+}
+
+/// Compares the numbers of two epochs. Mostly there is none.
+#[inline(always)]
+pub fn compare_epochs(x: &[u8], y: &[u8]) -> Ordering
+    ensures { result ≡ nat_cmp (run_value x.now) (run_value y.now) }
+{
+    if x.is_empty() && y.is_empty() {
+        return Ordering::Equal;
+    }
+    compare_numbers(x, y).order
 }
 
 // Compares the counts of the digits that two texts begin with.

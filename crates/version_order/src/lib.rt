@@ -18,14 +18,16 @@ mod sinks;
 mod stop;
 mod texts;
 
-pub use byte_set::{ByteSet, are_of, split_set};
+pub use byte_set::{ByteSet, are_of, split_begun, split_set};
 pub use bytes::{compare_bytes, first_eight};
 pub use class::{
     COLON, Class, DOT, END, HYPHEN, PLUS, begins_with, is_sign, rank_at, run_end, run_length,
     split_byte, split_run,
 };
 pub use compared::Compared;
-pub use digits::{compare_if_numbers, compare_numbers, is_digits, one_digit, without_zeros};
+pub use digits::{
+    compare_epochs, compare_if_numbers, compare_numbers, is_digits, one_digit, without_zeros,
+};
 pub use ends::{End, Kept};
 pub use facts::{Facts, Operators};
 pub use numbers::{put_length, put_long_number, put_number, put_run};

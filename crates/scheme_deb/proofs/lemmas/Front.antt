@@ -1,11 +1,13 @@
 -- Upstream versions and revisions that begin alike.
-use Rattle.std.proofs.Common.{◌≡◌, ◌∙◌, ◌<◌, ◌≤◌, ◌+◌, ◌-◌, ◌*◌, ◌++◌, ◌∷◌, [], ℕ, zero, suc, List, false, true, ap, arith, drop, get_or, inl, inr, length, refl, sym, take}
+use Rattle.std.proofs.Common.{◌≡◌, ◌∙◌, ◌<◌, ◌≤◌, ◌+◌, ◌-◌, ◌*◌, ◌++◌, ◌∷◌, [], ℕ, zero, suc, List, None, Some, false, true, ap, arith, drop, get_or, inl, inr, length, refl, sym, take}
+use Rattle.std.proofs.Math.Seq.{drop-cons}
 use Rattle.std.proofs.lemmas.Bool.{cases_Bool}
 use Rattle.std.proofs.lemmas.Bool.Decides.{nat_tests}
 use Rattle.std.proofs.lemmas.Cmp.{nat_cmp_total, nat_list_cmp_total, tied_itself}
+use Rattle.std.proofs.lemmas.List.{length-drop, take-append-drop, take_all}
 use Rattle.std.proofs.lemmas.Map.Lookups.{exact_unsigned}
 use Rattle.std.specs.Char.{digit_value, is_ascii_digit}
-use Rattle.std.specs.List.{take_while}
+use Rattle.std.specs.List.{list_all, take_while}
 use Rattle.std.specs.Ordering.{nat_cmp, ordering_then}
 use Rattle.std.specs.Str.Parse.{digits_value}
 use Rattle.std.specs.declared.cmp.Ordering.{Ordering}
@@ -14,13 +16,13 @@ use Rattle.version_order.specs.texts.DigitRun.{run_value, starts_with_digit, beh
 use Rattle.version_order.specs.texts.Front.{begins}
 use Rattle.version_order.specs.keys.Codes.{then_first}
 use Rattle.version_order.specs.keys.Lists.{ended_cmp}
-use Rattle.version_order.proofs.lemmas.Runs.{run_cons, run_none, no_run}
+use Rattle.version_order.proofs.lemmas.Runs.{all_behind, no_run, run_cons, run_none}
 use Rattle.version_order.proofs.lemmas.Orders.{settled}
-use Rattle.scheme_deb.proofs.lemmas.Cut.{by_numbers, same_bytes}
+use Rattle.scheme_deb.proofs.lemmas.Cut.{by_numbers, by_runs, byte_and_end, same_bytes, two_bytes}
 use Rattle.version_order.proofs.lemmas.Cuts.{alike, run_common}
-use Rattle.scheme_deb.specs.Laws.{part_writes}
+use Rattle.scheme_deb.specs.Laws.{byte_same, part_writes}
 use Rattle.scheme_deb.specs.Order.{Part, byte_cmp, more_cmp, part_bytes, part_cmp}
-use Rattle.scheme_deb.specs.Texts.{cut_of, is_run, mores, part_in, part_of}
+use Rattle.scheme_deb.specs.Texts.{cut_of, first_of, is_of_upstream, is_run, mores, part_in, part_of}
 
 abbrev pub texts_cmp : List ℕ → List ℕ → Ordering
 texts_cmp x y = part_cmp (part_of x) (part_of y)
@@ -103,35 +105,82 @@ same_byte byte x y other =
 is_no_run : (byte : ℕ) → is_ascii_digit byte ≡ true → is_run byte ≡ false
 is_no_run byte is = rw is refl
 
--- nor do digits that end within what both begin with
-digits_common : (front : List ℕ) (byte : ℕ) (a b : List ℕ) → is_ascii_digit byte ≡ false
-    → texts_cmp (behind_digits (front ++ byte ∷ a)) (behind_digits (front ++ byte ∷ b))
-    ≡ texts_cmp (front ++ byte ∷ a) (front ++ byte ∷ b)
-digits_common [] byte a b ends =
-    λ i. texts_cmp ((run_none is_ascii_digit byte a ends).1 i) ((run_none is_ascii_digit byte b ends).1 i)
-digits_common (first ∷ front) byte a b ends = elim (cases_Bool (is_ascii_digit first)) [
+-- nor do digits that end with what both begin with, or before
+digits_common : (front a b : List ℕ) → starts_with_digit a ≡ false → starts_with_digit b ≡ false
+    → texts_cmp (behind_digits (front ++ a)) (behind_digits (front ++ b)) ≡ texts_cmp (front ++ a) (front ++ b)
+digits_common [] a b ends too =
+    λ i. texts_cmp ((no_run is_ascii_digit a ends).1 i) ((no_run is_ascii_digit b too).1 i)
+digits_common (first ∷ front) a b ends too = elim (cases_Bool (is_ascii_digit first)) [
   | inl digit ↦
-      sym (same_digits (first ∷ front ++ byte ∷ a) (first ∷ front ++ byte ∷ b) (is_no_run first digit)
-      (is_no_run first digit) (run_common is_ascii_digit (first ∷ front) byte a b ends))
+      sym (same_digits (first ∷ front ++ a) (first ∷ front ++ b) (is_no_run first digit) (is_no_run first digit)
+      (run_common is_ascii_digit (first ∷ front) a b ends too))
   | inr other ↦
-      λ i. texts_cmp ((run_none is_ascii_digit first (front ++ byte ∷ a) other).1 i)
-      ((run_none is_ascii_digit first (front ++ byte ∷ b) other).1 i)
+      λ i. texts_cmp ((run_none is_ascii_digit first (front ++ a) other).1 i)
+      ((run_none is_ascii_digit first (front ++ b) other).1 i)
 ]
 
-front_common : (front : List ℕ) (byte : ℕ) (a b : List ℕ) → is_ascii_digit byte ≡ false
-    → texts_cmp (front ++ byte ∷ a) (front ++ byte ∷ b) ≡ texts_cmp a b
-front_common [] byte a b ends = same_byte byte a b ends
-front_common (first ∷ front) byte a b ends =
-    let rest = front_common front byte a b ends in
-    let one = front ++ byte ∷ a in
-    let two = front ++ byte ∷ b in
+-- nor does what both begin with, if neither goes on with a digit
+pub front_common : (front a b : List ℕ) → starts_with_digit a ≡ false → starts_with_digit b ≡ false
+    → texts_cmp (front ++ a) (front ++ b) ≡ texts_cmp a b
+front_common [] a b ends too = refl
+front_common (first ∷ front) a b ends too =
+    let rest = front_common front a b ends too in
     elim (cases_Bool (is_ascii_digit first)) [
       | inl digit ↦
-          sym (digits_common (first ∷ front) byte a b ends)
-          ∙ (λ i. texts_cmp ((run_cons is_ascii_digit first one digit).1 i) ((run_cons is_ascii_digit first two digit).1 i))
-          ∙ digits_common front byte a b ends ∙ rest
-      | inr other ↦ same_byte first one two other ∙ rest
+          sym (digits_common (first ∷ front) a b ends too)
+          ∙ (λ i. texts_cmp ((run_cons is_ascii_digit first (front ++ a) digit).1 i)
+          ((run_cons is_ascii_digit first (front ++ b) digit).1 i))
+          ∙ digits_common front a b ends too ∙ rest
+      | inr other ↦ same_byte first (front ++ a) (front ++ b) other ∙ rest
     ]
+
+-- two bytes that differ and are no digits, or one of them and the end
+pub firsts_decide : (x y : List ℕ) → starts_with_digit x ≡ false → starts_with_digit y ≡ false
+    → ((byte : ℕ) (a b : List ℕ) → x ≡ byte ∷ a → y ≡ byte ∷ b → ⊥)
+    → texts_cmp x y ≡ byte_cmp (first_of x) (first_of y)
+firsts_decide [] [] ends too differ = refl
+firsts_decide (byte ∷ x) [] ends too differ =
+    let cmp = byte_and_end (byte ∷ x) x [] byte refl (rw ends refl) refl in
+    sym (by_runs (byte ∷ x) [] _ (sym cmp.0) (λ e. cc (byte_same (Some byte) None e)))
+firsts_decide [] (other ∷ y) ends too differ =
+    let cmp = byte_and_end (other ∷ y) y [] other refl (rw too refl) refl in
+    sym (by_runs [] (other ∷ y) _ (sym cmp.1) (λ e. cc (byte_same None (Some other) e)))
+firsts_decide (byte ∷ x) (other ∷ y) ends too differ =
+    let bytes = byte_cmp (Some byte) (Some other) in
+    let some : ¬ (bytes ≡ Equal) = λ e.
+    let same : byte ≡ other = cc (byte_same (Some byte) (Some other) e) in
+    differ byte x y refl (ap (λ (b : ℕ). b ∷ y) (sym same)) in
+    sym (by_runs (byte ∷ x) (other ∷ y) bytes
+    (sym (two_bytes (byte ∷ x) x (other ∷ y) y byte other refl (rw ends refl) refl (rw too refl)
+    ∙ settled bytes _ some)) some)
+
+-- what a slice has from a place on
+pub rest_is : (place : ℕ) (text : List ℕ) → take (length text - place) (drop place text) ≡ drop place text
+rest_is place text = take_all (length text - place) (drop place text) (omega (arith, length-drop place text))
+
+pub all_rest : (place : ℕ) (text : List ℕ) → list_all is_of_upstream text ≡ true
+    → list_all is_of_upstream (take (length text - place) (drop place text)) ≡ true
+all_rest place text all =
+    ap (list_all is_of_upstream) (rest_is place text) ∙ all_behind is_of_upstream place text all
+
+-- and so they do behind what both begin with
+pub ends_decide : (x y : List ℕ) (common : ℕ) → common ≤ length x → common ≤ length y
+    → take common x ≡ take common y
+    → (common < length x → common < length y → ¬ (get_or x common 0 ≡ get_or y common 0))
+    → starts_with_digit (drop common x) ≡ false → starts_with_digit (drop common y) ≡ false
+    → byte_cmp (first_of (drop common x)) (first_of (drop common y)) ≡ texts_cmp x y
+ends_decide x y common in_x in_y same differ ends too =
+    let front = take common x in
+    let one : front ++ drop common x ≡ x = take-append-drop common x in
+    let other : front ++ drop common y ≡ y =
+    ap (λ (l : List ℕ). l ++ drop common y) same ∙ take-append-drop common y in
+    sym (firsts_decide (drop common x) (drop common y) ends too (λ byte a b at_x at_y.
+    let within : common < length x = omega (arith, ap length at_x, length-drop common x) in
+    let other_within : common < length y = omega (arith, ap length at_y, length-drop common y) in
+    let is : get_or x common 0 ≡ byte = cc (sym (drop-cons x common 0 within) ∙ at_x) in
+    let is_too : get_or y common 0 ≡ byte = cc (sym (drop-cons y common 0 other_within) ∙ at_y) in
+    differ within other_within (is ∙ sym is_too)))
+    ∙ sym (front_common front (drop common x) (drop common y) ends too) ∙ (λ i. texts_cmp (one i) (other i))
 
 -- what both begin with doesn't count, if it ends in no digit
 pub common_front : (x y : List ℕ) (place common : ℕ) → place ≤ common → common ≤ length x → common ≤ length y
@@ -144,4 +193,5 @@ common_front x y (suc place) common in_common in_x in_y same ends =
     let last : place ≡ suc place - 1 = omega arith in
     let other : is_ascii_digit byte ≡ false = ap (λ n. is_ascii_digit (get_or x n 0)) last ∙ ends (omega arith) in
     sym ((λ i. texts_cmp (both.0 i) (both.1 i))
-    ∙ front_common (take place x) byte (drop (suc place) x) (drop (suc place) y) other)
+    ∙ front_common (take place x) (byte ∷ drop (suc place) x) (byte ∷ drop (suc place) y) other other
+    ∙ same_byte byte (drop (suc place) x) (drop (suc place) y) other)

@@ -18,7 +18,7 @@ use Rattle.version_order.specs.texts.Cuts.{cut_first, cut_last}
 use Rattle.scheme_deb.specs.Texts.{behind_epoch, is_before_colon, is_behind_epoch, is_of_upstream, is_revision, is_upstream, of_cut, part_of}
 use Rattle.version_order.specs.Viable.{IsLeft}
 use Rattle.scheme_deb.proofs.lemmas.Plain.{revision_all}
-use Rattle.version_order.proofs.lemmas.Viable.Walks.{stays}
+use Rattle.version_order.proofs.lemmas.Viable.Left.{stays}
 
 abbrev cut_test : List ℕ → Option (List ℕ × List ℕ) → Bool
 cut_test text None = is_upstream text

@@ -12,8 +12,9 @@ use Rattle.version_order.proofs.lemmas.Bytes.{alphanumeric_no_dot, dot_no_identi
 use Rattle.version_order.proofs.lemmas.Front.{all_weaker, begins-drop, list_all-take_while}
 use Rattle.version_order.proofs.lemmas.Runs.{and-false, larger_run, not_false, not_true, run_cons, run_none, run_within, split_some, begins_inner, digit_alphanumeric, no_run, rest_within, run_and_more}
 use Rattle.version_order.proofs.lemmas.Viable.Epochs.{cut_by, cutting, not_all}
-use Rattle.version_order.proofs.lemmas.Viable.Walks.{after_run, empty_run, is_nothing, longest, next, nothing_apart, whole_run, IsSplit, cut_at, stops_at_piece, stops_begun, stops_behind, stops_here, stops_in_next, stops_in_tail}
-use Rattle.version_order.proofs.lemmas.Viable.Laws.{and-assoc, and-true, split_pieces, split_within}
+use Rattle.version_order.proofs.lemmas.Viable.Left.{after_run, empty_run, is_nothing, longest, next, nothing_apart, whole_run}
+use Rattle.version_order.proofs.lemmas.Viable.Walks.{IsSplit, cut_at, stops_at_piece, stops_begun, stops_behind, stops_here, stops_in_next, stops_in_tail}
+use Rattle.version_order.proofs.lemmas.Viable.Pieces.{and-assoc, and-true, split_pieces, split_within}
 use Rattle.version_order.specs.Viable.{IsLeft, IsLongestViable, IsCut, Stops}
 use Rattle.version_order.specs.texts.Bytes.{dot, hyphen, is_identifier_byte, is_metadata_byte}
 use Rattle.version_order.specs.texts.DigitRun.{is_digits}

@@ -242,16 +242,16 @@ front_common : (before : ℕ) (front : List ℕ) (byte : ℕ) (a b : List ℕ) �
     → items_cmp (items_after before (front ++ byte ∷ a)) (items_after before (front ++ byte ∷ b))
     ≡ items_cmp (items_in a) (items_in b)
 front_common before [] byte a b letter digit =
-    let letters = run_common is_ascii_alphabetic [] byte a b letter in
-    let digits = run_common is_ascii_digit [] byte a b digit in
+    let letters = run_common is_ascii_alphabetic [] (byte ∷ a) (byte ∷ b) letter letter in
+    let digits = run_common is_ascii_digit [] (byte ∷ a) (byte ∷ b) digit digit in
     let one = take_while is_ascii_alphabetic (byte ∷ b) in
     let other = take_while is_ascii_digit (byte ∷ b) in
     (λ i. items_cmp (begun before byte (letters i) (digits i) ++ no_run byte a letter digit i)
     (begun before byte one other ++ no_run byte b letter digit i))
     ∙ same_front (begun before byte one other) (items_in a) (items_in b)
 front_common before (first ∷ front) byte a b letter digit =
-    let letters = run_common is_ascii_alphabetic (first ∷ front) byte a b letter in
-    let digits = run_common is_ascii_digit (first ∷ front) byte a b digit in
+    let letters = run_common is_ascii_alphabetic (first ∷ front) (byte ∷ a) (byte ∷ b) letter letter in
+    let digits = run_common is_ascii_digit (first ∷ front) (byte ∷ a) (byte ∷ b) digit digit in
     let text = front ++ byte ∷ b in
     let one = take_while is_ascii_alphabetic (first ∷ text) in
     let other = take_while is_ascii_digit (first ∷ text) in

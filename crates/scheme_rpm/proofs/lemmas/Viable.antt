@@ -12,7 +12,7 @@ use Rattle.version_order.proofs.lemmas.Cuts.{cut_last-whole, not_cut}
 use Rattle.version_order.proofs.lemmas.Front.{all_weaker, begins-drop}
 use Rattle.version_order.proofs.lemmas.Plain.{run_and_rest}
 use Rattle.version_order.proofs.lemmas.Viable.Epochs.{last_behind, not_all, with_front, by_cut, one_part, two_parts, is_plain}
-use Rattle.version_order.proofs.lemmas.Viable.Walks.{behind, empty_run, run_left, same, stays}
+use Rattle.version_order.proofs.lemmas.Viable.Left.{behind, empty_run, run_left, same, stays}
 use Rattle.version_order.specs.Viable.{IsLeft}
 use Rattle.version_order.specs.texts.Bytes.{hyphen}
 use Rattle.version_order.specs.texts.Cuts.{cut_first, cut_last}

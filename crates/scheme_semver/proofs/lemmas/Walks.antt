@@ -14,8 +14,9 @@ use Rattle.version_order.proofs.lemmas.Cuts.{not_cut}
 use Rattle.version_order.proofs.lemmas.Front.{all_weaker, list_all-take_while}
 use Rattle.version_order.proofs.lemmas.Runs.{and-false, not_false, run_cons, run_none, split_some}
 use Rattle.version_order.proofs.lemmas.Viable.Epochs.{first_behind, with_front}
-use Rattle.version_order.proofs.lemmas.Viable.Walks.{after_run, alone, behind, grown, is_nothing, longest, nothing_apart, run_is_run, same, stays, IsSplit, cut_at, cut_behind, stops_at_piece, stops_begun, stops_in_next, stops_in_tail, stops_nothing, stops_passes}
-use Rattle.version_order.proofs.lemmas.Viable.Laws.{and-assoc, and-true, split_pieces}
+use Rattle.version_order.proofs.lemmas.Viable.Left.{after_run, alone, behind, grown, is_nothing, longest, nothing_apart, run_is_run, same, stays}
+use Rattle.version_order.proofs.lemmas.Viable.Walks.{IsSplit, cut_at, cut_behind, stops_at_piece, stops_begun, stops_in_next, stops_in_tail, stops_nothing, stops_passes}
+use Rattle.version_order.proofs.lemmas.Viable.Pieces.{and-assoc, and-true, split_pieces}
 use Rattle.version_order.specs.Viable.{IsLeft, IsLongestViable, IsCut, Stops}
 use Rattle.version_order.specs.texts.Bytes.{dot, hyphen, is_identifier_byte, is_metadata_byte, plus}
 use Rattle.version_order.specs.texts.Cuts.{cut_first, is_dot, pieces}

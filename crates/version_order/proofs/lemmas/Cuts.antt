@@ -12,8 +12,9 @@ use Rattle.version_order.proofs.lemmas.Front.{take_while-all}
 use Rattle.version_order.specs.texts.DigitRun.{is_digits, run_value}
 use Rattle.version_order.specs.keys.NumberBytes.{number_bytes}
 use Rattle.version_order.proofs.lemmas.NumberBytes.{number_length}
-use Rattle.version_order.proofs.lemmas.Runs.{run_cons, run_none}
+use Rattle.version_order.proofs.lemmas.Runs.{no_run, run_cons, run_none}
 use Rattle.version_order.specs.texts.Cuts.{cut_first, cut_last, is_epoch, split_epoch}
+use Rattle.version_order.specs.texts.Front.{begins}
 
 pub cut_between : (at : ℕ) (front rest : List ℕ) → cut_last at rest ≡ None → cut_last at (front ++ at ∷ rest) ≡ Some (front, rest)
 cut_between at [] rest none =
@@ -109,17 +110,15 @@ alike x y place common in_common in_x in_y same =
           ∙ sym (λ i. fronts i ++ bytes i ∷ drop (suc place) y),
     )
 
--- a run that ends within what two texts have in common is the same in both
-pub run_common : (kind : ℕ → Bool) (front : List ℕ) (byte : ℕ) (a b : List ℕ) → kind byte ≡ false
-    → take_while kind (front ++ byte ∷ a) ≡ take_while kind (front ++ byte ∷ b)
-run_common kind [] byte a b ends = (run_none kind byte a ends).0 ∙ sym (run_none kind byte b ends).0
-run_common kind (first ∷ front) byte a b ends = elim (cases_Bool (kind first)) [
+-- a run that ends with what two texts have in common, or before, is the same in both
+pub run_common : (kind : ℕ → Bool) (front a b : List ℕ) → begins kind a ≡ false → begins kind b ≡ false
+    → take_while kind (front ++ a) ≡ take_while kind (front ++ b)
+run_common kind [] a b ends too = (no_run kind a ends).0 ∙ sym (no_run kind b too).0
+run_common kind (first ∷ front) a b ends too = elim (cases_Bool (kind first)) [
   | inl is ↦
-      (run_cons kind first (front ++ byte ∷ a) is).0
-      ∙ ap (λ (l : List ℕ). first ∷ l) (run_common kind front byte a b ends)
-      ∙ sym (run_cons kind first (front ++ byte ∷ b) is).0
-  | inr other ↦
-      (run_none kind first (front ++ byte ∷ a) other).0 ∙ sym (run_none kind first (front ++ byte ∷ b) other).0
+      (run_cons kind first (front ++ a) is).0 ∙ ap (λ (l : List ℕ). first ∷ l) (run_common kind front a b ends too)
+      ∙ sym (run_cons kind first (front ++ b) is).0
+  | inr other ↦ (run_none kind first (front ++ a) other).0 ∙ sym (run_none kind first (front ++ b) other).0
 ]
 
 -- digits, one or more, are their own run

@@ -5,7 +5,7 @@ use Rattle.std.proofs.lemmas.List.{length-drop, take-append-drop, take_all}
 use Rattle.std.proofs.lemmas.List.Folds.{list_all-append}
 use Rattle.std.specs.List.{list_all, prefix_len, take_while}
 use Rattle.version_order.proofs.lemmas.Front.{all_weaker, list_all-take_while}
-use Rattle.version_order.proofs.lemmas.Runs.{run_cons, run_is}
+use Rattle.version_order.proofs.lemmas.Runs.{run_is}
 use Rattle.version_order.proofs.lemmas.Cuts.{cut_between, not_cut}
 use Rattle.version_order.specs.texts.Cuts.{cut_first, cut_last}
 
@@ -22,13 +22,6 @@ begun rest some =
     drop-cons rest 0 0 some
     ∙ ap (λ (l : List ℕ). get_or rest 0 0 ∷ l)
     (sym (take_all (length rest - 1) (drop 1 rest) (omega (arith, length-drop 1 rest))))
-
--- a byte of a run leaves the same behind the run
-pub passed_byte : (test : ℕ → Bool) (text : List ℕ) → 0 < length text → test (get_or text 0 0) ≡ true
-    → drop (prefix_len test (behind text)) (behind text) ≡ drop (prefix_len test text) text
-passed_byte test text some is =
-    sym (ap (λ (l : List ℕ). drop (prefix_len test l) l) (begun text some)
-    ∙ (run_cons test (get_or text 0 0) (behind text) is).1)
 
 -- a test that neither sign passes
 module _ (test : ℕ → Bool) (colon : test 58 ≡ false) (hyphen : test 45 ≡ false) where

@@ -65,10 +65,6 @@ counted bytes last written count =
     count ∙ written [] ∙ ap (λ (l : List ℕ). saturated (0 + length l)) (append-nil bytes)
     ∙ ap saturated (zero-add (length bytes))
 
--- a sum saturates as it does with a summand that has
-pub saturated_sum : (a b : ℕ) → saturated (saturated a + b) ≡ saturated (a + b)
-saturated_sum a b = omega arith
-
 -- ---- bytes written into a sink one list after another
 
 -- the bytes by another name

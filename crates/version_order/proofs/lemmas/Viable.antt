@@ -1,3 +1,4 @@
 pub mod Epochs
-pub mod Laws
+pub mod Left
+pub mod Pieces
 pub mod Walks

@@ -14,8 +14,8 @@ use Rattle.version_order.proofs.lemmas.Runs.{and-false, not_true, run_in_section
 use Rattle.version_texts.proofs.lemmas.scan.Section.{no_mark_in_run, no_dot_in_run, chunk_digits}
 use Rattle.version_order.specs.Viable.{IsLeft}
 use Rattle.version_order.proofs.lemmas.Bytes.{identifier_no_dot, dot_no_identifier, dot_no_letter}
-use Rattle.version_order.proofs.lemmas.Viable.Laws.{split_pieces, split_within, and-assoc}
-use Rattle.version_order.proofs.lemmas.Viable.Walks.{alone, grown, run_left, behind, is_nothing, last_piece, nothing_apart, nothing_left, run_is_run, next, next_piece, unless, wrong_piece, after_run, at_end, last_rest, next_closed, next_rest, next_tail, nothing_nil, whole_run}
+use Rattle.version_order.proofs.lemmas.Viable.Pieces.{split_pieces, split_within, and-assoc}
+use Rattle.version_order.proofs.lemmas.Viable.Left.{alone, grown, run_left, behind, is_nothing, last_piece, nothing_apart, nothing_left, run_is_run, next, next_piece, wrong_piece, after_run, at_end, last_rest, next_closed, next_rest, next_tail, nothing_nil, whole_run, where_begins}
 use Rattle.std.proofs.lemmas.List.{drop-drop, take-append-drop}
 use Rattle.version_order.specs.texts.DigitRun.{is_digits, starts_with_digit}
 use Rattle.version_order.specs.texts.Cuts.{pieces}
@@ -163,7 +163,7 @@ metadata_tail (byte ∷ text) e = rw e refl
 pub unreleased_tail : (text left : List ℕ) → begins (λ b. b == hyphen) text ≡ false → IsLeft is_metadata_tail text left
     → IsLeft is_tail text left
 unreleased_tail text left none =
-    unless (λ b. b == hyphen) is_tail is_metadata_tail metadata_tail
+    where_begins (λ b. b == hyphen) false is_tail is_metadata_tail metadata_tail
     (λ t e. tail_begins t e (λ b. b == hyphen) refl) text left none
 
 tail_apart_from : (test : ℕ → Bool) → test hyphen ≡ false → test plus ≡ false → (text : List ℕ) → is_tail text ≡ true
@@ -404,7 +404,7 @@ module _ (text run rest : List ℕ) (run_is : run ≡ take_while is_ascii_alphan
     module _ (none : (is_digits run && begins (λ b. b == colon) rest) ≡ false) where
       by_more : (left : List ℕ) → IsLeft (λ t. is_part run && more t) rest left → IsLeft is_general text left
       by_more left is =
-          by_first left (unless (ends_epoch run) (first_by run) (λ t. is_part run && more t)
+          by_first left (where_begins (ends_epoch run) false (first_by run) (λ t. is_part run && more t)
           (λ t e. ap (λ (b : Bool). is_part run && b) (next_tail (ends_epoch run) is_parts more t e))
           (λ t e. more_no_colon run t (second_so (is_part run) _ e)) rest left
           (begins_epoch run rest ∙ none) is)

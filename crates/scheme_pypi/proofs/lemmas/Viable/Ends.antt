@@ -17,7 +17,7 @@ use Rattle.scheme_pypi.specs.Order.{Local}
 use Rattle.scheme_pypi.specs.Texts.{is_blank, is_separator, joined, local_front, local_of, piece_front, pieces_front, without_blanks, next_piece as next_piece_of}
 use Rattle.version_order.specs.Viable.{IsLeft}
 use Rattle.scheme_pypi.specs.Stages.{after_dev, after_plus, is_ended}
-use Rattle.version_order.proofs.lemmas.Viable.Walks.{at_end, behind, empty_run, is_nothing, last_piece, next, next_piece, unless, wrong_piece}
+use Rattle.version_order.proofs.lemmas.Viable.Left.{at_end, behind, empty_run, is_nothing, last_piece, next, next_piece, wrong_piece, where_begins}
 
 -- ---- blanks
 
@@ -88,7 +88,8 @@ at_plus text more left cut is =
 pub not_plus : (text left : List ℕ) → begins (λ b. b == plus) text ≡ false → left ≡ without_blanks text
     → IsLeft after_dev text left
 not_plus text left none left_is =
-    unless (λ b. b == plus) after_dev is_ended no_plus blank_no_plus text left none (blanks_left text left left_is)
+    where_begins (λ b. b == plus) false after_dev is_ended no_plus blank_no_plus text left none
+    (blanks_left text left left_is)
 
 -- ---- its pieces
 

@@ -18,7 +18,7 @@ use Rattle.scheme_pypi.specs.Texts.{epoch_front, epoch_or_zero, is_blank, is_dot
 use Rattle.version_order.proofs.lemmas.Codes.{is_read}
 use Rattle.version_order.specs.Viable.{IsLeft, IsLongestViable}
 use Rattle.scheme_pypi.specs.Stages.{after_blanks, after_post, after_release, after_v, is_epoch, is_implicit, is_release}
-use Rattle.version_order.proofs.lemmas.Viable.Walks.{after_run, at_end, behind, empty_run, or-false, longest, longest_alike, same, shorter_left, stays, unless, where_begins}
+use Rattle.version_order.proofs.lemmas.Viable.Left.{after_run, at_end, behind, empty_run, or-false, longest, longest_alike, same, shorter_left, stays, where_begins}
 use Rattle.scheme_pypi.proofs.lemmas.Viable.Ends.{blanks_gone, some}
 use Rattle.scheme_pypi.proofs.lemmas.Viable.Stages.{dotted_dev, post_follows, release_digit, release_follows, release_no_mark}
 
@@ -198,7 +198,7 @@ module _ (text run rest : List ℕ) (run_is : run ≡ take_while is_ascii_digit 
     next_number_left more left cut digit more_left =
         by_number left (subst (λ (l : List ℕ). IsLeft release_next l left) (sym cut)
         (behind release_next (λ t. release_next (dot ∷ t)) (dot ∷ []) (λ t. refl) more left
-        (where_begins is_ascii_digit (λ t. release_next (dot ∷ t)) is_release
+        (where_begins is_ascii_digit true (λ t. release_next (dot ∷ t)) is_release
         (λ t e. ap (λ (b : Bool). if b then is_release t else after_release (dot ∷ t)) e) release_begins more left
         digit more_left)))
 
@@ -366,7 +366,9 @@ digit_no_v [] e = refl
 digit_no_v (byte ∷ text) e = grind (arith, nat_tests)
 
 pub v_left : (text left : List ℕ) → IsLeft after_v (without_v text) left → IsLeft after_blanks text left
-v_left [] left is = unless (λ b. to_ascii_lowercase b == 118) after_blanks after_v (λ t e. ap after_v (without t e)) (λ t e. digit_no_v t (v_begins t e))
+v_left [] left is =
+    where_begins (λ b. to_ascii_lowercase b == 118) false after_blanks after_v (λ t e. ap after_v (without t e))
+    (λ t e. digit_no_v t (v_begins t e))
     [] left refl is
 v_left (byte ∷ text) left is = elim (cases_Bool (to_ascii_lowercase byte == 118)) [
   | inl same ↦
@@ -374,7 +376,7 @@ v_left (byte ∷ text) left is = elim (cases_Bool (to_ascii_lowercase byte == 11
       behind after_blanks after_v (byte ∷ []) (λ t. ap after_v (here t)) text left
       (subst (λ (l : List ℕ). IsLeft after_v l left) (here text) is)
   | inr other ↦
-      unless (λ b. to_ascii_lowercase b == 118) after_blanks after_v (λ t e. ap after_v (without t e))
+      where_begins (λ b. to_ascii_lowercase b == 118) false after_blanks after_v (λ t e. ap after_v (without t e))
       (λ t e. digit_no_v t (v_begins t e)) (byte ∷ text) left other
       (subst (λ (l : List ℕ). IsLeft after_v l left) (without (byte ∷ text) other) is)
 ]

@@ -15,7 +15,7 @@ use Rattle.scheme_pypi.specs.Order.{Alpha, Beta, Candidate, Phase}
 use Rattle.scheme_pypi.specs.Texts.{alpha_words, beta_words, candidate_words, post_words, dev_words, after_any, after_word, is_blank, is_separator, number_or_zero, numbered, post_front, pre_front, without_separator}
 use Rattle.scheme_pypi.specs.Stages.{Follows, after_dev, after_post, after_pre, after_release, is_implicit, number_then, word_then, worded}
 use Rattle.scheme_pypi.proofs.lemmas.Viable.Ends.{dev_false, no_plus, separator_no_blank}
-use Rattle.version_order.proofs.lemmas.Viable.Walks.{or-false}
+use Rattle.version_order.proofs.lemmas.Viable.Left.{or-false}
 
 abbrev small : ℕ → Bool
 small letter = nat_le 97 letter && nat_le letter 122

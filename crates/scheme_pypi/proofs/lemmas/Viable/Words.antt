@@ -9,7 +9,7 @@ use Rattle.version_order.specs.texts.Front.{begins}
 use Rattle.scheme_pypi.specs.Texts.{after_word, left_of_word, is_separator, number_or_zero, without_separator}
 use Rattle.version_order.specs.Viable.{IsLeft}
 use Rattle.scheme_pypi.specs.Stages.{Follows, number_then, word_then, worded}
-use Rattle.version_order.proofs.lemmas.Viable.Walks.{after_run, behind, stays, unless, unless_nothing}
+use Rattle.version_order.proofs.lemmas.Viable.Left.{after_run, behind, stays, unless_nothing, where_begins}
 
 -- ---- words
 
@@ -129,7 +129,8 @@ module _ (test : List ℕ → Bool) (word : List ℕ) (some : word ≡ [] → �
 
   pub worded_left : (text left : List ℕ) → IsLeft plain (without_separator text) left
       → IsLeft (worded test word) text left
-  worded_left [] left is = unless is_separator (worded test word) plain plain_worded plain_apart [] left refl is
+  worded_left [] left is =
+      where_begins is_separator false (worded test word) plain plain_worded plain_apart [] left refl is
   worded_left (byte ∷ text) left is = elim (cases_Bool (is_separator byte)) [
     | inl marked ↦
         let here : (t : List ℕ) → without_separator (byte ∷ t) ≡ t = λ t. rw marked refl in
@@ -137,7 +138,7 @@ module _ (test : List ℕ → Bool) (word : List ℕ) (some : word ≡ [] → �
         (subst (λ (l : List ℕ). IsLeft plain l left) (here text) is)
     | inr other ↦
         let here : without_separator (byte ∷ text) ≡ byte ∷ text = rw other refl in
-        unless is_separator (worded test word) plain plain_worded plain_apart (byte ∷ text) left other
+        where_begins is_separator false (worded test word) plain plain_worded plain_apart (byte ∷ text) left other
         (subst (λ (l : List ℕ). IsLeft plain l left) here is)
   ]
 

@@ -1,5 +1,5 @@
 use Rattle.std.proofs.Common.{[], ◌∷◌, codes, refl}
-use Rattle.version_order.proofs.lemmas.Viable.Walks.{shorter_left}
+use Rattle.version_order.proofs.lemmas.Viable.Left.{shorter_left}
 use Rattle.scheme_pypi.specs.Stages.{after_post}
 use Rattle.scheme_pypi.proofs.lemmas.Viable.Stages.{implicit_or, no_post, post_fails, word_or}
 use Rattle.scheme_pypi.proofs.viable.left_behind_pre.Goals as goal

@@ -1,5 +1,5 @@
 use Rattle.std.proofs.Common.{[], ◌∷◌, codes, refl}
-use Rattle.version_order.proofs.lemmas.Viable.Walks.{same, shorter_left}
+use Rattle.version_order.proofs.lemmas.Viable.Left.{same, shorter_left}
 use Rattle.scheme_pypi.specs.Stages.{after_pre}
 use Rattle.scheme_pypi.proofs.lemmas.Viable.Stages.{no_pre, pre_fails, release_stage, word_or}
 use Rattle.scheme_pypi.proofs.viable.left_behind_release.Goals as goal

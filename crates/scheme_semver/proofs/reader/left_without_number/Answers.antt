@@ -1,5 +1,5 @@
 use Rattle.std.proofs.Common.{◌∙◌, sym, subst}
-use Rattle.version_order.proofs.lemmas.Viable.Walks.{behind_first}
+use Rattle.version_order.proofs.lemmas.Viable.Left.{behind_first}
 use Rattle.version_order.specs.Viable.{IsCut}
 use Rattle.scheme_semver.proofs.lemmas.Walks.{no_digit_cut, zero_cut}
 use Rattle.scheme_semver.specs.Reading.{is_core}

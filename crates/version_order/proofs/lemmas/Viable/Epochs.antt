@@ -13,7 +13,7 @@ use Rattle.std.specs.Prelude.{option_and_then}
 use Rattle.version_order.proofs.lemmas.Cuts.{not_cut}
 use Rattle.version_order.proofs.lemmas.Front.{all_weaker, prefix_len-append}
 use Rattle.version_order.proofs.lemmas.Plain.{run_and_rest}
-use Rattle.version_order.proofs.lemmas.Viable.Walks.{behind}
+use Rattle.version_order.proofs.lemmas.Viable.Left.{behind}
 use Rattle.version_order.specs.Viable.{IsLeft, IsViable}
 use Rattle.version_order.specs.texts.Bytes.{colon}
 use Rattle.version_order.specs.texts.DigitRun.{behind_digits, run_value, starts_with_digit}

@@ -3,7 +3,7 @@ use Rattle.std.specs.Option.{is_some}
 use Rattle.version_rules.specs.grammar.Versioning.{versioning_of}
 use Rattle.version_texts.specs.Scan.{is_general, is_messy}
 use Rattle.version_texts.proofs.lemmas.Viable.{any_kind}
-use Rattle.version_order.proofs.lemmas.Viable.Walks.{further, further_other, longest}
+use Rattle.version_order.proofs.lemmas.Viable.Left.{further, further_other, longest}
 use Rattle.version_texts.proofs.viable.mixed_length.Goals as goal
 
 pub returns-then-general-messy : goal.returns-then-general-messy

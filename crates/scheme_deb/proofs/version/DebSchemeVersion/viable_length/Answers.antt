@@ -1,4 +1,4 @@
-use Rattle.version_order.proofs.lemmas.Viable.Walks.{longest_read}
+use Rattle.version_order.proofs.lemmas.Viable.Left.{longest_read}
 use Rattle.scheme_deb.specs.Texts.{deb_of}
 use Rattle.scheme_deb.proofs.version.DebSchemeVersion.viable_length.Goals as goal
 
