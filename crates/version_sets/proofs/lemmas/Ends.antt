@@ -56,6 +56,11 @@ less_or_not Less = inl refl
 less_or_not Equal = inr (λ e. cc e)
 less_or_not Greater = inr (λ e. cc e)
 
+pub lt_less : (o : Ordering) → is_lt o ≡ true → o ≡ Less
+lt_less Less e = refl
+lt_less Equal e = cc e
+lt_less Greater e = cc e
+
 turned : (a b : List ℕ) → bytes_cmp a b ≡ Greater → bytes_cmp b a ≡ Less
 turned a b greater = total.antisymm b a ∙ ap ordering_reverse greater
 

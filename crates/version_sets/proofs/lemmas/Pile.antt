@@ -1,5 +1,6 @@
 -- Sets one behind another in a room: one more, and one in the place of two.
 use Rattle.std.proofs.Common.{◌≡◌, ◌+◌, ◌≤◌, ℕ, Bool, true, false, not, List, [], ◌∷◌, arith, length, length-append, refl, ◌∙◌, ◌-◌, ◌*◌, ◌<◌, ◌&&◌, ◌||◌, ◌++◌, Option, None, Some, append_assoc, ap, get_or, set, subst, sym, take}
+use Rattle.std.proofs.Math.Bool.{and_assoc, and_comm, or_assoc, or_comm}
 use Rattle.std.specs.List.{concat, flat_map}
 use Rattle.std.specs.declared.cmp.Ordering.{Ordering}
 use Rattle.std.specs.declared.cmp.Ordering.TheVariants.{Less, Equal, Greater}
@@ -133,22 +134,11 @@ all_merged : (rule : Rule) → ¬ (rule ≡ FirstAlone) → (made first last : L
     → has made key ≡ by_rule rule (has first key) (has last key)
     → all_have rule (made ∷ sets) key ≡ all_have rule (last ∷ first ∷ sets) key
 all_merged Both other made first last sets key is =
-    ap (λ b. b && all_have Both sets key) is ∙ by (has first key) (has last key) (all_have Both sets key)
-  where
-    by : (f l rest : Bool) → ((f && l) && rest) ≡ (l && (f && rest))
-    by true true rest = refl
-    by true false rest = refl
-    by false true rest = refl
-    by false false rest = refl
+    ap (λ b. b && all_have Both sets key) (is ∙ and_comm (has first key) (has last key))
+    ∙ and_assoc (has last key) (has first key) (all_have Both sets key)
 all_merged Either other made first last sets key is =
-    ap (λ b. b || all_have Either sets key) is
-    ∙ by (has first key) (has last key) (all_have Either sets key)
-  where
-    by : (f l rest : Bool) → ((f || l) || rest) ≡ (l || (f || rest))
-    by true true rest = refl
-    by true false rest = refl
-    by false true rest = refl
-    by false false rest = refl
+    ap (λ b. b || all_have Either sets key) (is ∙ or_comm (has first key) (has last key))
+    ∙ or_assoc (has last key) (has first key) (all_have Either sets key)
 all_merged FirstAlone other made first last sets key is = absurd (other refl)
 
 -- a pile of two sets or more

@@ -5,8 +5,8 @@ use Rattle.std.specs.Option.{MatchOption}
 use Rattle.version_sets.proofs.lemmas.Comparison.{star_cut}
 use Rattle.version_sets.proofs.read.member.before_star.Goals as goal
 
-pub returns : goal.returns
-returns c =
+pub returns-clause-before : goal.returns-clause-before
+returns-clause-before c =
     let text = c.args.text.now in
     let cut = c.strip_suffix.result in
     star_cut text cut
