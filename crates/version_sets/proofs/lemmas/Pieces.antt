@@ -1,8 +1,11 @@
 -- The pieces of a text, by what it begins with.
-use Rattle.std.proofs.Common.{◌≡◌, ◌≤◌, ℕ, zero, suc, List, [], ◌∷◌, ap, arith, length, refl, set, ◌∙◌, ◌+◌, ◌==◌, ◌&&◌, ◌⊎◌, Bool, true, false, ◌++◌, inl, inr, sym}
+use Rattle.std.proofs.Common.{◌≡◌, ◌≤◌, ℕ, zero, suc, List, [], ◌∷◌, ap, arith, length, refl, set, ◌∙◌, ◌+◌, ◌==◌, ◌&&◌, ◌⊎◌, Bool, true, false, ◌++◌, drop, inl, inr, one-add, sym}
 use Rattle.version_order.specs.keys.Sinks.{put_at}
 use Rattle.std.proofs.lemmas.Bool.{cases_Bool, eqb-true, ne_eqb}
 use Rattle.std.specs.List.{list_all}
+use Rattle.std.specs.List.{prefix_len, take_while}
+use Rattle.version_order.proofs.lemmas.Front.{begins-drop}
+use Rattle.version_order.proofs.lemmas.Plain.{run_and_rest}
 use Rattle.version_order.specs.texts.Front.{begins}
 use Rattle.version_sets.specs.Pieces.{PlainPiece, Bar, Bars, Comma, Word, is_bar, is_blank, is_comma, is_word_byte, pieces, with_byte, with_piece}
 
@@ -50,10 +53,21 @@ of_word b word = by (is_blank b) (is_comma b) (is_bar b) refl refl refl
 
 -- ---- pieces
 
-pub past_blank : (place b : ℕ) (text : List ℕ) → is_blank b ≡ true
+past_blank : (place b : ℕ) (text : List ℕ) → is_blank b ≡ true
     → pieces (suc place) text ≡ pieces place (b ∷ text)
 past_blank place b [] blank = rw blank refl
 past_blank place b (c ∷ text) blank = rw (no_bar_at b blank, blank) refl
+
+pub past_blanks : (place : ℕ) (text : List ℕ)
+    → pieces (place + prefix_len is_blank text) (drop (prefix_len is_blank text) text) ≡ pieces place text
+past_blanks place [] = refl
+past_blanks place (b ∷ text) = elim (cases_Bool (is_blank b)) [
+  | inl blank ↦
+      rw (blank, one-add)
+      (ap (λ n. pieces n (drop (prefix_len is_blank text) text)) (omega arith) ∙ past_blanks (suc place) text
+      ∙ past_blank place b text blank)
+  | inr other ↦ rw other (ap (λ n. pieces n (b ∷ text)) (omega arith))
+]
 
 pub at_comma : (place : ℕ) (text : List ℕ) → pieces place (44 ∷ text) ≡ (place, Comma) ∷ pieces (suc place) text
 at_comma place [] = refl
@@ -96,19 +110,6 @@ at_word place b (w ∷ word) rest is all other =
     first true c e = refl
     first false c e = cc e
 
--- a word with one byte more
-pub one_more : (word : List ℕ) (b : ℕ) → list_all is_word_byte word ≡ true → is_word_byte b ≡ true
-    → list_all is_word_byte (word ++ b ∷ []) ≡ true
-one_more [] b all is = rw is refl
-one_more (w ∷ word) b all is = by (is_word_byte w) all (one_more word b)
-  where
-    by : (first : Bool) → (first && list_all is_word_byte word) ≡ true
-        → (list_all is_word_byte word ≡ true → is_word_byte b ≡ true
-        → list_all is_word_byte (word ++ b ∷ []) ≡ true)
-        → (first && list_all is_word_byte (word ++ b ∷ [])) ≡ true
-    by true more step = step more is
-    by false more step = cc more
-
 -- ---- pieces, from a place on
 
 pub first_comma : (text rest : List ℕ) (first : ℕ) → text ≡ first ∷ rest → first ≡ 44 → (place : ℕ)
@@ -133,15 +134,15 @@ first_bar text rest first whole is other place =
 pub no_other : (b : ℕ) → is_blank b ≡ false → ¬ (b ≡ 44) → ¬ (b ≡ 124) → is_word_byte b ≡ true
 no_other b no_blank no_comma no_bar = rw (no_blank, ne_eqb b 44 no_comma, ne_eqb b 124 no_bar) refl
 
-pub first_word : (text tail word rest : List ℕ) (first : ℕ) → text ≡ first ∷ tail
+of_run : (text tail word rest : List ℕ) (first : ℕ) → text ≡ first ∷ tail
     → is_word_byte first ≡ true → text ≡ word ++ rest → list_all is_word_byte word ≡ true
     → begins is_word_byte rest ≡ false
     → ((place : ℕ) → pieces place text ≡ (place, Word word) ∷ pieces (place + length word) rest)
     × (1 ≤ length word)
-first_word text tail [] rest first whole is cut all other =
+of_run text tail [] rest first whole is cut all other =
     let here : begins is_word_byte rest ≡ true = ap (begins is_word_byte) (sym cut ∙ whole) ∙ is in
     cc (here, other)
-first_word text tail (b ∷ word) rest first whole is cut all other = (
+of_run text tail (b ∷ word) rest first whole is cut all other = (
   λ place.
       ap (pieces place) cut ∙ at_word place b word rest (rw same at is) (rw (rw same at is) at all) other
       ∙ ap (λ n. (place, Word (b ∷ word)) ∷ pieces n rest) (omega arith),
@@ -150,3 +151,12 @@ first_word text tail (b ∷ word) rest first whole is cut all other = (
   where
     same : first ≡ b
     same = cc (sym whole ∙ cut)
+
+pub first_word : (text tail word rest : List ℕ) (first : ℕ) → text ≡ first ∷ tail → is_word_byte first ≡ true
+    → word ≡ take_while is_word_byte text → rest ≡ drop (prefix_len is_word_byte text) text
+    → ((place : ℕ) → pieces place text ≡ (place, Word word) ∷ pieces (place + length word) rest)
+    × (1 ≤ length word)
+first_word text tail word rest first whole is word_is rest_is =
+    let cut = run_and_rest is_word_byte text word rest word_is rest_is in
+    of_run text tail word rest first whole is cut.0 cut.1
+    (ap (begins is_word_byte) rest_is ∙ begins-drop is_word_byte text)
