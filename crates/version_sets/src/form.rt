@@ -82,6 +82,7 @@ impl<'a> Form<'a> {
     }
 
     /// Returns the end at a place, or None where it has fewer.
+    #[tactic(auto, using(crate::proofs::lemmas::Form::between_is))]
     pub fn end(&self, place: usize) -> Option<&'a [u8]>
         ensures some { IfSome result
             (λ end. drop place (ends_of self.now) ≡ end.now ∷ drop (place + 1) (ends_of self.now)) }
