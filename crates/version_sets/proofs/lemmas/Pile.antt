@@ -1,8 +1,8 @@
 -- Sets one behind another in a room: one more, and one in the place of two.
-use Rattle.std.proofs.Common.{◌≡◌, ◌+◌, ◌≤◌, ℕ, Bool, true, false, not, List, [], ◌∷◌, arith, length, length-append, refl, ◌∙◌, ◌-◌, ◌*◌, ◌<◌, ◌&&◌, ◌||◌, ◌++◌, Option, None, Some, append_assoc, ap, get_or, set, subst, sym, take}
+use Rattle.std.proofs.Common.{◌≡◌, ◌+◌, ◌≤◌, ℕ, Bool, false, List, [], ◌∷◌, arith, length, length-append, refl, ◌∙◌, ◌-◌, ◌*◌, ◌<◌, ◌&&◌, ◌||◌, ◌++◌, Option, None, Some, append_assoc, ap, get_or, set, subst, sym, take}
 use Rattle.std.proofs.Math.Bool.{and_assoc, and_comm, or_assoc, or_comm}
 use Rattle.std.specs.List.{concat, flat_map}
-use Rattle.version_sets.specs.Pile.{kept, merged, Begin, IsPile, all_have, through}
+use Rattle.version_sets.specs.Pile.{merged, Begin, IsPile, all_have, through}
 use Rattle.std.proofs.lemmas.List.{get_or-set_other, get_or-set_same, take_at}
 use Rattle.std.specs.Option.{IsSomeAnd}
 use Rattle.version_sets.specs.Form.{Rise, has, form_bytes, number, places}

@@ -1,8 +1,5 @@
-use Rattle.std.proofs.Common.{◌≡◌, ◌∙◌, ◌+◌, ◌-◌, ◌/◌, ap, arith, false, length, refl, sym, true}
+use Rattle.std.proofs.Common.{◌≡◌, ◌∙◌, ◌+◌, ◌-◌, ◌/◌, ap, arith, length, sym}
 use Rattle.std.proofs.lemmas.List.{length-drop}
-use Rattle.std.specs.Ordering.{is_lt}
-use Rattle.std.specs.declared.cmp.Ordering.{Ordering}
-use Rattle.std.specs.declared.cmp.Ordering.TheVariants.{Less, Equal, Greater}
 use Rattle.version_sets.proofs.lemmas.Ends.{above_from, decided, lt_less, passed_from}
 use Rattle.version_sets.specs.Set.{ends_of}
 use Rattle.version_sets.proofs.form.Form.has_key.Goals as goal

@@ -1,4 +1,4 @@
-use Rattle.std.proofs.Common.{◌≡◌, ◌==◌, ◌∙◌, ◌&&◌, ap, length, not, refl, sym}
+use Rattle.std.proofs.Common.{◌==◌, ◌∙◌, ap, length, refl, sym}
 use Rattle.std.proofs.lemmas.Bool.{and_parts}
 use Rattle.version_sets.proofs.lemmas.Ends.{none_in, some_in}
 use Rattle.version_sets.specs.Set.{by_rule}

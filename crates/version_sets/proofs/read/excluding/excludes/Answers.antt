@@ -1,4 +1,4 @@
-use Rattle.std.proofs.Common.{◌≡◌, ◌∙◌, List, [], ℕ, ap, arith, not, refl}
+use Rattle.std.proofs.Common.{◌∙◌, List, [], ℕ, ap, arith, not, refl}
 use Rattle.version_sets.specs.Comparison.{ends_with}
 use Rattle.version_sets.specs.Form.{has}
 use Rattle.version_sets.specs.Reading.{Asked, Not, With}

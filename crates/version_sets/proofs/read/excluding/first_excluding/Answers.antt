@@ -1,4 +1,4 @@
-use Rattle.std.proofs.Common.{◌≡◌, ◌∙◌, ◌+◌, suc, [], ◌∷◌, ap, arith, length, refl, sym}
+use Rattle.std.proofs.Common.{◌≡◌, ◌∙◌, suc, [], ◌∷◌, ap, arith, length, refl, sym}
 use Rattle.version_sets.specs.Excluding.{first_out, found_or, left_read}
 use Rattle.version_sets.specs.Pieces.{piece_length, plain_piece}
 use Rattle.version_sets.specs.Reading.{Member, piece_room, pieces_room}

@@ -1,4 +1,4 @@
-use Rattle.std.proofs.Common.{◌≡◌, ◌∙◌, ap, not, subst, sym}
+use Rattle.std.proofs.Common.{◌∙◌, ap, not, subst, sym}
 use Rattle.version_sets.specs.Comparison.{ends_with}
 use Rattle.version_sets.specs.Form.{Rise, has}
 use Rattle.version_sets.proofs.lemmas.Reader.{begins_room}

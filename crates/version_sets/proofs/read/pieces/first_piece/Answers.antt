@@ -1,4 +1,4 @@
-use Rattle.std.proofs.Common.{◌≡◌, ◌∙◌, ◌+◌, ap, arith, length, length-append, sym}
+use Rattle.std.proofs.Common.{◌∙◌, ap, arith, length, length-append, sym}
 use Rattle.version_order.proofs.lemmas.Plain.{run_and_rest}
 use Rattle.version_order.specs.texts.Front.{begins}
 use Rattle.version_sets.specs.Pieces.{is_blank, is_word_byte}

@@ -1,4 +1,4 @@
-use Rattle.std.proofs.Common.{◌≡◌, ◌+◌, ◌||◌, ◌&&◌, ◌∷◌, [], ap, arith, length, refl, subst, sym, true}
+use Rattle.std.proofs.Common.{◌+◌, ◌||◌, ◌&&◌, ◌∷◌, [], ap, arith, length, refl, subst, sym, true}
 use Rattle.version_order.specs.keys.Sinks.{length-put}
 use Rattle.version_sets.specs.Comparison.{ends_with}
 use Rattle.version_sets.specs.Form.{has, form_bytes}
