@@ -146,10 +146,7 @@ impl<'a> Merge<'a> {
     pub fn is_empty(mut self) -> bool
         ensures { result ≡ (length (left self.entry) == 0) }
     {
-        match self.next() {
-            Some(_) => false,
-            None => true,
-        }
+        self.next().is_none()
     }
 
     // Returns how many bytes the places of all ends of both have.

@@ -1,11 +1,13 @@
 -- The pieces of a text, by what it begins with.
-use Rattle.std.proofs.Common.{◌≡◌, ◌≤◌, ℕ, zero, suc, List, [], ◌∷◌, ap, arith, length, refl, set, ◌∙◌, ◌+◌, ◌==◌, ◌&&◌, ◌⊎◌, Bool, true, false, ◌++◌, drop, inl, inr, one-add, sym}
+use Rattle.std.proofs.Common.{◌≡◌, ◌≤◌, ℕ, zero, suc, List, [], ◌∷◌, ap, arith, length, refl, set, ◌∙◌, ◌+◌, ◌&&◌, Bool, true, false, ◌++◌, drop, inl, inr, one-add, sym}
 use Rattle.version_order.specs.keys.Sinks.{put_at}
-use Rattle.std.proofs.lemmas.Bool.{cases_Bool, eqb-true, ne_eqb}
+use Rattle.std.proofs.lemmas.Bool.{and_parts, cases_Bool, ne_eqb}
+use Rattle.std.proofs.lemmas.Bool.Decides.{nat_tests}
 use Rattle.std.specs.List.{list_all}
 use Rattle.std.specs.List.{prefix_len, take_while}
 use Rattle.version_order.proofs.lemmas.Front.{begins-drop}
 use Rattle.version_order.proofs.lemmas.Plain.{run_and_rest}
+use Rattle.version_order.proofs.lemmas.Runs.{not_true}
 use Rattle.version_order.specs.texts.Front.{begins}
 use Rattle.version_sets.specs.Pieces.{PlainPiece, Bar, Bars, Comma, Word, is_bar, is_blank, is_comma, is_word_byte, pieces, with_byte, with_piece}
 
@@ -28,13 +30,7 @@ put_past (x ∷ room) (suc place) bytes past =
 -- ---- bytes
 
 no_bar_at : (b : ℕ) → is_blank b ≡ true → is_bar b ≡ false
-no_bar_at b blank = by (cases_Bool (b == 32)) (cases_Bool (b == 9))
-  where
-    by : ((b == 32) ≡ true) ⊎ ((b == 32) ≡ false) → ((b == 9) ≡ true) ⊎ ((b == 9) ≡ false)
-        → is_bar b ≡ false
-    by (inl space) tab = rw (eqb-true b 32 space) refl
-    by (inr other) (inl tab) = rw (eqb-true b 9 tab) refl
-    by (inr other) (inr no_tab) = cc (rw (other, no_tab) at blank)
+no_bar_at b blank = grind (arith, nat_tests)
 
 -- a byte of a word is none of the others
 record IsOfWord (b : ℕ) : Type 0 where
@@ -43,13 +39,10 @@ record IsOfWord (b : ℕ) : Type 0 where
   no_bar : is_bar b ≡ false
 
 of_word : (b : ℕ) → is_word_byte b ≡ true → IsOfWord b
-of_word b word = by (is_blank b) (is_comma b) (is_bar b) refl refl refl
-  where
-    by : (blank comma bar : Bool) → is_blank b ≡ blank → is_comma b ≡ comma → is_bar b ≡ bar → IsOfWord b
-    by false false false e f g = record { no_blank = e; no_comma = f; no_bar = g }
-    by true comma bar e f g = cc (rw e at word)
-    by false true bar e f g = cc (rw (e, f) at word)
-    by false false true e f g = cc (rw (e, f, g) at word)
+of_word b word =
+    let front = and_parts _ _ word in
+    let both = and_parts _ _ front.0 in
+    record { no_blank = not_true _ both.0; no_comma = not_true _ both.1; no_bar = not_true _ front.1 }
 
 -- ---- pieces
 

@@ -1,6 +1,5 @@
 -- The bytes of a set, one end further.
-use Rattle.std.proofs.Common.{◌≡◌, ◌∙◌, ◌+◌, ◌-◌, ◌<◌, ◌^◌, ℕ, true, List, [], ◌∷◌, ◌++◌, Option, None, Some, ap, arith, drop, length, length-append, refl, subst, sym, take}
-use Rattle.std.proofs.lemmas.List.{drop_at, take_at}
+use Rattle.std.proofs.Common.{◌≡◌, ◌∙◌, ◌+◌, ◌<◌, ◌^◌, ℕ, true, List, [], ◌∷◌, ◌++◌, Option, None, Some, ap, arith, length, length-append, refl, sym}
 use Rattle.std.specs.List.{concat, flat_map}
 use Rattle.std.specs.List.Sorted.{IsStrictlySortedBy}
 use Rattle.std.specs.Ordering.{is_lt}
@@ -104,21 +103,12 @@ module _ (from : ℕ) (last : Option (List ℕ)) (over : ℕ) (rest bytes : List
         length-append first.end (concat first.ends),
       ))
 
-  pub first_end : take (over - from) bytes ≡ first.end
-  first_end =
-      ap (take (over - from)) first.bytes_are
-      ∙ take_at first.end (concat first.ends) (over - from) (omega (arith, first_over))
+  pub first_cut : (end behind : List ℕ) → bytes ≡ end ++ behind → over ≡ from + length end
+      → (end ≡ first.end) × (behind ≡ concat first.ends)
+  first_cut end behind is over_is =
+      cut_alike end first.end behind (concat first.ends) (omega (arith, over_is, first_over)) (sym is ∙ first.bytes_are)
 
-  first_behind : drop (over - from) bytes ≡ concat first.ends
-  first_behind =
-      ap (drop (over - from)) first.bytes_are
-      ∙ drop_at first.end (concat first.ends) (over - from) (omega (arith, first_over))
-
-  pub first_left : (end behind : List ℕ) → end ≡ take (over - from) bytes → behind ≡ drop (over - from) bytes
+  pub first_left : (end behind : List ℕ) → bytes ≡ end ++ behind → over ≡ from + length end
       → AreLeft over (Some end) rest behind first.ends
-  first_left end behind end_is behind_is =
-      subst (λ n. AreLeft n (Some end) rest behind first.ends) (sym first_over)
-      (subst (λ (e : List ℕ). AreLeft (from + length first.end) (Some e) rest behind first.ends)
-      (sym (end_is ∙ first_end))
-      (subst (λ (b : List ℕ). AreLeft (from + length first.end) (Some first.end) rest b first.ends)
-      (sym (behind_is ∙ first_behind)) first.left))
+  first_left end behind is over_is =
+      let cut = first_cut end behind is over_is in rw (first_over, cut.0, cut.1) first.left
