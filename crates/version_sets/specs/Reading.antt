@@ -137,9 +137,9 @@ abbrev pub pieces_room : (ℕ → ℕ) → List (ℕ × PlainPiece) → ℕ
 pieces_room most [] = 0
 pieces_room most ((place, piece) ∷ more) = piece_room most piece + pieces_room most more
 
--- a set with such ends takes no more room than a word that is as long as a text or longer
+-- a set with these ends fits the room of each word of so many bytes or more
 abbrev pub IsWithin : (ℕ → ℕ) → ℕ → List (List ℕ) → Type 0
-IsWithin most length_of ends = (order : ℕ) (word : List ℕ) → length_of ≤ length word
+IsWithin most bytes ends = (order : ℕ) (word : List ℕ) → bytes ≤ length word
     → length (form_bytes order ends) ≤ piece_room most (Word word)
 
 -- room for all members, and for what is made of them
