@@ -1,6 +1,7 @@
 -- The comparisons of members: the words for them, and the ends of what they hold.
-use Rattle.std.specs.Prelude.{◌==◌, ◌&&◌, ℕ, Bool, true, false, List, [], ◌∷◌, codes, if◌then◌else◌, map, Option, Some, None}
+use Rattle.std.specs.Prelude.{◌-◌, ℕ, Bool, true, false, List, [], ◌∷◌, codes, drop, if◌then◌else◌, length, map, take, Option, Some, None}
 use Rattle.std.specs.Option.{option_map, option_or}
+use Rattle.std.specs.Str.{bytes_eq}
 use Rattle.version_order.specs.declared.ends.End.{End}
 use Rattle.version_order.specs.declared.ends.End.TheVariants.{AboveBegun, AfterKey, Begun, Key, Lowest}
 use Rattle.version_order.specs.declared.ends.Kept.TheVariants.{All, ButLastOrOnly, ThroughOther}
@@ -87,12 +88,8 @@ abbrev pub has_doubled : Operators → Bool
 has_doubled Doubled = true
 has_doubled other = false
 
--- whether a text is `.*`, and what stands before these at the end of a text
-abbrev pub is_star : List ℕ → Bool
-is_star (dot ∷ star ∷ []) = dot == 46 && star == 42
-is_star text = false
-
+-- what stands before `.*` at the end of a text
 abbrev pub before_star : List ℕ → Option (List ℕ)
-before_star [] = None
-before_star (b ∷ text) =
-    if is_star (b ∷ text) then Some [] else option_map (λ front. b ∷ front) (before_star text)
+before_star text =
+    let place = length text - 2 in
+    if bytes_eq (drop place text) (codes ".*") then Some (take place text) else None

@@ -1,5 +1,5 @@
 -- What a text is read as: a set by its alternatives, each by its members, or where it is wrong, and why.
-use Rattle.std.specs.Prelude.{◌+◌, ◌*◌, ◌&&◌, ℕ, suc, Bool, not, List, [], ◌∷◌, if◌then◌else◌, length, Option, Some, None}
+use Rattle.std.specs.Prelude.{◌+◌, ◌*◌, ◌≤◌, ◌&&◌, ℕ, suc, Bool, not, List, [], ◌∷◌, if◌then◌else◌, length, Option, Some, None}
 use Rattle.std.specs.List.{list_all, list_any}
 use Rattle.std.specs.declared.result.Result.{Result}
 use Rattle.std.specs.declared.result.Result.TheVariants.{Err, Ok}
@@ -7,7 +7,7 @@ use Rattle.version_sets.specs.declared.read.slip.Slip.{Slip as Slips}
 use Rattle.version_order.specs.declared.facts.Operators.{Operators}
 use Rattle.version_order.specs.Keyed.{PlainKeyed}
 use Rattle.version_sets.specs.Comparison.{asks_bare, asks_doubled, asks_parts, before_star, ends_with, has_doubled, has_parts, starred}
-use Rattle.version_sets.specs.Form.{has}
+use Rattle.version_sets.specs.Form.{form_bytes, has}
 use Rattle.version_sets.specs.Pieces.{PlainPiece, Word, pieces}
 use Rattle.version_sets.specs.Slips.{slip_of}
 use Rattle.version_sets.specs.Steps.{PlainStep, All, Asks, Closes, Fault, Goes, step, unfinished}
@@ -136,6 +136,11 @@ piece_room most other = 0
 abbrev pub pieces_room : (ℕ → ℕ) → List (ℕ × PlainPiece) → ℕ
 pieces_room most [] = 0
 pieces_room most ((place, piece) ∷ more) = piece_room most piece + pieces_room most more
+
+-- a set with these ends fits the room of each word of so many bytes or more
+abbrev pub IsWithin : (ℕ → ℕ) → ℕ → List (List ℕ) → Type 0
+IsWithin most bytes ends = (order : ℕ) (word : List ℕ) → bytes ≤ length word
+    → length (form_bytes order ends) ≤ piece_room most (Word word)
 
 -- room for all members, and for what is made of them
 abbrev pub set_room : (ℕ → ℕ) → List ℕ → ℕ

@@ -1,7 +1,7 @@
 -- Versions that people write for something else, by their texts alike in each order.
 use Rattle.std.specs.Prelude.{◌&&◌, ◌==◌, ◌||◌, ℕ, Bool, false, true, not, List, [], ◌∷◌, drop, if◌then◌else◌, Option, Some, None}
 use Rattle.std.specs.Char.{is_ascii_alphanumeric, is_ascii_digit}
-use Rattle.std.specs.List.{list_any}
+use Rattle.std.specs.List.{list_any, prefix_len}
 use Rattle.std.specs.Ordering.{is_eq}
 use Rattle.version_order.specs.keys.Lists.{bytes_cmp}
 use Rattle.version_sets.specs.declared.read.slip.Slip.{Slip}
@@ -13,13 +13,9 @@ abbrev pub begins_with_v : List ℕ → Bool
 begins_with_v (letter ∷ digit ∷ text) = (letter == 118 || letter == 86) && is_ascii_digit digit
 begins_with_v text = false
 
--- what stands behind the digits with which a text begins, and behind an epoch, which is digits and a colon
-abbrev pub behind_digits : List ℕ → List ℕ
-behind_digits [] = []
-behind_digits (b ∷ text) = if is_ascii_digit b then behind_digits text else b ∷ text
-
+-- what stands behind an epoch, which is digits and a colon
 abbrev pub behind_epoch : List ℕ → List ℕ
-behind_epoch text = by (behind_digits text)
+behind_epoch text = by (drop (prefix_len is_ascii_digit text) text)
   where
     by : List ℕ → List ℕ
     by [] = text

@@ -7,6 +7,8 @@ ghost use Rattle.version_sets.specs.Form.{between, ends_early, form_bytes, numbe
 pub(crate) mod intervals;
 mod whole;
 
+use crate::form::whole::first_number;
+
 /// A set as bytes: the number of its order, how many ends it has, where each is over among the bytes of all, and these.
 /// Any bytes that are long enough are read so, and no call reads past them.
 #[derive(Clone, Copy)]
@@ -34,12 +36,10 @@ impl<'a> Form<'a> {
         ensures read { IfSome result (λ set. bytes.now
             ≡ set.0 ∷ (number set.1.count ++ (set.1.numbers.now ++ set.1.ends.now))) }
     {
-        let (order, rest) = bytes.split_first()?;
-        let (count, rest) = rest.split_first_chunk::<8>()?;
-        let count = u64::from_le_bytes(*count) as usize;
+        let (order, count, rest) = head(bytes)?;
         let (numbers, ends) = rest.split_at_checked(count.checked_mul(8)?)?;
         Some((
-            *order,
+            order,
             Form {
                 count,
                 numbers,
@@ -49,6 +49,7 @@ impl<'a> Form<'a> {
     }
 
     /// Returns how many ends it has.
+    #[tactic(auto, using(crate::proofs::lemmas::Form::ends_count))]
     pub fn count(&self) -> usize
         ensures { result ≡ length (ends_of self.now) }
     {
@@ -81,6 +82,7 @@ impl<'a> Form<'a> {
     }
 
     /// Returns the end at a place, or None where it has fewer.
+    #[tactic(auto, using(crate::proofs::lemmas::Form::between_is))]
     pub fn end(&self, place: usize) -> Option<&'a [u8]>
         ensures some { IfSome result
             (λ end. drop place (ends_of self.now) ≡ end.now ∷ drop (place + 1) (ends_of self.now)) }
@@ -123,4 +125,16 @@ impl<'a> Form<'a> {
             None => 0,
         }
     }
+}
+
+// Returns the number of an order and how many ends there are, as bytes begin with them, and the rest, or None without.
+#[inline(always)]
+fn head(bytes: &[u8]) -> Option<(u8, usize, &[u8])>
+    ensures some { IfSome result (λ head. bytes.now ≡ head.0 ∷ (number head.1 ++ head.2.now)) }
+    ensures none { IfNone result (length bytes.now < 9) }
+    ensures small { IfSome result (λ head. head.1 < 2 ^ 64) }
+{
+    let (order, rest) = bytes.split_first()?;
+    let (count, rest) = first_number(rest)?;
+    Some((*order, count, rest))
 }

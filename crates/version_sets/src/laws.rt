@@ -50,6 +50,7 @@ fn series()
 {}
 
 // Where a set has not a key, each of its alternatives has a member that leaves it out.
+#[tactic(auto, using(crate::proofs::lemmas::Excluding::all_out))]
 fn members_out()
     ensures { (key : List ℕ) (all : List (List Member)) → set_has all key ≡ false
         → length (leave_out key all) ≡ length all }

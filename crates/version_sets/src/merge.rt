@@ -57,6 +57,7 @@ impl<'a> Side<'a> {
     }
 
     // Stands at a place in a set, and has what lies before its end there or not.
+    #[tactic(auto, using(crate::proofs::lemmas::Form::ends_count))]
     fn at(set: Form<'a>, place: usize, has: bool) -> Side<'a>
         ensures set { result.set ≡ set.entry }
         ensures left { side_left result ≡ drop place (ends_of set.entry) }
@@ -76,6 +77,7 @@ impl<'a> Side<'a> {
     }
 
     // The next end, or None if none is left.
+    #[tactic(auto, using(crate::proofs::lemmas::Form::ends_count))]
     fn end(&self) -> Option<&'a [u8]>
         ensures some { IfSome result (λ end. side_left self.now ≡ end.now ∷ passed self.now) }
         ensures none { IfNone result (side_left self.now ≡ []) }
@@ -144,13 +146,11 @@ impl<'a> Merge<'a> {
     pub fn is_empty(mut self) -> bool
         ensures { result ≡ (length (left self.entry) == 0) }
     {
-        match self.next() {
-            Some(_) => false,
-            None => true,
-        }
+        self.next().is_none()
     }
 
     // Returns how many bytes the places of all ends of both have.
+    #[tactic(auto, using(crate::proofs::lemmas::Form::ends_count))]
     pub(crate) fn most_numbers(&self) -> usize
         ensures { result ≡ 8 * both_ends self.now }
     {

@@ -19,7 +19,6 @@ fn one_next()
 {}
 
 /// At most one pre-release comes next after another version.
-#[tactic(auto, using(crate::proofs::lemmas::NextPre::Order::one_next_pre))]
 fn one_next_pre()
     ensures { (v w u : PlainVersioning) (word : Option (List ℕ)) → IsNextPre v word w
         → IsNextPre v word u → w ≡ u }

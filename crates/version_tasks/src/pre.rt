@@ -1,12 +1,12 @@
 //! The pre-release that comes next after a strict version. Nothing here allocates.
 
-ghost use Rattle.std.specs.Prelude.{◌≡◌, ◌≤◌, ◌<◌, ◌^◌, ◌∷◌, ◌++◌, ◌⊎◌, [], ℕ, List, suc, not, true, false, IfNone, IfSome, MatchOption, Some};
+ghost use Rattle.std.specs.Prelude.{◌≡◌, ◌≤◌, ◌<◌, ◌^◌, ◌∷◌, ◌++◌, ◌⊎◌, [], ℕ, List, suc, not, true, false, IfNone, IfSome, Some};
 ghost use Rattle.std.specs.List.{list_all};
 ghost use Rattle.std.specs.Option.{option_map};
 ghost use Rattle.std.specs.declared.cmp.Ordering.TheVariants.{Less};
 ghost use Rattle.version_order.specs.texts.Bytes.{dot, is_identifier_byte};
 ghost use Rattle.version_rules.specs.grammar.Chunk.{Numeric, PlainChunk};
-ghost use Rattle.version_order.specs.texts.Front.{begins, is_run};
+ghost use Rattle.version_order.specs.texts.Front.{is_run};
 ghost use Rattle.version_rules.specs.grammar.Versioning.{is_prerelease, versioning_of, versioning_text};
 ghost use Rattle.version_rules.specs.order.Parts.{release_cmp};
 ghost use Rattle.version_tasks.specs.NextPre.{AreNamed, IsNextPre, NoNextPre, plain_next_pre};
@@ -23,7 +23,7 @@ use crate::next::successor;
 use crate::stability::pre_release_text;
 use std::cmp::Ordering;
 pub use text::NextPre;
-use version_order::{Class, is_digits, split_piece, split_run};
+use version_order::{Class, after_byte, is_digits, split_piece, split_run};
 use version_rules::Kind;
 use version_texts::{VersioningRef, compare_releases, numeral_value, spells_numeral};
 
@@ -180,18 +180,7 @@ fn after_word<'a>(word: &[u8], text: &'a [u8]) -> Option<&'a [u8]>
     if word.is_empty() {
         return Some(text);
     }
-    after_dot(text.strip_prefix(word)?)
-}
-
-// What follows the dot that a text begins with.
-fn after_dot(text: &[u8]) -> Option<&[u8]>
-    ensures { MatchOption result (begins is_dot text.now ≡ false)
-        (λ rest. text.now ≡ dot ∷ rest.now) }
-{
-    match text.split_first() {
-        Some((first, rest)) if *first == b'.' => Some(rest),
-        _ => None,
-    }
+    after_byte(b'.', text.strip_prefix(word)?)
 }
 
 // Whether a text is the chunks of a release, joined by dots.

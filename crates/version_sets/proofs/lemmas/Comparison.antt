@@ -1,7 +1,5 @@
--- What stands before `.*`, and the ends of comparisons.
-use Rattle.std.proofs.Common.{◌≡◌, ◌∙◌, ◌<◌, ◌==◌, ◌⊎◌, ℕ, Bor, true, false, List, [], ◌∷◌, ◌++◌, Option, Some, None, ap, arith, inl, inr, refl, sym}
-use Rattle.std.proofs.lemmas.Bool.{cases_Bool, eqb-true}
-use Rattle.std.specs.Option.{MatchOption, option_map}
+-- The ends of a comparison rise.
+use Rattle.std.proofs.Common.{◌≡◌, ◌∙◌, ◌<◌, ℕ, true, List, [], ◌∷◌, ◌++◌, ap, arith, refl}
 use Rattle.std.specs.Cmp.{nat_cmp_total, ranks, tied_itself}
 use Rattle.std.specs.List.Sorted.{IsStrictlySortedBy}
 use Rattle.std.specs.Ordering.{MatchOrdering, nat_cmp}
@@ -10,69 +8,11 @@ use Rattle.std.specs.declared.cmp.Ordering.TheVariants.{Less, Equal, Greater}
 use Rattle.version_order.specs.declared.ends.Kept.{Kept}
 use Rattle.version_order.specs.keys.Lists.{bytes_cmp}
 use Rattle.version_order.specs.Keyed.{after, BeginsKey, PlainKeyed}
-use Rattle.version_sets.specs.Comparison.{asks_parts, before_star, ends_with, is_star}
+use Rattle.version_sets.specs.Comparison.{asks_parts, ends_with}
 use Rattle.version_sets.specs.Form.{Rise}
 use Rattle.version_sets.specs.declared.read.comparison.Comparison.{Comparison}
 use Rattle.version_order.specs.declared.ends.Kept.TheVariants as kept
 use Rattle.version_sets.specs.declared.read.comparison.Comparison.TheVariants as comparison
-
--- ---- before a star
-
-longer : (b : ℕ) (front : List ℕ) → is_star (b ∷ (front ++ 46 ∷ 42 ∷ [])) ≡ false
-longer b [] = refl
-longer b (c ∷ []) = refl
-longer b (c ∷ d ∷ front) = refl
-
-pub star_found : (front : List ℕ) → before_star (front ++ 46 ∷ 42 ∷ []) ≡ Some front
-star_found [] = refl
-star_found (b ∷ front) =
-    rw (longer b front) (ap (option_map (λ (l : List ℕ). b ∷ l)) (star_found front))
-
-is_both : (text : List ℕ) → is_star text ≡ true → text ≡ 46 ∷ 42 ∷ []
-is_both [] e = cc e
-is_both (a ∷ []) e = cc e
-is_both (a ∷ b ∷ []) e = by (cases_Bool (a == 46)) (cases_Bool (b == 42))
-  where
-    by : ((a == 46) ≡ true) ⊎ ((a == 46) ≡ false) → ((b == 42) ≡ true) ⊎ ((b == 42) ≡ false)
-        → a ∷ b ∷ [] ≡ 46 ∷ 42 ∷ []
-    by (inl dot) (inl star) = λ i. eqb-true a 46 dot i ∷ eqb-true b 42 star i ∷ []
-    by (inl dot) (inr other) = cc (rw (dot, other) at e)
-    by (inr other) star = cc (rw other at e)
-is_both (a ∷ b ∷ c ∷ text) e = cc e
-
-pub star_is : (text front : List ℕ) → before_star text ≡ Some front → text ≡ front ++ 46 ∷ 42 ∷ []
-star_is [] front e = cc e
-star_is (b ∷ text) front e = by (cases_Bool (is_star (b ∷ text))) (star_is text)
-  where
-    further : (before : Option (List ℕ)) → before_star text ≡ before
-        → ((front : List ℕ) → before_star text ≡ Some front → text ≡ front ++ 46 ∷ 42 ∷ [])
-        → option_map (λ (l : List ℕ). b ∷ l) before ≡ Some front → b ∷ text ≡ front ++ 46 ∷ 42 ∷ []
-    further None is step e = cc e
-    further (Some before) is step e =
-        let same : b ∷ before ≡ front = cc e in
-        ap (λ (l : List ℕ). b ∷ l) (step before is)
-        ∙ ap (λ (l : List ℕ). l ++ 46 ∷ 42 ∷ []) same
-
-    by : (is_star (b ∷ text) ≡ true) ⊎ (is_star (b ∷ text) ≡ false)
-        → ((front : List ℕ) → before_star text ≡ Some front → text ≡ front ++ 46 ∷ 42 ∷ [])
-        → b ∷ text ≡ front ++ 46 ∷ 42 ∷ []
-    by (inl star) step =
-        let same : [] ≡ front = cc (rw star at e) in
-        is_both (b ∷ text) star ∙ ap (λ (l : List ℕ). l ++ 46 ∷ 42 ∷ []) same
-    by (inr other) step = further (before_star text) refl step (rw other at e)
-
-pub star_cut : (text : List ℕ) (cut : Option (Bor (List ℕ)))
-    → MatchOption cut ((front : List ℕ) → ¬ (text ≡ front ++ 46 ∷ 42 ∷ []))
-    (λ front. text ≡ front.now ++ 46 ∷ 42 ∷ [])
-    → option_map (λ front. front.now) cut ≡ before_star text
-star_cut text None none = by (before_star text) refl
-  where
-    by : (before : Option (List ℕ)) → before_star text ≡ before → None ≡ before
-    by None e = refl
-    by (Some front) e = absurd (none front (star_is text front e))
-star_cut text (Some front) whole = sym (ap before_star whole ∙ star_found front.now)
-
--- ---- the ends of a comparison rise
 
 begins_less : (bytes : List ℕ) (b : ℕ) (more : List ℕ) → bytes_cmp bytes (bytes ++ b ∷ more) ≡ Less
 begins_less [] b more = refl

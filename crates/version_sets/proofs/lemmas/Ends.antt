@@ -1,5 +1,5 @@
 -- Sets of keys by their ends: two that hold the same keys have the same ends; all else; a merge.
-use Rattle.std.proofs.Common.{arith, ◌<◌, zero, suc, ◌+◌, ◌%◌, drop, lit<, subst, ◌==◌, ◌≡◌, ◌∙◌, ◌⊎◌, inl, inr, ℕ, Bool, true, false, not, List, [], ◌∷◌, length, if◌then◌else◌, ap, refl, sym}
+use Rattle.std.proofs.Common.{arith, ◌<◌, ◌≤◌, zero, suc, ◌+◌, ◌%◌, drop, lit<, subst, ◌==◌, ◌≡◌, ◌∙◌, ◌⊎◌, inl, inr, ℕ, Bool, true, false, not, List, [], ◌∷◌, length, if◌then◌else◌, ap, refl, sym}
 use Rattle.std.proofs.lemmas.Cmp.{nat_list_cmp_total}
 use Rattle.std.proofs.Math.Nat.{mod-lt, suc-mod}
 use Rattle.std.proofs.lemmas.Bool.{eqb-true}
@@ -55,6 +55,11 @@ less_or_not : (o : Ordering) → (o ≡ Less) ⊎ ¬ (o ≡ Less)
 less_or_not Less = inl refl
 less_or_not Equal = inr (λ e. cc e)
 less_or_not Greater = inr (λ e. cc e)
+
+pub lt_less : (o : Ordering) → is_lt o ≡ true → o ≡ Less
+lt_less Less e = refl
+lt_less Equal e = cc e
+lt_less Greater e = cc e
 
 turned : (a b : List ℕ) → bytes_cmp a b ≡ Greater → bytes_cmp b a ≡ Less
 turned a b greater = total.antisymm b a ∙ ap ordering_reverse greater
@@ -143,31 +148,6 @@ kept_above true false low end ends less all = (less, all)
 kept_above false true low end ends less all = (less, all)
 kept_above false false low end ends less all = all
 
-merged_above : (rule : Bool → Bool → Bool) (a b : Bool) (one other : List (List ℕ))
-    (low : List ℕ) → Above low one → Above low other → Above low (merged rule a b one other)
-merged_above rule a b [] [] low over over_too = tt
-merged_above rule a b (x ∷ one) [] low over over_too =
-    kept_above (rule a b) (rule (not a) b) low x (merged rule (not a) b one []) over.0
-    (merged_above rule (not a) b one [] low over.1 tt)
-merged_above rule a b [] (y ∷ other) low over over_too =
-    kept_above (rule a b) (rule a (not b)) low y (merged rule a (not b) [] other) over_too.0
-    (merged_above rule a (not b) [] other low tt over_too.1)
-merged_above rule a b (x ∷ one) (y ∷ other) low over over_too = by (bytes_cmp x y) refl
-    (merged_above rule (not a) b one (y ∷ other) low over.1 over_too)
-    (merged_above rule a (not b) (x ∷ one) other low over over_too.1)
-    (merged_above rule (not a) (not b) one other low over.1 over_too.1)
-  where
-    by : (o : Ordering) → bytes_cmp x y ≡ o → Above low (merged rule (not a) b one (y ∷ other))
-        → Above low (merged rule a (not b) (x ∷ one) other)
-        → Above low (merged rule (not a) (not b) one other)
-        → Above low (merged rule a b (x ∷ one) (y ∷ other))
-    by Less e before_y before_x both = rw e (kept_above (rule a b) (rule (not a) b) low x
-        (merged rule (not a) b one (y ∷ other)) over.0 before_y)
-    by Greater e before_y before_x both = rw e (kept_above (rule a b) (rule a (not b)) low y
-        (merged rule a (not b) (x ∷ one) other) over_too.0 before_x)
-    by Equal e before_y before_x both = rw e (kept_above (rule a b) (rule (not a) (not b)) low x
-        (merged rule (not a) (not b) one other) over.0 both)
-
 flip_none : (a : Bool) (ends : List (List ℕ)) (key : List ℕ) → Above key ends
     → flip a (has ends key) ≡ a
 flip_none a ends key over = ap (flip a) (before ends key over) ∙ by a
@@ -187,108 +167,6 @@ flip_past a end ends key from = ap (flip a) (from_there key end ends from) ∙ b
     by false true = refl
     by false false = refl
 
-step : (rule : Bool → Bool → Bool) (a b a_after b_after : Bool) (end : List ℕ)
-    → (rest one other one_after other_after : List (List ℕ)) (key : List ℕ)
-    → (bytes_cmp key end ≡ Less → Above key one × Above key other × Above key rest)
-    → (¬ (bytes_cmp key end ≡ Less)
-    → (flip a (has one key) ≡ flip a_after (has one_after key))
-    × (flip b (has other key) ≡ flip b_after (has other_after key)))
-    → flip (rule a_after b_after) (has rest key)
-    ≡ rule (flip a_after (has one_after key)) (flip b_after (has other_after key))
-    → flip (rule a b) (has (kept (rule a b) (rule a_after b_after) end rest) key)
-    ≡ rule (flip a (has one key)) (flip b (has other key))
-step rule a b a_after b_after end rest one other one_after other_after key below past deeper =
-    by (less_or_not (bytes_cmp key end))
-  where
-    by : (bytes_cmp key end ≡ Less) ⊎ ¬ (bytes_cmp key end ≡ Less)
-        → flip (rule a b) (has (kept (rule a b) (rule a_after b_after) end rest) key)
-        ≡ rule (flip a (has one key)) (flip b (has other key))
-    by (inl less) =
-        let over = below less in
-        flip_none (rule a b) (kept (rule a b) (rule a_after b_after) end rest) key
-        (kept_above (rule a b) (rule a_after b_after) key end rest less over.2)
-        ∙ sym (ap (λ side. rule side (flip b (has other key))) (flip_none a one key over.0)
-        ∙ ap (rule a) (flip_none b other key over.1))
-    by (inr from) =
-        let sides = past from in
-        kept_has (rule a b) (rule a_after b_after) end rest key from ∙ deeper
-        ∙ sym (ap (λ side. rule side (flip b (has other key))) sides.0
-        ∙ ap (rule (flip a_after (has one_after key))) sides.1)
-
-pub merged_has : (rule : Bool → Bool → Bool) (a b : Bool) (one other : List (List ℕ))
-    → Rise one → Rise other → (key : List ℕ)
-    → flip (rule a b) (has (merged rule a b one other) key)
-    ≡ rule (flip a (has one key)) (flip b (has other key))
-unfolding IsStrictlySortedBy
-merged_has rule a b [] [] rise rise_too key = none
-  where
-    none : flip (rule a b) false ≡ rule (flip a false) (flip b false)
-    none = flip_none (rule a b) [] key tt
-        ∙ sym (ap (λ side. rule side (flip b false)) (flip_none a [] key tt)
-        ∙ ap (rule a) (flip_none b [] key tt))
-merged_has rule a b (x ∷ one) [] rise rise_too key =
-    step rule a b (not a) b x (merged rule (not a) b one []) (x ∷ one) [] one [] key
-    (λ less.
-    let over = below_all key x one less rise.0 in
-    ((less, over), tt, merged_above rule (not a) b one [] key over tt))
-    (λ from. (flip_past a x one key from, refl))
-    (merged_has rule (not a) b one [] rise.1 tt key)
-merged_has rule a b [] (y ∷ other) rise rise_too key =
-    step rule a b a (not b) y (merged rule a (not b) [] other) [] (y ∷ other) [] other key
-    (λ less.
-    let over = below_all key y other less rise_too.0 in
-    (tt, (less, over), merged_above rule a (not b) [] other key tt over))
-    (λ from. (refl, flip_past b y other key from))
-    (merged_has rule a (not b) [] other tt rise_too.1 key)
-merged_has rule a b (x ∷ one) (y ∷ other) rise rise_too key =
-    by (bytes_cmp x y) refl
-    (merged_has rule (not a) b one (y ∷ other) rise.1 rise_too key)
-    (merged_has rule a (not b) (x ∷ one) other rise rise_too.1 key)
-    (merged_has rule (not a) (not b) one other rise.1 rise_too.1 key)
-  where
-    by : (o : Ordering) → bytes_cmp x y ≡ o
-        → flip (rule (not a) b) (has (merged rule (not a) b one (y ∷ other)) key)
-        ≡ rule (flip (not a) (has one key)) (flip b (has (y ∷ other) key))
-        → flip (rule a (not b)) (has (merged rule a (not b) (x ∷ one) other) key)
-        ≡ rule (flip a (has (x ∷ one) key)) (flip (not b) (has other key))
-        → flip (rule (not a) (not b)) (has (merged rule (not a) (not b) one other) key)
-        ≡ rule (flip (not a) (has one key)) (flip (not b) (has other key))
-        → flip (rule a b) (has (merged rule a b (x ∷ one) (y ∷ other)) key)
-        ≡ rule (flip a (has (x ∷ one) key)) (flip b (has (y ∷ other) key))
-    by Less e before_y before_x both = rw e (step rule a b (not a) b x
-        (merged rule (not a) b one (y ∷ other)) (x ∷ one) (y ∷ other) one (y ∷ other) key
-        (λ less.
-        let over = below_all key x one less rise.0 in
-        let less_too = total.trans key x y less e in
-        let over_too : Above key (y ∷ other) = (less_too, below_all key y other less_too rise_too.0) in
-        ((less, over), over_too, merged_above rule (not a) b one (y ∷ other) key over over_too))
-        (λ from. (flip_past a x one key from, refl)) before_y)
-    by Greater e before_y before_x both = rw e (step rule a b a (not b) y
-        (merged rule a (not b) (x ∷ one) other) (x ∷ one) (y ∷ other) (x ∷ one) other key
-        (λ less.
-        let over_too = below_all key y other less rise_too.0 in
-        let less_too = total.trans key y x less (turned x y e) in
-        let over : Above key (x ∷ one) = (less_too, below_all key x one less_too rise.0) in
-        (over, (less, over_too), merged_above rule a (not b) (x ∷ one) other key over over_too))
-        (λ from. (refl, flip_past b y other key from)) before_x)
-    by Equal e before_y before_x both =
-        let is = bytes_same x y e in
-        rw e (step rule a b (not a) (not b) x
-        (merged rule (not a) (not b) one other) (x ∷ one) (y ∷ other) one other key
-        (λ less.
-        let less_too : bytes_cmp key y ≡ Less = ap (bytes_cmp key) (sym is) ∙ less in
-        let over = below_all key x one less rise.0 in
-        let over_too = below_all key y other less_too rise_too.0 in (
-          (less, over),
-          (less_too, over_too),
-          merged_above rule (not a) (not b) one other key over over_too,
-        ))
-        (λ from. (
-          flip_past a x one key from,
-          flip_past b y other key (λ less. from (ap (bytes_cmp key) is ∙ less)),
-        )) both)
-
--- a merge rises
 kept_rise : (now after : Bool) (end : List ℕ) (ends : List (List ℕ)) → Above end ends → Rise ends
     → Rise (kept now after end ends)
 unfolding IsStrictlySortedBy
@@ -297,42 +175,134 @@ kept_rise true false end ends over rise = (over, rise)
 kept_rise false true end ends over rise = (over, rise)
 kept_rise false false end ends over rise = rise
 
-pub merged_rise : (rule : Bool → Bool → Bool) (a b : Bool) (one other : List (List ℕ))
-    → Rise one → Rise other → Rise (merged rule a b one other)
+-- what is counted of each end
+abbrev pub counted : (List ℕ → ℕ) → List (List ℕ) → ℕ
+counted of [] = 0
+counted of (end ∷ ends) = of end + counted of ends
+
+kept_total : (of : List ℕ → ℕ) (now after : Bool) (end : List ℕ) (ends : List (List ℕ))
+    → counted of (kept now after end ends) ≤ of end + counted of ends
+kept_total of true true end ends = omega arith
+kept_total of true false end ends = omega arith
+kept_total of false true end ends = omega arith
+kept_total of false false end ends = omega arith
+
+-- The ends of a side that are left behind an end, which was the first of them, or is below all.
+record Side (end : List ℕ) (a : Bool) (ends : List (List ℕ)) (a_after : Bool) (left : List (List ℕ)) : Type 0 where
+  above : (low : List ℕ) → Above low ends → Above low left
+  over : Above end left
+  below : (key : List ℕ) → bytes_cmp key end ≡ Less → Above key ends
+  past : (key : List ℕ) → ¬ (bytes_cmp key end ≡ Less) → flip a (has ends key) ≡ flip a_after (has left key)
+  rise : Rise left
+
+passed : (a : Bool) (end : List ℕ) (ends : List (List ℕ)) → Rise (end ∷ ends) → Side end a (end ∷ ends) (not a) ends
 unfolding IsStrictlySortedBy
-merged_rise rule a b [] [] rise rise_too = tt
-merged_rise rule a b (x ∷ one) [] rise rise_too =
-    kept_rise (rule a b) (rule (not a) b) x (merged rule (not a) b one [])
-    (merged_above rule (not a) b one [] x rise.0 tt)
-    (merged_rise rule (not a) b one [] rise.1 tt)
-merged_rise rule a b [] (y ∷ other) rise rise_too =
-    kept_rise (rule a b) (rule a (not b)) y (merged rule a (not b) [] other)
-    (merged_above rule a (not b) [] other y tt rise_too.0)
-    (merged_rise rule a (not b) [] other tt rise_too.1)
-merged_rise rule a b (x ∷ one) (y ∷ other) rise rise_too = by (bytes_cmp x y) refl
-    (merged_rise rule (not a) b one (y ∷ other) rise.1 rise_too)
-    (merged_rise rule a (not b) (x ∷ one) other rise rise_too.1)
-    (merged_rise rule (not a) (not b) one other rise.1 rise_too.1)
+passed a end ends rise = record {
+  above = λ low all. all.1;
+  over = rise.0;
+  below = λ key less. (less, below_all key end ends less rise.0);
+  past = λ key from. flip_past a end ends key from;
+  rise = rise.1;
+}
+
+stays : (a : Bool) (end : List ℕ) (ends : List (List ℕ)) → Rise ends → Above end ends → Side end a ends a ends
+stays a end ends rise over = record {
+  above = λ low all. all;
+  over = over;
+  below = λ key less. below_all key end ends less over;
+  past = λ key from. refl;
+  rise = rise;
+}
+
+-- what is made of ends that rise, by what is before them
+pub record AreKeys (rule : Bool → Bool → Bool) (a b : Bool) (one other new : List (List ℕ)) : Type 0 where
+  pub above : (low : List ℕ) → Above low one → Above low other → Above low new
+  pub rise : Rise new
+  pub are : (key : List ℕ) → flip (rule a b) (has new key) ≡ rule (flip a (has one key)) (flip b (has other key))
+
+-- what is made of any ends: no more than both have
+pub record IsMade (rule : Bool → Bool → Bool) (a b : Bool) (one other new : List (List ℕ)) : Type 0 where
+  pub size : (of : List ℕ → ℕ) → counted of new ≤ counted of one + counted of other
+  pub keys : Rise one → Rise other → AreKeys rule a b one other new
+
+next : (rule : Bool → Bool → Bool) (a b a_after b_after : Bool) (end : List ℕ)
+    (one other one_left other_left rest : List (List ℕ))
+    → ((of : List ℕ → ℕ) → of end + counted of one_left + counted of other_left ≤ counted of one + counted of other)
+    → (Rise one → Rise other → Side end a one a_after one_left × Side end b other b_after other_left
+    × ((low : List ℕ) → Above low one → Above low other → bytes_cmp low end ≡ Less))
+    → IsMade rule a_after b_after one_left other_left rest
+    → IsMade rule a b one other (kept (rule a b) (rule a_after b_after) end rest)
+next rule a b a_after b_after end one other one_left other_left rest fewer sides more = record {
+  size = λ of. omega (arith, fewer of, kept_total of (rule a b) (rule a_after b_after) end rest, more.size of);
+  keys = λ rise rise_too.
+      let side = sides rise rise_too in
+      let left = more.keys side.0.rise side.1.rise in
+      let over : (low : List ℕ) → Above low one → Above low other → Above low rest =
+      λ low over over_too. left.above low (side.0.above low over) (side.1.above low over_too) in
+      record {
+        above = λ low all all_too.
+            kept_above (rule a b) (rule a_after b_after) low end rest (side.2 low all all_too) (over low all all_too);
+        rise = kept_rise (rule a b) (rule a_after b_after) end rest (left.above end side.0.over side.1.over) left.rise;
+        are = λ key. elim (less_or_not (bytes_cmp key end)) [
+          | inl less ↦
+              let all = side.0.below key less in
+              let all_too = side.1.below key less in
+              flip_none (rule a b) (kept (rule a b) (rule a_after b_after) end rest) key
+              (kept_above (rule a b) (rule a_after b_after) key end rest less (over key all all_too))
+              ∙ sym (λ i. rule (flip_none a one key all i) (flip_none b other key all_too i))
+          | inr from ↦
+              kept_has (rule a b) (rule a_after b_after) end rest key from ∙ left.are key
+              ∙ sym (λ i. rule (side.0.past key from i) (side.1.past key from i))
+        ];
+      };
+}
+
+pub is_made : (rule : Bool → Bool → Bool) (a b : Bool) (one other : List (List ℕ))
+    → IsMade rule a b one other (merged rule a b one other)
+unfolding IsStrictlySortedBy
+is_made rule a b [] [] = record {
+  size = λ of. omega arith;
+  keys = λ rise rise_too. record {
+    above = λ low over over_too. tt;
+    rise = tt;
+    are = λ key. flip_none (rule a b) [] key tt ∙ sym (λ i. rule (flip_none a [] key tt i) (flip_none b [] key tt i));
+  };
+}
+is_made rule a b (x ∷ one) [] =
+    next rule a b (not a) b x (x ∷ one) [] one [] (merged rule (not a) b one []) (λ of. omega arith)
+    (λ rise rise_too. (passed a x one rise, stays b x [] tt tt, λ low over over_too. over.0))
+    (is_made rule (not a) b one [])
+is_made rule a b [] (y ∷ other) =
+    next rule a b a (not b) y [] (y ∷ other) [] other (merged rule a (not b) [] other) (λ of. omega arith)
+    (λ rise rise_too. (stays a y [] tt tt, passed b y other rise_too, λ low over over_too. over_too.0))
+    (is_made rule a (not b) [] other)
+is_made rule a b (x ∷ one) (y ∷ other) = by (bytes_cmp x y) refl (is_made rule (not a) b one (y ∷ other))
+    (is_made rule a (not b) (x ∷ one) other) (is_made rule (not a) (not b) one other)
   where
-    by : (o : Ordering) → bytes_cmp x y ≡ o → Rise (merged rule (not a) b one (y ∷ other))
-        → Rise (merged rule a (not b) (x ∷ one) other)
-        → Rise (merged rule (not a) (not b) one other)
-        → Rise (merged rule a b (x ∷ one) (y ∷ other))
-    by Less e before_y before_x both = rw e (kept_rise (rule a b) (rule (not a) b) x
-        (merged rule (not a) b one (y ∷ other))
-        (merged_above rule (not a) b one (y ∷ other) x rise.0
-        (e, below_all x y other e rise_too.0)) before_y)
-    by Greater e before_y before_x both =
-        let less = turned x y e in
-        rw e (kept_rise (rule a b) (rule a (not b)) y (merged rule a (not b) (x ∷ one) other)
-        (merged_above rule a (not b) (x ∷ one) other y (less, below_all y x one less rise.0)
-        rise_too.0) before_x)
+    by : (o : Ordering) → bytes_cmp x y ≡ o
+        → IsMade rule (not a) b one (y ∷ other) (merged rule (not a) b one (y ∷ other))
+        → IsMade rule a (not b) (x ∷ one) other (merged rule a (not b) (x ∷ one) other)
+        → IsMade rule (not a) (not b) one other (merged rule (not a) (not b) one other)
+        → IsMade rule a b (x ∷ one) (y ∷ other) (merged rule a b (x ∷ one) (y ∷ other))
+    by Less e before_y before_x both = rw e (next rule a b (not a) b x (x ∷ one) (y ∷ other) one (y ∷ other) _
+        (λ of. omega arith) (λ rise rise_too. (
+          passed a x one rise,
+          stays b x (y ∷ other) rise_too (e, below_all x y other e rise_too.0),
+          λ low over over_too. over.0,
+        )) before_y)
+    by Greater e before_y before_x both = rw e (next rule a b a (not b) y (x ∷ one) (y ∷ other) (x ∷ one) other _
+        (λ of. omega arith) (λ rise rise_too. (
+          stays a y (x ∷ one) rise (turned x y e, below_all y x one (turned x y e) rise.0),
+          passed b y other rise_too,
+          λ low over over_too. over_too.0,
+        )) before_x)
     by Equal e before_y before_x both =
-        let is = bytes_same x y e in
-        let over : Above x other = rw is rise_too.0 in
-        rw e (kept_rise (rule a b) (rule (not a) (not b)) x
-        (merged rule (not a) (not b) one other)
-        (merged_above rule (not a) (not b) one other x rise.0 over) both)
+        rw e (next rule a b (not a) (not b) x (x ∷ one) (y ∷ other) one other _
+        (λ of. omega arith) (λ rise rise_too. (
+          passed a x one rise,
+          subst (λ (end : List ℕ). Side end b (y ∷ other) (not b) other) (sym (bytes_same x y e)) (passed b y other rise_too),
+          λ low over over_too. over.0,
+        )) both)
 
 -- ---- what the first end of a merge says
 
@@ -343,7 +313,7 @@ module _ (rule : Bool → Bool → Bool) (neither : rule false false ≡ false) 
       ≡ rule (has one key) (has other key)
   in_both key =
       sym (ap (λ side. flip side (has (merged rule false false one other) key)) neither)
-      ∙ merged_has rule false false one other rise rise_too key
+      ∙ ((is_made rule false false one other).keys rise rise_too).are key
 
   -- without ends the new set has no key
   pub none_in : (length (merged rule false false one other) == 0) ≡ true → (key : List ℕ)
@@ -355,7 +325,7 @@ module _ (rule : Bool → Bool → Bool) (neither : rule false false ≡ false) 
   pub some_in : (length (merged rule false false one other) == 0) ≡ false
       → (key : List ℕ) × (rule (has one key) (has other key) ≡ true)
   some_in some = by (merged rule false false one other) refl
-      (merged_rise rule false false one other rise rise_too) some
+      ((is_made rule false false one other).keys rise rise_too).rise some
     where
       by : (ends : List (List ℕ)) → merged rule false false one other ≡ ends
           → Rise (merged rule false false one other) → (length ends == 0) ≡ false
@@ -368,7 +338,7 @@ module _ (rule : Bool → Bool → Bool) (neither : rule false false ≡ false) 
 pub are_merged : (rule : Bool → Bool → Bool) → rule false false ≡ false → (one other : List (List ℕ))
     → Rise one → Rise other → AreMerged rule one other (merged rule false false one other)
 are_merged rule neither one other rise rise_too = record {
-  rise = merged_rise rule false false one other rise rise_too;
+  rise = ((is_made rule false false one other).keys rise rise_too).rise;
   are = in_both rule neither one other rise rise_too;
 }
 

@@ -1,5 +1,6 @@
 -- Alternatives that leave a key out: what a reading says of the members behind a piece.
-use Rattle.std.proofs.Common.{◌≡◌, ◌∙◌, ◌≤◌, ◌+◌, ◌<◌, ◌||◌, ◌&&◌, ℕ, suc, Bool, true, false, not, List, [], ◌∷◌, length, Option, Some, None, IfSome, ap, arith, refl, subst, sym}
+use Rattle.std.proofs.Common.{◌≡◌, ◌∙◌, ◌≤◌, ◌+◌, ◌<◌, ◌&&◌, ℕ, suc, Bool, true, false, List, [], ◌∷◌, length, Option, Some, None, IfSome, ap, arith, refl, subst, sym}
+use Rattle.std.proofs.lemmas.Bool.{or_parts}
 use Rattle.std.specs.List.{list_all}
 use Rattle.std.specs.Option.{is_some}
 use Rattle.version_order.specs.declared.facts.Operators.{Operators}
@@ -7,11 +8,13 @@ use Rattle.version_order.specs.Keyed.{PlainKeyed}
 use Rattle.version_sets.specs.Comparison.{ends_with}
 use Rattle.version_sets.specs.Form.{has}
 use Rattle.version_sets.specs.Excluding.{AreLeft, EndsAt, StandsBefore, first_out, found_or, leave_out, left_read, room_left, span_of, steps_left, with_found}
-use Rattle.version_sets.specs.Pieces.{pieces}
-use Rattle.version_sets.specs.Reading.{Asked, Member, Not, Reading, Right, With, Wrong, answered, pieces_room, set_has, with_member}
+use Rattle.version_sets.specs.Pieces.{PlainPiece, pieces}
+use Rattle.version_sets.specs.Reading.{Asked, Member, Not, Reading, Right, With, Wrong, after_step, answered, pieces_room, read_pieces, set_has, with_member}
+use Rattle.version_sets.specs.Steps.{PlainStep, step}
 use Rattle.version_sets.specs.declared.read.comparison.Comparison.{Comparison}
 use Rattle.version_sets.specs.declared.read.excluding.Span.{Span}
 use Rattle.version_sets.specs.declared.read.pieces.Pieces.{Pieces}
+use Rattle.version_sets.specs.declared.read.steps.State.{State}
 use Rattle.version_sets.specs.declared.read.steps.State.TheVariants.{Wanted}
 
 -- a reading is one with a member more
@@ -42,6 +45,17 @@ is_asked read_as words start place end (Not reason) rest first others e = cc e
 is_asked read_as words start place end (With c version) rest first others e =
     record { comparison = c; version = version; is = refl; has_more = one_more _ rest first others e }
 
+-- what the pieces behind a piece are read as, by what it does
+pub behind_step : (read_as : List ℕ → Option PlainKeyed) (words : Operators) (state : State) (here next : Pieces)
+    (place : ℕ) (piece : PlainPiece) (told : PlainStep) (first : List Member) (others : List (List Member))
+    → pieces here.place here.left.now ≡ (place, piece) ∷ pieces next.place next.left.now
+    → next.place + length next.left.now ≡ here.place + length here.left.now → told ≡ step state place piece
+    → left_read read_as words state here ≡ Right first others
+    → after_step read_as words (λ state. left_read read_as words state next) told ≡ Right first others
+behind_step read_as words state here next place piece told first others split end is e =
+    (λ i. after_step read_as words (λ state. read_pieces read_as words (end i) state (pieces next.place next.left.now)) (is i))
+    ∙ ap (read_pieces read_as words (here.place + length here.left.now) state) (sym split) ∙ e
+
 -- a member that has a key, and one that has not
 pub passes : (key : List ℕ) (member : Member) (more : List Member) → has member.ends key ≡ true
     → first_out key (member ∷ more) ≡ first_out key more
@@ -55,14 +69,6 @@ stops key member more lacks = rw lacks refl
 pub all_has : (key : List ℕ) → has ([] ∷ []) key ≡ true
 all_has [] = refl
 all_has (b ∷ key) = refl
-
-pub not_true : (b : Bool) → not b ≡ true → b ≡ false
-not_true true e = cc e
-not_true false e = refl
-
-pub not_false : (b : Bool) → not b ≡ false → b ≡ true
-not_false true e = refl
-not_false false e = cc e
 
 -- what is found next is all where nothing was found before, and nothing where something was
 pub none_found : (found next : Option Span) → is_some found ≡ false → found_or found next ≡ next
@@ -122,10 +128,6 @@ fewer (Some after) n less = omega (arith, less)
 
 -- ---- a key that a set has not
 
-neither : (a b : Bool) → (a || b) ≡ false → (a ≡ false) × (b ≡ false)
-neither true b e = cc e
-neither false b e = (refl, e)
-
 -- one of the members of an alternative leaves it out
 one_out : (key : List ℕ) (first : List Member) (more : List Span)
     → list_all (λ member. has member.ends key) first ≡ false
@@ -147,5 +149,5 @@ pub all_out : (key : List ℕ) (all : List (List Member)) → set_has all key �
     → length (leave_out key all) ≡ length all
 all_out key [] e = refl
 all_out key (first ∷ others) e =
-    let none = neither (list_all (λ member. has member.ends key) first) (set_has others key) e in
+    let none = or_parts (list_all (λ member. has member.ends key) first) (set_has others key) e in
     one_out key first (leave_out key others) none.0 ∙ ap suc (all_out key others none.1)

@@ -2,11 +2,12 @@
 use Rattle.std.proofs.Common.{◌⊎◌, ◌||◌, inl, inr, Bool, true, false, if◌then◌else◌, nat_lt, append_assoc, map, ◌≡◌, ◌∙◌, ◌+◌, ◌-◌, ◌*◌, ◌<◌, ◌≤◌, ◌^◌, ℕ, zero, suc, List, [], ◌∷◌, ◌++◌, length, get_or, take, drop, ap, arith, refl, sym}
 use Rattle.std.proofs.Math.Seq.{drop-append-add, get_or-append_seam, take-append_seam, drop-append_seam}
 use Rattle.std.proofs.lemmas.Bool.{le-ltb, lt-ltb}
-use Rattle.std.proofs.lemmas.List.{length-append}
+use Rattle.std.proofs.lemmas.List.{drop_at, length-append, take_at}
+use Rattle.std.proofs.lemmas.List.FromFn.{length-map-range_with_len}
 use Rattle.std.specs.List.{concat, flat_map, range_with_len}
 use Rattle.std.proofs.lemmas.Nat.{from_le_bytes-to_le_bytes_8}
 use Rattle.std.specs.Int.{from_le_bytes, w64}
-use Rattle.version_sets.specs.Form.{between, end_at, ends_in, form_bytes, form_ends, number, over_at, places}
+use Rattle.version_sets.specs.Form.{between, count_told, end_at, ends_in, form_bytes, form_ends, number, over_at, places}
 
 pub number_length : (n : ℕ) → length (number n) ≡ 8
 unfolding number
@@ -130,46 +131,47 @@ form_length order ends =
       length-append row (concat ends),
     )
 
--- What follows the number of the order, given how many ends there are.
-pub record AreRead (rest : List ℕ) (ends : List (List ℕ)) : Type 0 where
-  pub long : 8 + 8 * length ends ≤ length rest
-  pub count_is : take 8 rest ≡ number (length ends)
-  pub numbers_are : take (8 * length ends) (drop 8 rest) ≡ flat_map number (places 0 ends)
-  pub ends_are : drop (8 * length ends) (drop 8 rest) ≡ concat ends
+-- two texts cut alike are the same in both pieces
+pub cut_alike : (a b x y : List ℕ) → length a ≡ length b → a ++ x ≡ b ++ y → (a ≡ b) × (x ≡ y)
+cut_alike a b x y long e = (
+  sym (take-append_seam a x) ∙ (λ i. take (long i) (e i)) ∙ take-append_seam b y,
+  sym (drop-append_seam a x) ∙ (λ i. drop (long i) (e i)) ∙ drop-append_seam b y,
+)
 
-pub are_read : (order first : ℕ) (rest : List ℕ) (ends : List (List ℕ))
-    → first ∷ rest ≡ form_bytes order ends → (first ≡ order) × AreRead rest ends
-unfolding form_bytes number
-are_read order first rest ends is =
-    let row = flat_map number (places 0 ends) in
-    let size = row_size ends in
-    let rest_is : rest ≡ number (length ends) ++ (row ++ concat ends) = cc is in
-    let behind : drop 8 rest ≡ row ++ concat ends =
-    ap (drop 8) rest_is ∙ drop-append_seam (number (length ends)) (row ++ concat ends) in (
-      cc is,
-      record {
-        long = omega (
-          arith,
-          ap length rest_is,
-          size,
-          number_length (length ends),
-          length-append (number (length ends)) (row ++ concat ends),
-          length-append row (concat ends),
-        );
-        count_is = ap (take 8) rest_is ∙ take-append_seam (number (length ends)) (row ++ concat ends);
-        numbers_are = ap (take (8 * length ends)) behind
-            ∙ ap (λ n. take n (row ++ concat ends)) (sym size) ∙ take-append_seam row (concat ends);
-        ends_are = ap (drop (8 * length ends)) behind
-            ∙ ap (λ n. drop n (row ++ concat ends)) (sym size) ∙ drop-append_seam row (concat ends);
-      },
-    )
-
--- the number that eight bytes tell
-pub number_told : (bytes rest : List ℕ) (n : ℕ) → bytes ≡ take 8 rest → take 8 rest ≡ number n
-    → n < 2 ^ 64 → from_le_bytes w64 bytes ≡ n
+-- a number has its own eight bytes
+pub same_number : (n m : ℕ) → number n ≡ number m → n < 2 ^ 64 → m < 2 ^ 64 → n ≡ m
 unfolding number
-number_told bytes rest n is told small =
-    ap (from_le_bytes w64) (is ∙ told) ∙ from_le_bytes-to_le_bytes_8 n small
+same_number n m same small small_too =
+    sym (from_le_bytes-to_le_bytes_8 n small) ∙ ap (from_le_bytes w64) same ∙ from_le_bytes-to_le_bytes_8 m small_too
+
+-- the number behind the first byte
+pub count_is : (bytes : List ℕ) (first count : ℕ) (rest : List ℕ) → bytes ≡ first ∷ (number count ++ rest)
+    → count < 2 ^ 64 → count_told bytes ≡ count
+unfolding number
+count_is bytes first count rest is small =
+    ap count_told is ∙ ap (from_le_bytes w64) (take-append_seam (number count) rest)
+    ∙ from_le_bytes-to_le_bytes_8 count small
+
+-- the pieces of the bytes of a set
+module _ (order first count : ℕ) (ends : List (List ℕ)) (small : count < 2 ^ 64) (few : length ends < 2 ^ 64) where
+  pub count_read : (rest : List ℕ) → first ∷ (number count ++ rest) ≡ form_bytes order ends
+      → (first ≡ order) × (count ≡ length ends) × (rest ≡ flat_map number (places 0 ends) ++ concat ends)
+  unfolding form_bytes
+  count_read rest is =
+      let row = flat_map number (places 0 ends) in
+      let behind : number count ++ rest ≡ number (length ends) ++ (row ++ concat ends) = cc is in
+      let cut = cut_alike (number count) (number (length ends)) rest (row ++ concat ends)
+      (number_length count ∙ sym (number_length (length ends))) behind in
+      (cc is, same_number count (length ends) cut.0 small few, cut.1)
+
+  pub all_read : (numbers bytes : List ℕ) → first ∷ (number count ++ (numbers ++ bytes)) ≡ form_bytes order ends
+      → length numbers ≡ 8 * count
+      → (first ≡ order) × (count ≡ length ends) × (numbers ≡ flat_map number (places 0 ends)) × (bytes ≡ concat ends)
+  all_read numbers bytes is long =
+      let read = count_read (numbers ++ bytes) is in
+      let cut = cut_alike numbers (flat_map number (places 0 ends)) bytes (concat ends)
+      (omega (arith, long, read.1, row_size ends)) read.2 in
+      (read.0, read.1, cut.0, cut.1)
 
 -- all ends, as they are read
 ends_from : (f : ℕ → List ℕ) (front rest : List (List ℕ))
@@ -196,24 +198,21 @@ ends_are ends small =
 -- the bytes of a set hold its ends
 pub holds_ends : (order : ℕ) (ends : List (List ℕ)) → length (form_bytes order ends) < 2 ^ 64
     → form_ends (form_bytes order ends) ≡ ends
-unfolding form_bytes
+unfolding form_bytes number
 holds_ends order ends small =
     let row = flat_map number (places 0 ends) in
-    let rest = number (length ends) ++ (row ++ concat ends) in
-    let read = (are_read order order rest ends refl).1 in
-    let few : length ends < 2 ^ 64 = omega (arith, read.long, small) in
-    let count = number_told (take 8 rest) rest (length ends) refl read.count_is few in
-    let numbers = ap (λ n. take (8 * n) (drop 8 rest)) count ∙ read.numbers_are in
-    let bytes = ap (λ n. drop (8 * n) (drop 8 rest)) count ∙ read.ends_are in
-    let short : length (concat ends) < 2 ^ 64 =
-    omega (
-      arith,
-      small,
-      number_length (length ends),
-      length-append (number (length ends)) (row ++ concat ends),
-      length-append row (concat ends),
-    ) in
-    (λ i. ends_in (count i) (numbers i) (bytes i)) ∙ ends_are ends short
+    let size = form_length order ends in
+    let count = count_is (form_bytes order ends) order (length ends) (row ++ concat ends) refl
+    (omega (arith, size, small)) in
+    let rest = drop-append_seam (order ∷ number (length ends)) (row ++ concat ends) in
+    (λ i. ends_in (count i) (take (8 * count i) (rest i)) (drop (8 * count i) (rest i)))
+    ∙ (λ i. ends_in (length ends) (take_at row (concat ends) (8 * length ends) (row_size ends) i)
+    (drop_at row (concat ends) (8 * length ends) (row_size ends) i))
+    ∙ ends_are ends (omega (arith, size, small))
+
+-- how many ends are read
+pub ends_count : (count : ℕ) (row bytes : List ℕ) → length (ends_in count row bytes) ≡ count
+ends_count count row bytes = length-map-range_with_len (end_at row bytes) 0 count
 
 -- ---- the ends that are left from a place on
 

@@ -1,8 +1,13 @@
 -- The pieces of a text, by what it begins with.
-use Rattle.std.proofs.Common.{◌≡◌, ◌≤◌, ℕ, zero, suc, List, [], ◌∷◌, ap, arith, length, refl, set, ◌∙◌, ◌+◌, ◌==◌, ◌&&◌, ◌⊎◌, Bool, true, false, ◌++◌, inl, inr, sym}
+use Rattle.std.proofs.Common.{◌≡◌, ◌≤◌, ℕ, zero, suc, List, [], ◌∷◌, ap, arith, length, refl, set, ◌∙◌, ◌+◌, ◌&&◌, Bool, true, false, ◌++◌, drop, inl, inr, one-add, sym}
 use Rattle.version_order.specs.keys.Sinks.{put_at}
-use Rattle.std.proofs.lemmas.Bool.{cases_Bool, eqb-true, ne_eqb}
+use Rattle.std.proofs.lemmas.Bool.{and_parts, cases_Bool, ne_eqb}
+use Rattle.std.proofs.lemmas.Bool.Decides.{nat_tests}
 use Rattle.std.specs.List.{list_all}
+use Rattle.std.specs.List.{prefix_len, take_while}
+use Rattle.version_order.proofs.lemmas.Front.{begins-drop}
+use Rattle.version_order.proofs.lemmas.Plain.{run_and_rest}
+use Rattle.version_order.proofs.lemmas.Runs.{not_true}
 use Rattle.version_order.specs.texts.Front.{begins}
 use Rattle.version_sets.specs.Pieces.{PlainPiece, Bar, Bars, Comma, Word, is_bar, is_blank, is_comma, is_word_byte, pieces, with_byte, with_piece}
 
@@ -25,13 +30,7 @@ put_past (x ∷ room) (suc place) bytes past =
 -- ---- bytes
 
 no_bar_at : (b : ℕ) → is_blank b ≡ true → is_bar b ≡ false
-no_bar_at b blank = by (cases_Bool (b == 32)) (cases_Bool (b == 9))
-  where
-    by : ((b == 32) ≡ true) ⊎ ((b == 32) ≡ false) → ((b == 9) ≡ true) ⊎ ((b == 9) ≡ false)
-        → is_bar b ≡ false
-    by (inl space) tab = rw (eqb-true b 32 space) refl
-    by (inr other) (inl tab) = rw (eqb-true b 9 tab) refl
-    by (inr other) (inr no_tab) = cc (rw (other, no_tab) at blank)
+no_bar_at b blank = grind (arith, nat_tests)
 
 -- a byte of a word is none of the others
 record IsOfWord (b : ℕ) : Type 0 where
@@ -40,20 +39,28 @@ record IsOfWord (b : ℕ) : Type 0 where
   no_bar : is_bar b ≡ false
 
 of_word : (b : ℕ) → is_word_byte b ≡ true → IsOfWord b
-of_word b word = by (is_blank b) (is_comma b) (is_bar b) refl refl refl
-  where
-    by : (blank comma bar : Bool) → is_blank b ≡ blank → is_comma b ≡ comma → is_bar b ≡ bar → IsOfWord b
-    by false false false e f g = record { no_blank = e; no_comma = f; no_bar = g }
-    by true comma bar e f g = cc (rw e at word)
-    by false true bar e f g = cc (rw (e, f) at word)
-    by false false true e f g = cc (rw (e, f, g) at word)
+of_word b word =
+    let front = and_parts _ _ word in
+    let both = and_parts _ _ front.0 in
+    record { no_blank = not_true _ both.0; no_comma = not_true _ both.1; no_bar = not_true _ front.1 }
 
 -- ---- pieces
 
-pub past_blank : (place b : ℕ) (text : List ℕ) → is_blank b ≡ true
+past_blank : (place b : ℕ) (text : List ℕ) → is_blank b ≡ true
     → pieces (suc place) text ≡ pieces place (b ∷ text)
 past_blank place b [] blank = rw blank refl
 past_blank place b (c ∷ text) blank = rw (no_bar_at b blank, blank) refl
+
+pub past_blanks : (place : ℕ) (text : List ℕ)
+    → pieces (place + prefix_len is_blank text) (drop (prefix_len is_blank text) text) ≡ pieces place text
+past_blanks place [] = refl
+past_blanks place (b ∷ text) = elim (cases_Bool (is_blank b)) [
+  | inl blank ↦
+      rw (blank, one-add)
+      (ap (λ n. pieces n (drop (prefix_len is_blank text) text)) (omega arith) ∙ past_blanks (suc place) text
+      ∙ past_blank place b text blank)
+  | inr other ↦ rw other (ap (λ n. pieces n (b ∷ text)) (omega arith))
+]
 
 pub at_comma : (place : ℕ) (text : List ℕ) → pieces place (44 ∷ text) ≡ (place, Comma) ∷ pieces (suc place) text
 at_comma place [] = refl
@@ -96,19 +103,6 @@ at_word place b (w ∷ word) rest is all other =
     first true c e = refl
     first false c e = cc e
 
--- a word with one byte more
-pub one_more : (word : List ℕ) (b : ℕ) → list_all is_word_byte word ≡ true → is_word_byte b ≡ true
-    → list_all is_word_byte (word ++ b ∷ []) ≡ true
-one_more [] b all is = rw is refl
-one_more (w ∷ word) b all is = by (is_word_byte w) all (one_more word b)
-  where
-    by : (first : Bool) → (first && list_all is_word_byte word) ≡ true
-        → (list_all is_word_byte word ≡ true → is_word_byte b ≡ true
-        → list_all is_word_byte (word ++ b ∷ []) ≡ true)
-        → (first && list_all is_word_byte (word ++ b ∷ [])) ≡ true
-    by true more step = step more is
-    by false more step = cc more
-
 -- ---- pieces, from a place on
 
 pub first_comma : (text rest : List ℕ) (first : ℕ) → text ≡ first ∷ rest → first ≡ 44 → (place : ℕ)
@@ -133,15 +127,15 @@ first_bar text rest first whole is other place =
 pub no_other : (b : ℕ) → is_blank b ≡ false → ¬ (b ≡ 44) → ¬ (b ≡ 124) → is_word_byte b ≡ true
 no_other b no_blank no_comma no_bar = rw (no_blank, ne_eqb b 44 no_comma, ne_eqb b 124 no_bar) refl
 
-pub first_word : (text tail word rest : List ℕ) (first : ℕ) → text ≡ first ∷ tail
+of_run : (text tail word rest : List ℕ) (first : ℕ) → text ≡ first ∷ tail
     → is_word_byte first ≡ true → text ≡ word ++ rest → list_all is_word_byte word ≡ true
     → begins is_word_byte rest ≡ false
     → ((place : ℕ) → pieces place text ≡ (place, Word word) ∷ pieces (place + length word) rest)
     × (1 ≤ length word)
-first_word text tail [] rest first whole is cut all other =
+of_run text tail [] rest first whole is cut all other =
     let here : begins is_word_byte rest ≡ true = ap (begins is_word_byte) (sym cut ∙ whole) ∙ is in
     cc (here, other)
-first_word text tail (b ∷ word) rest first whole is cut all other = (
+of_run text tail (b ∷ word) rest first whole is cut all other = (
   λ place.
       ap (pieces place) cut ∙ at_word place b word rest (rw same at is) (rw (rw same at is) at all) other
       ∙ ap (λ n. (place, Word (b ∷ word)) ∷ pieces n rest) (omega arith),
@@ -150,3 +144,12 @@ first_word text tail (b ∷ word) rest first whole is cut all other = (
   where
     same : first ≡ b
     same = cc (sym whole ∙ cut)
+
+pub first_word : (text tail word rest : List ℕ) (first : ℕ) → text ≡ first ∷ tail → is_word_byte first ≡ true
+    → word ≡ take_while is_word_byte text → rest ≡ drop (prefix_len is_word_byte text) text
+    → ((place : ℕ) → pieces place text ≡ (place, Word word) ∷ pieces (place + length word) rest)
+    × (1 ≤ length word)
+first_word text tail word rest first whole is word_is rest_is =
+    let cut = run_and_rest is_word_byte text word rest word_is rest_is in
+    of_run text tail word rest first whole is cut.0 cut.1
+    (ap (begins is_word_byte) rest_is ∙ begins-drop is_word_byte text)

@@ -1,10 +1,8 @@
 -- Sets one behind another in a room: one more, and one in the place of two.
-use Rattle.std.proofs.Common.{◌≡◌, ◌+◌, ◌≤◌, ℕ, Bool, true, false, not, List, [], ◌∷◌, arith, length, length-append, refl, ◌∙◌, ◌-◌, ◌*◌, ◌<◌, ◌&&◌, ◌||◌, ◌++◌, Option, None, Some, append_assoc, ap, get_or, set, subst, sym, take}
+use Rattle.std.proofs.Common.{◌≡◌, ◌+◌, ◌≤◌, ℕ, Bool, false, List, [], ◌∷◌, arith, length, length-append, refl, ◌∙◌, ◌-◌, ◌*◌, ◌<◌, ◌&&◌, ◌||◌, ◌++◌, Option, None, Some, append_assoc, ap, get_or, set, subst, sym, take}
+use Rattle.std.proofs.Math.Bool.{and_assoc, and_comm, or_assoc, or_comm}
 use Rattle.std.specs.List.{concat, flat_map}
-use Rattle.std.specs.declared.cmp.Ordering.{Ordering}
-use Rattle.std.specs.declared.cmp.Ordering.TheVariants.{Less, Equal, Greater}
-use Rattle.version_order.specs.keys.Lists.{bytes_cmp}
-use Rattle.version_sets.specs.Pile.{kept, merged, Begin, IsPile, all_have, through}
+use Rattle.version_sets.specs.Pile.{merged, Begin, IsPile, all_have, through}
 use Rattle.std.proofs.lemmas.List.{get_or-set_other, get_or-set_same, take_at}
 use Rattle.std.specs.Option.{IsSomeAnd}
 use Rattle.version_sets.specs.Form.{Rise, has, form_bytes, number, places}
@@ -13,73 +11,16 @@ use Rattle.version_sets.specs.declared.merge.Merge.{Merge}
 use Rattle.version_sets.specs.declared.merge.Rule.{Rule}
 use Rattle.version_sets.specs.declared.merge.Rule.TheVariants.{Both, Either, FirstAlone}
 use Rattle.version_sets.specs.declared.read.pile.Pile.{Pile}
-use Rattle.version_sets.proofs.lemmas.Ends.{are_merged}
+use Rattle.version_sets.proofs.lemmas.Ends.{are_merged, counted, is_made}
 use Rattle.version_sets.proofs.lemmas.Form.{form_length}
 
 -- ---- how many ends a merge has, and how many bytes these are
 
--- ---- what is counted of each end
-
-module _ (of : List ℕ → ℕ) where
-  abbrev pub total : List (List ℕ) → ℕ
-  total [] = 0
-  total (end ∷ ends) = of end + total ends
-
-  kept_total : (now after : Bool) (end : List ℕ) (ends : List (List ℕ))
-      → total (kept now after end ends) ≤ of end + total ends
-  kept_total true true end ends = omega arith
-  kept_total true false end ends = omega arith
-  kept_total false true end ends = omega arith
-  kept_total false false end ends = omega arith
-
-  -- a merge has no more of it than both
-  pub merged_total : (rule : Bool → Bool → Bool) (a b : Bool) (one other : List (List ℕ))
-      → total (merged rule a b one other) ≤ total one + total other
-  merged_total rule a b [] [] = omega arith
-  merged_total rule a b (x ∷ one) [] =
-      omega (
-        arith,
-        kept_total (rule a b) (rule (not a) b) x (merged rule (not a) b one []),
-        merged_total rule (not a) b one [],
-      )
-  merged_total rule a b [] (y ∷ other) =
-      omega (
-        arith,
-        kept_total (rule a b) (rule a (not b)) y (merged rule a (not b) [] other),
-        merged_total rule a (not b) [] other,
-      )
-  merged_total rule a b (x ∷ one) (y ∷ other) = by (bytes_cmp x y) refl
-      (merged_total rule (not a) b one (y ∷ other)) (merged_total rule a (not b) (x ∷ one) other)
-      (merged_total rule (not a) (not b) one other)
-    where
-      by : (o : Ordering) → bytes_cmp x y ≡ o
-          → total (merged rule (not a) b one (y ∷ other)) ≤ total one + total (y ∷ other)
-          → total (merged rule a (not b) (x ∷ one) other) ≤ total (x ∷ one) + total other
-          → total (merged rule (not a) (not b) one other) ≤ total one + total other
-          → total (merged rule a b (x ∷ one) (y ∷ other)) ≤ total (x ∷ one) + total (y ∷ other)
-      by Less e before_y before_x both = rw e (omega (
-        arith,
-        kept_total (rule a b) (rule (not a) b) x (merged rule (not a) b one (y ∷ other)),
-        before_y,
-      ))
-      by Greater e before_y before_x both = rw e (omega (
-        arith,
-        kept_total (rule a b) (rule a (not b)) y (merged rule a (not b) (x ∷ one) other),
-        before_x,
-      ))
-      by Equal e before_y before_x both = rw e (omega (
-        arith,
-        kept_total (rule a b) (rule (not a) (not b)) x (merged rule (not a) (not b) one other),
-        both,
-      ))
-
--- ---- ends, and their bytes
-
-one_each : (ends : List (List ℕ)) → total (λ end. 1) ends ≡ length ends
+one_each : (ends : List (List ℕ)) → counted (λ end. 1) ends ≡ length ends
 one_each [] = refl
 one_each (end ∷ ends) = omega (arith, one_each ends)
 
-all_bytes : (ends : List (List ℕ)) → total length ends ≡ length (concat ends)
+all_bytes : (ends : List (List ℕ)) → counted length ends ≡ length (concat ends)
 all_bytes [] = refl
 all_bytes (end ∷ ends) = omega (arith, all_bytes ends, length-append end (concat ends))
 
@@ -88,7 +29,7 @@ module _ (rule : Bool → Bool → Bool) (a b : Bool) (one other : List (List �
   merged_few =
       omega (
         arith,
-        merged_total (λ end. 1) rule a b one other,
+        (is_made rule a b one other).size (λ end. 1),
         one_each one,
         one_each other,
         one_each (merged rule a b one other),
@@ -98,7 +39,7 @@ module _ (rule : Bool → Bool → Bool) (a b : Bool) (one other : List (List �
   merged_short =
       omega (
         arith,
-        merged_total length rule a b one other,
+        (is_made rule a b one other).size length,
         all_bytes one,
         all_bytes other,
         all_bytes (merged rule a b one other),
@@ -133,22 +74,11 @@ all_merged : (rule : Rule) → ¬ (rule ≡ FirstAlone) → (made first last : L
     → has made key ≡ by_rule rule (has first key) (has last key)
     → all_have rule (made ∷ sets) key ≡ all_have rule (last ∷ first ∷ sets) key
 all_merged Both other made first last sets key is =
-    ap (λ b. b && all_have Both sets key) is ∙ by (has first key) (has last key) (all_have Both sets key)
-  where
-    by : (f l rest : Bool) → ((f && l) && rest) ≡ (l && (f && rest))
-    by true true rest = refl
-    by true false rest = refl
-    by false true rest = refl
-    by false false rest = refl
+    ap (λ b. b && all_have Both sets key) (is ∙ and_comm (has first key) (has last key))
+    ∙ and_assoc (has last key) (has first key) (all_have Both sets key)
 all_merged Either other made first last sets key is =
-    ap (λ b. b || all_have Either sets key) is
-    ∙ by (has first key) (has last key) (all_have Either sets key)
-  where
-    by : (f l rest : Bool) → ((f || l) || rest) ≡ (l || (f || rest))
-    by true true rest = refl
-    by true false rest = refl
-    by false true rest = refl
-    by false false rest = refl
+    ap (λ b. b || all_have Either sets key) (is ∙ or_comm (has first key) (has last key))
+    ∙ or_assoc (has last key) (has first key) (all_have Either sets key)
 all_merged FirstAlone other made first last sets key is = absurd (other refl)
 
 -- a pile of two sets or more

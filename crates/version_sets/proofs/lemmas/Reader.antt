@@ -1,5 +1,6 @@
 -- A set while it is read: one member more, the end of an alternative, the end of the text.
 use Rattle.std.proofs.Common.{◌≡◌, ◌∙◌, ◌+◌, ◌≤◌, ◌&&◌, ◌||◌, ℕ, zero, suc, Bool, true, false, List, [], ◌∷◌, ◌++◌, append-nil, append_assoc, ap, arith, drop, length, length-append, refl, sym, take}
+use Rattle.std.proofs.Math.Bool.{and-true, and_assoc, or_assoc}
 use Rattle.std.proofs.lemmas.List.{take-append-drop, take_at}
 use Rattle.std.specs.List.{list_all}
 use Rattle.version_order.specs.keys.Sinks.{put_at}
@@ -97,34 +98,6 @@ of_one room below pile end (ends ∷ next ∷ sets) is some few =
 
 -- ---- what is read
 
-pub and_turned : (a b : Bool) → (a && b) ≡ (b && a)
-and_turned true true = refl
-and_turned true false = refl
-and_turned false true = refl
-and_turned false false = refl
-
-pub or_turned : (a b : Bool) → (a || b) ≡ (b || a)
-or_turned true true = refl
-or_turned true false = refl
-or_turned false true = refl
-or_turned false false = refl
-
-pub and_true : (b : Bool) → (b && true) ≡ b
-and_true true = refl
-and_true false = refl
-
-pub or_false : (b : Bool) → (b || false) ≡ b
-or_false true = refl
-or_false false = refl
-
-and_between : (a b c : Bool) → (a && (b && c)) ≡ ((a && b) && c)
-and_between true b c = refl
-and_between false b c = refl
-
-or_between : (a b c : Bool) → (a || (b || c)) ≡ ((a || b) || c)
-or_between true b c = refl
-or_between false b c = refl
-
 pub at_first : (whole : Reading) → Continues whole (λ key. false) (λ key. true) whole
 at_first (Wrong place reason) = refl
 at_first (Right first others) = (first, others, refl, λ key. refl)
@@ -139,7 +112,7 @@ with_one whole (Right first others) done own member is = (
   is.2,
   λ key. is.3 key
       ∙ ap (λ b. done key || (b || set_has others key))
-      (and_between (own key) (has member.ends key) (list_all (λ member. has member.ends key) first)),
+      (sym (and_assoc (own key) (has member.ends key) (list_all (λ member. has member.ends key) first))),
 )
 
 pub with_next : (whole rest : Reading) (done own : List ℕ → Bool)
@@ -151,6 +124,6 @@ with_next whole (Right first others) done own is = (
   is.1,
   is.2,
   λ key. is.3 key
-      ∙ ap (λ b. done key || (b || set_has (first ∷ others) key)) (and_true (own key))
-      ∙ or_between (done key) (own key) (set_has (first ∷ others) key),
+      ∙ ap (λ b. done key || (b || set_has (first ∷ others) key)) (and-true (own key))
+      ∙ sym (or_assoc (done key) (own key) (set_has (first ∷ others) key)),
 )

@@ -1,31 +1,20 @@
 -- The bytes of a set, one end further.
-use Rattle.std.proofs.Common.{◌≡◌, ◌∙◌, ◌+◌, ◌-◌, ◌<◌, ◌^◌, ℕ, true, List, [], ◌∷◌, ◌++◌, Option, None, Some, ap, arith, drop, length, length-append, refl, subst, sym, take}
-use Rattle.std.proofs.Math.Seq.{drop-append_seam, take-append_seam}
-use Rattle.std.proofs.lemmas.List.{drop_at, take_at}
-use Rattle.std.proofs.lemmas.Nat.{from_le_bytes-to_le_bytes_8}
-use Rattle.std.specs.Int.{from_le_bytes, w64}
+use Rattle.std.proofs.Common.{◌≡◌, ◌∙◌, ◌+◌, ◌<◌, ◌^◌, ℕ, true, List, [], ◌∷◌, ◌++◌, Option, None, Some, ap, arith, length, length-append, refl, sym}
 use Rattle.std.specs.List.{concat, flat_map}
 use Rattle.std.specs.List.Sorted.{IsStrictlySortedBy}
 use Rattle.std.specs.Ordering.{is_lt}
-use Rattle.std.specs.declared.cmp.Ordering.{Ordering}
-use Rattle.std.specs.declared.cmp.Ordering.TheVariants.{Less, Equal, Greater}
 use Rattle.version_order.specs.keys.Lists.{bytes_cmp}
 use Rattle.version_sets.specs.Form.{Rise, number, places}
 use Rattle.version_sets.specs.Set.{AreLeft, RiseAbove, is_above}
-use Rattle.version_sets.proofs.lemmas.Ends.{below_all}
-use Rattle.version_sets.proofs.lemmas.Form.{number_length}
-
-less : (o : Ordering) → is_lt o ≡ true → o ≡ Less
-less Less e = refl
-less Equal e = cc e
-less Greater e = cc e
+use Rattle.version_sets.proofs.lemmas.Ends.{below_all, lt_less}
+use Rattle.version_sets.proofs.lemmas.Form.{cut_alike, number_length, same_number}
 
 above : (last : Option (List ℕ)) (end : List ℕ) (ends : List (List ℕ)) → is_above last end ≡ true
     → Rise (end ∷ ends) → RiseAbove last (end ∷ ends)
 unfolding IsStrictlySortedBy
 above None end ends is rise = rise
 above (Some last) end ends is rise =
-    let below = less (bytes_cmp last end) is in
+    let below = lt_less (bytes_cmp last end) is in
     ((below, below_all last end ends below rise.0), rise)
 
 -- an end before those that are left behind it
@@ -72,23 +61,15 @@ next from last over row rest bytes [] is left =
     ))
 next from last over row rest bytes (end ∷ ends) is left =
     let told = from + length end in
-    let row_is : number over ++ rest ≡ number told ++ flat_map number (places told ends) = sym is ∙ left.row_is in
-    let size : length (number over) ≡ length (number told) = omega (arith, number_length over, number_length told) in
+    let cut = cut_alike (number over) (number told) rest (flat_map number (places told ends))
+    (number_length over ∙ sym (number_length told)) (sym is ∙ left.row_is) in
     record {
       end = end;
       ends = ends;
-      over_is =
-          sym (take-append_seam (number over) rest) ∙ (λ i. take (size i) (row_is i))
-          ∙ take-append_seam (number told) (flat_map number (places told ends));
+      over_is = cut.0;
       bytes_are = left.bytes_are;
       is_above = is_lower last end ends left.rise;
-      left = record {
-        row_is =
-            sym (drop-append_seam (number over) rest) ∙ (λ i. drop (size i) (row_is i))
-            ∙ drop-append_seam (number told) (flat_map number (places told ends));
-        bytes_are = refl;
-        rise = rises last end ends left.rise;
-      };
+      left = record { row_is = cut.1; bytes_are = refl; rise = rises last end ends left.rise };
     }
 
 -- where no number is left no end is
@@ -109,12 +90,6 @@ unfolding IsStrictlySortedBy
 none_more from None = record { row_is = refl; bytes_are = refl; rise = tt }
 none_more from (Some last) = record { row_is = refl; bytes_are = refl; rise = (tt, tt) }
 
--- a number has its own eight bytes
-same_number : (n m : ℕ) → number n ≡ number m → n < 2 ^ 64 → m < 2 ^ 64 → n ≡ m
-unfolding number
-same_number n m same small small_too =
-    sym (from_le_bytes-to_le_bytes_8 n small) ∙ ap (from_le_bytes w64) same ∙ from_le_bytes-to_le_bytes_8 m small_too
-
 module _ (from : ℕ) (last : Option (List ℕ)) (over : ℕ) (rest bytes : List ℕ)
     (first : IsNext from last over rest bytes) (small : over < 2 ^ 64) (within : from + length bytes < 2 ^ 64) where
   -- where the first end is over, itself, and what is behind it
@@ -128,21 +103,12 @@ module _ (from : ℕ) (last : Option (List ℕ)) (over : ℕ) (rest bytes : List
         length-append first.end (concat first.ends),
       ))
 
-  pub first_end : take (over - from) bytes ≡ first.end
-  first_end =
-      ap (take (over - from)) first.bytes_are
-      ∙ take_at first.end (concat first.ends) (over - from) (omega (arith, first_over))
+  pub first_cut : (end behind : List ℕ) → bytes ≡ end ++ behind → over ≡ from + length end
+      → (end ≡ first.end) × (behind ≡ concat first.ends)
+  first_cut end behind is over_is =
+      cut_alike end first.end behind (concat first.ends) (omega (arith, over_is, first_over)) (sym is ∙ first.bytes_are)
 
-  first_behind : drop (over - from) bytes ≡ concat first.ends
-  first_behind =
-      ap (drop (over - from)) first.bytes_are
-      ∙ drop_at first.end (concat first.ends) (over - from) (omega (arith, first_over))
-
-  pub first_left : (end behind : List ℕ) → end ≡ take (over - from) bytes → behind ≡ drop (over - from) bytes
+  pub first_left : (end behind : List ℕ) → bytes ≡ end ++ behind → over ≡ from + length end
       → AreLeft over (Some end) rest behind first.ends
-  first_left end behind end_is behind_is =
-      subst (λ n. AreLeft n (Some end) rest behind first.ends) (sym first_over)
-      (subst (λ (e : List ℕ). AreLeft (from + length first.end) (Some e) rest behind first.ends)
-      (sym (end_is ∙ first_end))
-      (subst (λ (b : List ℕ). AreLeft (from + length first.end) (Some first.end) rest b first.ends)
-      (sym (behind_is ∙ first_behind)) first.left))
+  first_left end behind is over_is =
+      let cut = first_cut end behind is over_is in rw (first_over, cut.0, cut.1) first.left

@@ -18,6 +18,7 @@ impl<'a> Form<'a> {
     ghost use Rattle.version_sets.specs.Set.{ends_of};
 
     /// Returns how many intervals it has.
+    #[tactic(auto, using(crate::proofs::lemmas::Form::ends_count))]
     pub fn intervals(&self) -> usize
         ensures { result ≡ intervals (ends_of self.now) }
     {

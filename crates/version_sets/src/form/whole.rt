@@ -52,7 +52,8 @@ impl<'a> Form<'a> {
 }
 
 // Returns the number that eight bytes tell, and the rest, or None without them.
-fn first_number(row: &[u8]) -> Option<(usize, &[u8])>
+#[inline(always)]
+pub(crate) fn first_number(row: &[u8]) -> Option<(usize, &[u8])>
     ensures some { IfSome result (λ first. row.now ≡ number first.0 ++ first.1.now) }
     ensures none { IfNone result (length row.now < 8) }
     ensures small { IfSome result (λ first. first.0 < 2 ^ 64) }

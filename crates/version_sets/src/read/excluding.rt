@@ -2,15 +2,14 @@
 
 ghost use Rattle.std.specs.Prelude.{◌≡◌, ◌∷◌, ◌+◌, ◌*◌, ◌≤◌, ◌<◌, ◌^◌, [], length, not, true, Bool, IfErr, IfNone, IfOk, IfSome, List, None, Option, ℕ};
 ghost use Rattle.std.proofs.Props.{props};
-ghost use Rattle.version_sets.specs.Form.{has, form_bytes};
+ghost use Rattle.version_sets.specs.Form.{has, form_bytes, Rise};
 ghost use Rattle.version_sets.specs.Excluding.{first_out, leave_out, left_read, room_left, steps_left, AreLeft, EndsAt, StandsBefore};
-ghost use Rattle.version_sets.specs.Comparison.{asks_parts, ends_with};
+ghost use Rattle.version_sets.specs.Comparison.{ends_with};
 ghost use Rattle.version_sets.specs.Pieces.{pieces, Word};
 ghost use Rattle.version_sets.specs.Reading.{asked, piece_room, pieces_room, read_set, set_room, Member, Right, With};
 ghost use Rattle.version_sets.specs.declared.read.comparison.Comparison.{Comparison as Comparisons};
 ghost use Rattle.version_sets.specs.declared.read.steps.State.TheVariants.{Wanted};
 ghost use Rattle.version_order.specs.declared.facts.Operators.{Operators};
-ghost use Rattle.version_order.specs.declared.facts.Operators.TheVariants.{Parts};
 ghost use Rattle.version_order.specs.Facts.{key_room};
 ghost use Rattle.version_order.specs.Keyed.{PlainKeyed};
 
@@ -175,7 +174,7 @@ fn leaves_out<'t, V: SchemeVersion<'t>>(
     room: &mut [u8],
 ) -> bool
     requires room { length (form_bytes 0 (ends_with member.0 (V.plain member.1))) ≤ length room.old }
-    requires parts { asks_parts member.0 ≡ true → V.rules.facts.operators ≡ Parts }
+    requires rise { Rise (ends_with member.0 (V.plain member.1)) }
     ensures out { result ≡ not (has (ends_with member.0 (V.plain member.1)) (V.plain version.now).key) }
     ensures same { length room.new ≡ length room.old }
 {

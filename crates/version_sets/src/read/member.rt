@@ -1,15 +1,15 @@
 //! Members with a version: the version that is asked for, and the set that they are by themselves.
 
-ghost use Rattle.std.specs.Prelude.{◌≡◌, ◌+◌, ◌*◌, ◌≤◌, ◌∷◌, [], length, IfOk, ℕ};
+ghost use Rattle.std.specs.Prelude.{◌≡◌, ◌+◌, ◌*◌, ◌≤◌, ◌∷◌, [], length, IfOk, IfSome, ℕ};
 ghost use Rattle.std.specs.List.{concat, flat_map};
 ghost use Rattle.std.specs.Option.{option_map};
 ghost use Rattle.version_sets.specs.Comparison.{before_star, bytes_of, ends_with};
-ghost use Rattle.version_sets.specs.Form.{form_bytes, number, places};
-ghost use Rattle.version_sets.specs.Reading.{asked, plain_asked, with_version};
+ghost use Rattle.version_sets.specs.Form.{form_bytes, number, places, Rise};
+ghost use Rattle.version_sets.specs.Reading.{asked, plain_asked, with_version, IsWithin};
 ghost use Rattle.version_sets.specs.declared.read.comparison.Comparison.TheVariants.{Equal};
 ghost use Rattle.version_order.specs.keys.Sinks.{put_at, saturated, IsWritten};
 ghost use Rattle.version_order.specs.Facts.{key_room};
-ghost use Rattle.version_order.specs.Keyed.{end_of, AreWithin};
+ghost use Rattle.version_order.specs.Keyed.{end_of};
 
 use crate::read::comparison::Comparison;
 use crate::read::fault::Reason;
@@ -23,18 +23,19 @@ pub(crate) fn asked<'t, V: SchemeVersion<'t>>(
     text: &'t [u8],
 ) -> Result<(Comparison, V), Reason>
     ensures asked { plain_asked V.plain result ≡ asked V.rules.read_as V.rules.facts.operators comparison text.now }
-    ensures within { IfOk result (λ _. AreWithin V.rules.read_as (key_room V.rules.facts)) }
+    ensures small { IfOk result (λ member. IsWithin (key_room V.rules.facts) (length text.now) (ends_with member.0 (V.plain member.1))) }
+    ensures rise { IfOk result (λ member. Rise (ends_with member.0 (V.plain member.1))) }
 {
-    let (comparison, text) = match before_star(text) {
-        Some(front) => (comparison.starred().ok_or(Reason::StarBehind)?, front),
-        None => (comparison, text),
-    };
-    with_version(comparison, text)
+    match before_star(text) {
+        Some(front) => with_version(comparison.starred().ok_or(Reason::StarBehind)?, front),
+        None => with_version(comparison, text),
+    }
 }
 
 // Returns what stands before `.*` at the end of a text, or None without it.
 fn before_star(text: &[u8]) -> Option<&[u8]>
-    ensures { option_map (λ front. front.now) result ≡ before_star text.now }
+    ensures before { option_map (λ front. front.now) result ≡ before_star text.now }
+    ensures shorter { IfSome result (λ front. length front.now ≤ length text.now) }
 {
     text.strip_suffix(b".*".as_slice())
 }
@@ -46,7 +47,8 @@ fn with_version<'t, V: SchemeVersion<'t>>(
     text: &'t [u8],
 ) -> Result<(Comparison, V), Reason>
     ensures asked { plain_asked V.plain result ≡ with_version V.rules.read_as V.rules.facts.operators comparison text.now }
-    ensures within { IfOk result (λ _. AreWithin V.rules.read_as (key_room V.rules.facts)) }
+    ensures small { IfOk result (λ member. IsWithin (key_room V.rules.facts) (length text.now) (ends_with member.0 (V.plain member.1))) }
+    ensures rise { IfOk result (λ member. Rise (ends_with member.0 (V.plain member.1))) }
 {
     let version = V::read(text).ok_or(Reason::NotVersion)?;
     if let Some(slip) = slip_of(&version, text) {
@@ -145,15 +147,13 @@ fn write_end<'t, V: SchemeVersion<'t>>(version: V, end: End, room: &mut [u8], st
 }
 
 // Writes the set that has all keys into a buffer from a place on, and returns the place after it.
+#[tactic(auto, unfolding(crate::specs::Form::form_bytes, crate::specs::Form::number))]
 pub(crate) fn write_all(order: u8, room: &mut [u8], start: usize) -> usize
     requires { start + length (form_bytes order ([] ∷ [])) ≤ length room.old }
     ensures bytes { room.new ≡ put_at room.old start (form_bytes order ([] ∷ [])) }
     ensures end { result ≡ start + length (form_bytes order ([] ∷ [])) }
 {
-    let (_, rest) = room.split_at_mut(start);
-    let (head, rest) = rest.split_at_mut(9);
-    let (numbers, _) = rest.split_at_mut(8);
-    write_head(head, order, 1);
-    numbers.copy_from_slice(&number(0));
-    start + 17
+    let bytes = [order, 1, 0, 0, 0, 0, 0, 0, 0, 0, 0, 0, 0, 0, 0, 0, 0];
+    write_at(room, start, &bytes);
+    start + bytes.len()
 }

@@ -1,9 +1,34 @@
 //! The pieces of a text: commas, bars, and the words between these and blanks.
 
-ghost use Rattle.std.specs.Prelude.{◌≡◌, ◌∷◌, ◌++◌, ◌<◌, ◌≤◌, ◌+◌, ◌^◌, [], IfNone, IfSome, MatchOption, false, length, true, ℕ};
-ghost use Rattle.std.specs.List.{list_all};
+ghost use Rattle.std.specs.Prelude.{◌≡◌, ◌∷◌, ◌<◌, ◌≤◌, ◌+◌, ◌^◌, [], IfNone, IfSome, false, length, ℕ};
 ghost use Rattle.version_order.specs.texts.Front.{begins};
-ghost use Rattle.version_sets.specs.Pieces.{is_bar, is_blank, is_word_byte, piece_length, pieces, plain_piece};
+ghost use Rattle.version_sets.specs.Pieces.{is_blank, is_word_byte, piece_length, pieces, plain_piece};
+
+use version_order::{ByteSet, after_byte, split_set};
+
+// Spaces and tabs.
+struct Blank {}
+
+impl ByteSet for Blank {
+    ghost has = { is_blank };
+
+    #[inline(always)]
+    fn has(byte: u8) -> bool {
+        byte == b' ' || byte == b'\t'
+    }
+}
+
+// The bytes of words: no blanks, commas and bars.
+struct InWord {}
+
+impl ByteSet for InWord {
+    ghost has = { is_word_byte };
+
+    #[inline(always)]
+    fn has(byte: u8) -> bool {
+        !matches!(byte, b' ' | b'\t' | b',' | b'|')
+    }
+}
 
 /// A piece of a text.
 #[derive(Clone, Copy)]
@@ -57,13 +82,9 @@ impl<'t> Pieces<'t> {
         ensures other { begins is_blank self.new.left.now ≡ false }
         ensures nearer { length self.new.left.now ≤ length self.old.left.now }
     {
-        while let Some((byte, rest)) = self.left.split_first() {
-            if !is_blank(*byte) {
-                return;
-            }
-            self.place += 1;
-            self.left = rest;
-        }
+        let (blanks, rest) = split_set::<Blank>(self.left);
+        self.place += blanks.len();
+        self.left = rest;
     }
 }
 
@@ -82,51 +103,11 @@ fn first_piece(text: &[u8]) -> Option<(Piece<'_>, &[u8])>
         return Some((Piece::Comma, rest));
     }
     if *first == b'|' {
-        return match after_bar(rest) {
+        return match after_byte(b'|', rest) {
             Some(behind) => Some((Piece::Bars, behind)),
             None => Some((Piece::Bar, rest)),
         };
     }
-    let (word, behind) = split_word(text);
+    let (word, behind) = split_set::<InWord>(text);
     Some((Piece::Word(word), behind))
-}
-
-// Returns what follows the bar with which a text begins, or None if it begins with none.
-fn after_bar(text: &[u8]) -> Option<&[u8]>
-    ensures { MatchOption result (begins is_bar text.now ≡ false) (λ rest. text.now ≡ 124 ∷ rest.now) }
-{
-    match text.split_first() {
-        Some((first, rest)) if *first == b'|' => Some(rest),
-        _ => None,
-    }
-}
-
-// Whether a byte is a space or a tab.
-fn is_blank(byte: u8) -> bool
-    ensures { result ≡ is_blank byte }
-{
-    byte == b' ' || byte == b'\t'
-}
-
-// Returns the bytes of a word with which a text begins, and the rest.
-fn split_word(text: &[u8]) -> (&[u8], &[u8])
-    ensures whole { text.now ≡ result.0.now ++ result.1.now }
-    ensures word { list_all is_word_byte result.0.now ≡ true }
-    ensures rest { begins is_word_byte result.1.now ≡ false }
-{
-    let mut left = text;
-    while let Some((byte, rest)) = left.split_first() {
-        if !is_word_byte(*byte) {
-            break;
-        }
-        left = rest;
-    }
-    text.split_at(text.len() - left.len())
-}
-
-// Whether a byte is of a word: no blank, comma or bar.
-fn is_word_byte(byte: u8) -> bool
-    ensures { result ≡ is_word_byte byte }
-{
-    !matches!(byte, b' ' | b'\t' | b',' | b'|')
 }

@@ -179,10 +179,7 @@ impl Pile {
     fn start(&self, place: usize) -> usize
         ensures { result ≡ get_or self.now.starts place 0 }
     {
-        match self.starts.get(place) {
-            Some(start) => *start,
-            None => 0,
-        }
+        self.starts.get(place).copied().unwrap_or(0)
     }
 }
 
@@ -197,8 +194,5 @@ fn set_at(sets: &[u8], start: usize, end: usize) -> Option<Form<'_>>
     if start > end || end > sets.len() {
         return None;
     }
-    match Form::of(&sets[start..end]) {
-        Some((_, set)) => Some(set),
-        None => None,
-    }
+    Some(Form::of(&sets[start..end])?.1)
 }

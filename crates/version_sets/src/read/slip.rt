@@ -3,9 +3,9 @@
 ghost use Rattle.std.specs.Prelude.{◌≡◌, ◌&&◌, drop, not, true};
 ghost use Rattle.std.specs.Char.{is_ascii_digit};
 ghost use Rattle.std.specs.List.{list_any};
-ghost use Rattle.version_sets.specs.Slips.{begins_with_v, behind_digits, behind_epoch, has_part_x, is_x, part_ends, slip_of, ties};
+ghost use Rattle.version_sets.specs.Slips.{begins_with_v, behind_epoch, has_part_x, is_x, part_ends, slip_of, ties};
 
-use version_order::SchemeVersion;
+use version_order::{Class, SchemeVersion, split_run};
 
 /// What a version may have been meant as.
 #[derive(Clone, Copy, Debug, PartialEq, Eq)]
@@ -69,24 +69,10 @@ fn ties_with<'t, V: SchemeVersion<'t>>(version: &V, text: &'t [u8]) -> bool
 fn behind_epoch(text: &[u8]) -> &[u8]
     ensures { result.now ≡ behind_epoch text.now }
 {
-    match behind_digits(text).split_first() {
-        Some((first, rest)) if *first == b':' => rest,
+    match split_run(text, Class::Digit).1 {
+        [b':', rest @ ..] => rest,
         _ => text,
     }
-}
-
-// Returns what stands behind the digits with which a text begins.
-fn behind_digits(text: &[u8]) -> &[u8]
-    ensures { result.now ≡ behind_digits text.now }
-{
-    let mut left = text;
-    while let Some((first, rest)) = left.split_first() {
-        if !first.is_ascii_digit() {
-            return left;
-        }
-        left = rest;
-    }
-    left
 }
 
 // Whether `x` or `X` is one of the parts with which a text begins: letters and digits, with dots between the parts.
@@ -129,12 +115,5 @@ fn part_ends(text: &[u8]) -> bool
 fn has_digit(text: &[u8]) -> bool
     ensures { result ≡ list_any is_ascii_digit text.now }
 {
-    let mut left = text;
-    while let Some((first, rest)) = left.split_first() {
-        if first.is_ascii_digit() {
-            return true;
-        }
-        left = rest;
-    }
-    false
+    text.iter().any(|byte| byte.is_ascii_digit())
 }

@@ -37,12 +37,9 @@ first_below-suc test (suc n) =
     ap (λ o. option_or o (if test (suc n) then Some (suc n) else None)) (first_below-suc test n)
     ∙ kept (test 0) (first_below (λ place. test (suc place)) n) (test (suc n)) n
 
--- it is the first place of all if that passes, and else lies behind it
+-- it is the first place of all if that passes
 at_first : (b : Bool) (o : Option ℕ) → b ≡ true → (if b then Some 0 else o) ≡ Some 0
 at_first b o h = rw h refl
-
-behind_first : (b : Bool) (o : Option ℕ) → b ≡ false → (if b then Some 0 else o) ≡ o
-behind_first b o h = rw h refl
 
 -- tests that agree have one first place
 first_below-same : (one other : ℕ → Bool) → ((place : ℕ) → one place ≡ other place) → (n : ℕ)
@@ -118,7 +115,7 @@ missed_first open_first b text none =
     ≡ option_map suc
     (first_below (λ place. may_begin (b ∷ text) (suc place)) (length text)) =
     first_below-suc (may_begin_from open_first (b ∷ text)) (length text)
-    ∙ behind_first (open_first && is_some (text_at_beginning (b ∷ text))) _ none in
+    ∙ rw none refl in
     let same : (place : ℕ) → may_begin (b ∷ text) (suc place)
     ≡ may_begin_from (is_separator b) text place =
     same_places b text in

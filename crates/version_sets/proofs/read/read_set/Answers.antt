@@ -1,10 +1,11 @@
 use Rattle.std.proofs.Common.{◌≡◌, ◌∙◌, ◌+◌, ◌*◌, ◌≤◌, ◌||◌, ◌&&◌, None, ap, arith, false, length, refl, subst, sym, true}
+use Rattle.std.proofs.Math.Bool.{and-true, or-false}
 use Rattle.version_sets.specs.Form.{form_bytes}
 use Rattle.version_sets.specs.Pieces.{pieces, plain_piece}
 use Rattle.version_sets.specs.Reader.{Continues}
 use Rattle.version_sets.specs.Reading.{at_end, piece_room, pieces_room, read_pieces, read_set}
 use Rattle.version_sets.specs.Steps.{unfinished}
-use Rattle.version_sets.proofs.lemmas.Reader.{and_true, at_first, or_false}
+use Rattle.version_sets.proofs.lemmas.Reader.{at_first}
 use Rattle.version_order.specs.Facts.{key_room}
 use Rattle.version_sets.proofs.read.read_set.Goals as goal
 
@@ -87,6 +88,6 @@ returns-in-None-clause-ok g c =
         have = λ key.
             made.have key
             ∙ sym (over.3 key
-            ∙ ap (λ b. reads.0 key || b) (or_false (reads.1 key && true) ∙ and_true (reads.1 key)));
+            ∙ ap (λ b. reads.0 key || b) (or-false (reads.1 key && true) ∙ and-true (reads.1 key)));
       },
     )

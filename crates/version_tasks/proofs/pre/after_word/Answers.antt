@@ -13,7 +13,7 @@ returns c =
     let cases = c.in_ok-strip_prefix.ensures.cases in
     record {
       some = with_word c.args.word.now c.args.text.now rest (sym c.if-is_empty.ensures) cases.0
-          cases.1 c.after_dot.result c.after_dot.ensures;
+          cases.1 c.after_byte.result c.after_byte.ensures;
       none = no_dot_after c.args.word.now c.args.text.now rest (sym c.if-is_empty.ensures) cases.1
-          c.after_dot.result c.after_dot.ensures;
+          c.after_byte.result c.after_byte.ensures;
     }

@@ -1,21 +1,8 @@
-use Rattle.std.proofs.Common.{◌≡◌, ◌∙◌, ◌+◌, ◌-◌, ◌/◌, ap, arith, false, length, refl, sym, true}
+use Rattle.std.proofs.Common.{◌≡◌, ◌∙◌, ◌+◌, ◌-◌, ◌/◌, ap, arith, length, sym}
 use Rattle.std.proofs.lemmas.List.{length-drop}
-use Rattle.std.specs.Ordering.{is_lt}
-use Rattle.std.specs.declared.cmp.Ordering.{Ordering}
-use Rattle.std.specs.declared.cmp.Ordering.TheVariants.{Less, Equal, Greater}
-use Rattle.version_sets.proofs.lemmas.Ends.{above_from, decided, passed_from}
+use Rattle.version_sets.proofs.lemmas.Ends.{above_from, decided, lt_less, passed_from}
 use Rattle.version_sets.specs.Set.{ends_of}
 use Rattle.version_sets.proofs.form.Form.has_key.Goals as goal
-
-less : (o : Ordering) → is_lt o ≡ true → o ≡ Less
-less Less e = refl
-less Equal e = cc e
-less Greater e = cc e
-
-not_less : (o : Ordering) → is_lt o ≡ false → ¬ (o ≡ Less)
-not_less Less e = cc e
-not_less Equal e = λ same. cc same
-not_less Greater e = λ same. cc same
 
 pub returns-in_default : goal.returns-in_default
 returns-in_default g c rise =
@@ -34,17 +21,16 @@ loop-low-preserved-then-is_lt g c =
     record {
       passed = c.loop-low.invariant.passed;
       above = λ rise. above_from (ends_of c.args.self.now) _ _ _ _ rise c.in-Some.ensures.some
-          (sym below ∙ less _ (sym c.is_lt.ensures ∙ c.if-is_lt.true));
+          (sym below ∙ lt_less _ (sym c.is_lt.ensures ∙ c.if-is_lt.true));
       order = omega arith;
       within = omega (arith, c.loop-low-test.true, c.loop-low.invariant.within);
     }
 
 pub loop-low-preserved : goal.loop-low-preserved
 loop-low-preserved g c =
-    let from = not_less _ (sym c.is_lt.ensures ∙ c.if-is_lt.false) in
     record {
       passed = λ rise. passed_from (ends_of c.args.self.now) _ _ _ rise c.in-Some.ensures.some
-          (λ less. from (c.compare.ensures ∙ less));
+          (λ less. cc (rw (c.compare.ensures ∙ less) at (sym c.is_lt.ensures ∙ c.if-is_lt.false)));
       above = c.loop-low.invariant.above;
       order = omega (arith, c.loop-low-test.true);
       within = c.loop-low.invariant.within;

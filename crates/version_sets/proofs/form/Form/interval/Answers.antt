@@ -1,14 +1,14 @@
 use Rattle.std.proofs.Common.{◌≡◌, ◌∙◌, ◌*◌, ◌<◌, ◌≤◌, ◌^◌, ◌∷◌, List, [], Option, None, Some, ap, arith, length, refl, sym, ℕ}
 use Rattle.std.proofs.Math.ListN.{drop_of_length-le}
-use Rattle.std.proofs.lemmas.List.FromFn.{length-map-range_with_len}
 use Rattle.std.specs.Option.{IfNone, IfSome, option_map}
-use Rattle.version_sets.specs.Form.{between, end_at, first_interval}
+use Rattle.version_sets.specs.Form.{between, first_interval}
 use Rattle.version_sets.specs.Set.{ends_of}
 use Rattle.version_sets.specs.declared.form.Form.{Form}
+use Rattle.version_sets.proofs.lemmas.Form.{ends_count}
 use Rattle.version_sets.proofs.form.Form.interval.Goals as goal
 
 few : (set : Form) → length (ends_of set) < 2 ^ 60
-few set = omega (arith, set.few, length-map-range_with_len (end_at set.numbers.now set.ends.now) 0 set.count)
+few set = omega (arith, set.few, ends_count set.count set.numbers.now set.ends.now)
 
 -- an end and what follows it
 interval_from : (bytes : List ℕ) (ends more : List (List ℕ)) (low : List ℕ) (high : Option (ℕ × ℕ))

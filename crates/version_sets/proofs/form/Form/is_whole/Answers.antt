@@ -6,7 +6,7 @@ use Rattle.std.specs.Option.{option_map}
 use Rattle.version_sets.specs.Form.{number}
 use Rattle.version_sets.specs.Set.{is_above}
 use Rattle.version_sets.proofs.lemmas.Form.{number_length}
-use Rattle.version_sets.proofs.lemmas.Whole.{first_end, first_left, first_over, next, none_left, none_more, with_end}
+use Rattle.version_sets.proofs.lemmas.Whole.{first_cut, first_left, first_over, next, none_left, none_more, with_end}
 use Rattle.version_sets.proofs.form.Form.is_whole.Goals as goal
 
 pub loop-over-init : goal.loop-over-init
@@ -42,7 +42,11 @@ returns-then-not-is_above-clause-no c wrong all is =
     let first = next _ _ _ _ _ _ _ c.in-Some.ensures.some (c.loop-over.invariant.left all is).1 in
     let within : c.loop-over.from + length c.loop-over.bytes.now < 2 ^ 64 =
     omega (arith, c.loop-over.invariant.from, c.args.self.now.small) in
-    let end = c.in-Some-split_at_checked.ensures.cases.1 ∙ first_end _ _ _ _ _ first c.in-Some.ensures.small within in
+    let cut = c.in-Some-split_at_checked.ensures.cases in
+    let bytes = sym (take-append-drop (c.in-Some.over - c.loop-over.from) c.loop-over.bytes.now)
+    ∙ (λ i. sym cut.1 i ++ sym cut.2 i) in
+    let end = (first_cut _ _ _ _ _ first c.in-Some.ensures.small within _ _ bytes
+    (omega (arith, cut.3, c.if-over-from.false))).0 in
     absurd (true≢false (sym first.is_above
     ∙ ap (is_above (option_map (λ last. last.now) c.loop-over.last)) (sym end)
     ∙ sym c.if-not-is_above.ensures))
@@ -74,7 +78,7 @@ loop-over-preserved c =
           (with_end _ _ _ _ _ _ _ _ ends row bytes over (sym c.if-not-is_above.ensures) left);
       left = λ all is.
           let first = next _ _ _ _ _ _ _ row (before.invariant.left all is).1 in
-          (first.ends, first_left _ _ _ _ _ first c.in-Some.ensures.small within _ _ cut.1 cut.2);
+          (first.ends, first_left _ _ _ _ _ first c.in-Some.ensures.small within _ _ bytes over);
       from = omega (arith, before.invariant.from, over, cut.3, cut.4, c.if-over-from.false);
       eights = (
         count.0 - 1,

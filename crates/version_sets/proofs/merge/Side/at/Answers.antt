@@ -1,7 +1,7 @@
 use Rattle.std.proofs.Common.{◌∙◌, ◌+◌, ◌∷◌, List, ap, arith, drop, length, sym, ℕ}
 use Rattle.std.proofs.lemmas.List.{length-drop}
-use Rattle.std.proofs.lemmas.List.FromFn.{length-map-range_with_len}
-use Rattle.version_sets.specs.Form.{end_at, ends_in}
+use Rattle.version_sets.specs.Form.{ends_in}
+use Rattle.version_sets.proofs.lemmas.Form.{ends_count}
 use Rattle.version_sets.proofs.merge.Side.at.Goals.{in-None, in-Some}
 use Rattle.version_sets.proofs.merge.Side.at.Goals as goal
 
@@ -18,7 +18,7 @@ invariant_of-result c =
           left,
           ap (λ (l : List (List ℕ)). length l) w.in-None.ensures.none,
           length-drop c.args.place ends,
-          length-map-range_with_len (end_at set.numbers.now set.ends.now) 0 set.count,
+          ends_count set.count set.numbers.now set.ends.now,
         ))
       ];
     }

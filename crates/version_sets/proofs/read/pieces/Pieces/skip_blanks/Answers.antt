@@ -1,17 +1,25 @@
-use Rattle.std.proofs.Common.{◌∙◌, List, ap, arith, length, sym, ℕ}
-use Rattle.version_sets.specs.Pieces.{pieces}
-use Rattle.version_sets.proofs.lemmas.Pieces.{past_blank}
+use Rattle.std.proofs.Common.{◌≡◌, ◌∙◌, ◌+◌, ap, arith, length}
+use Rattle.std.proofs.lemmas.List.{length-drop}
+use Rattle.std.proofs.lemmas.List.Folds.{length-prefix_len}
+use Rattle.std.proofs.lemmas.List.Sums.{prefix_len-le-length}
+use Rattle.std.specs.List.{prefix_len}
+use Rattle.version_order.proofs.lemmas.Front.{begins-drop}
+use Rattle.version_order.specs.texts.Front.{begins}
+use Rattle.version_sets.specs.Pieces.{is_blank, pieces}
+use Rattle.version_sets.proofs.lemmas.Pieces.{past_blanks}
 use Rattle.version_sets.proofs.read.pieces.Pieces.skip_blanks.Goals as goal
 
-pub loop-byte-preserved : goal.loop-byte-preserved
-loop-byte-preserved c =
-    let at = c.loop-byte.self.place in
-    let rest = c.in-Some.rest.now in
-    let whole = c.in-Some.ensures.cases.0 in
+pub returns : goal.returns
+returns c =
+    let before = c.args.self.now in
+    let text = before.left.now in
+    let run = ap length c.split_set.ensures.run ∙ length-prefix_len is_blank text in
+    let rest = c.split_set.ensures.rest in
+    let size : length c.split_set.result.1.now + length c.split_set.result.0.now ≡ length text =
+    omega (arith, ap length rest, length-drop (prefix_len is_blank text) text, run, prefix_len-le-length is_blank text) in
     record {
-      same = ap (λ n. pieces n rest) (omega arith)
-          ∙ past_blank at c.in-Some.byte.now rest (sym c.if-not-is_blank.ensures)
-          ∙ ap (pieces at) (sym whole) ∙ c.loop-byte.invariant.same;
-      end = omega (arith, ap (λ (l : List ℕ). length l) whole, c.loop-byte.invariant.end);
-      nearer = omega (arith, ap (λ (l : List ℕ). length l) whole, c.loop-byte.invariant.nearer);
+      same = (λ i. pieces (before.place + run i) (rest i)) ∙ past_blanks before.place text;
+      end = omega (arith, size);
+      other = ap (begins is_blank) rest ∙ begins-drop is_blank text;
+      nearer = omega (arith, size);
     }

@@ -1,8 +1,9 @@
 use Rattle.std.proofs.Common.{◌≡◌, ◌∙◌, ◌+◌, ◌≤◌, ◌&&◌, ◌∷◌, ◌++◌, [], ap, arith, length, sym, take}
+use Rattle.std.proofs.Math.Bool.{and_comm}
 use Rattle.version_sets.specs.Form.{has, form_bytes}
 use Rattle.version_sets.specs.Pile.{all_have, through}
 use Rattle.version_order.specs.keys.Sinks.{length-put}
-use Rattle.version_sets.proofs.lemmas.Reader.{and_turned, below_kept, put_taken, same_bytes}
+use Rattle.version_sets.proofs.lemmas.Reader.{below_kept, put_taken, same_bytes}
 use Rattle.version_sets.proofs.read.reader.Reader.add.Goals as goal
 
 pub returns-clause-holds : goal.returns-clause-holds
@@ -46,5 +47,5 @@ returns-clause-holds c before ends done own holds rise written size =
       members_have = λ key.
           ap (λ rule. all_have rule pushed.0 key) (sym c.requires.fits.both) ∙ pushed.2 key
           ∙ ap (λ rule. all_have rule (ends ∷ holds.members) key) c.requires.fits.both
-          ∙ ap (λ b. has ends key && b) (holds.members_have key) ∙ and_turned (has ends key) (own key);
+          ∙ ap (λ b. has ends key && b) (holds.members_have key) ∙ and_comm (has ends key) (own key);
     }

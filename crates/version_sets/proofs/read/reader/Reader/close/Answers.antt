@@ -1,8 +1,9 @@
 use Rattle.std.proofs.Common.{◌≡◌, ◌∙◌, ◌+◌, ◌||◌, ◌∷◌, ◌++◌, [], ap, length, refl, sym, take}
+use Rattle.std.proofs.Math.Bool.{and-true, or_comm}
 use Rattle.version_sets.specs.Form.{has, form_bytes}
 use Rattle.version_sets.specs.Pile.{IsPile, all_have, through}
 use Rattle.version_sets.specs.declared.merge.Rule.TheVariants.{Both}
-use Rattle.version_sets.proofs.lemmas.Reader.{and_true, below_kept, of_one, or_turned}
+use Rattle.version_sets.proofs.lemmas.Reader.{below_kept, of_one}
 use Rattle.version_sets.proofs.read.reader.Reader.close.Goals as goal
 
 pub returns-clause-holds : goal.returns-clause-holds
@@ -29,12 +30,12 @@ returns-clause-holds c done own holds =
       are = pushed.1;
       have = λ key.
           let own_is : has one.ends key ≡ own key =
-          sym (and_true (has one.ends key)) ∙ ap (λ sets. all_have Both sets key) (sym one.sets_are)
+          sym (and-true (has one.ends key)) ∙ ap (λ sets. all_have Both sets key) (sym one.sets_are)
           ∙ ap (λ rule. all_have rule left.0 key) (sym c.requires.fits.both) ∙ left.2 key
           ∙ ap (λ rule. all_have rule holds.members key) c.requires.fits.both ∙ holds.members_have key in
           ap (λ rule. all_have rule pushed.0 key) (sym c.requires.fits.either) ∙ pushed.2 key
           ∙ ap (λ rule. all_have rule (one.ends ∷ holds.sets) key) c.requires.fits.either
-          ∙ (λ i. own_is i || holds.have key i) ∙ or_turned (own key) (done key);
+          ∙ (λ i. own_is i || holds.have key i) ∙ or_comm (own key) (done key);
       members = [];
       members_are =
           record { bytes = pushed.1.bytes; size = pushed.1.size; begin = c.clear.ensures.depth; rise = tt };

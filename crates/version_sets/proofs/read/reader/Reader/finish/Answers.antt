@@ -1,8 +1,9 @@
 use Rattle.std.proofs.Common.{◌≡◌, ◌∙◌, ◌+◌, [], ap, length, subst, sym, zero-add}
+use Rattle.std.proofs.Math.Bool.{or-false}
 use Rattle.version_sets.specs.Form.{has, form_bytes}
 use Rattle.version_sets.specs.Pile.{IsPile, all_have}
 use Rattle.version_sets.specs.declared.merge.Rule.TheVariants.{Either}
-use Rattle.version_sets.proofs.lemmas.Reader.{of_one, or_false}
+use Rattle.version_sets.proofs.lemmas.Reader.{of_one}
 use Rattle.version_sets.proofs.read.reader.Reader.finish.Goals as goal
 
 pub returns : goal.returns
@@ -22,7 +23,7 @@ returns c done own holds =
       bytes = one.bytes ∙ ap (λ n. form_bytes n one.ends) order;
       size_is = one.size ∙ ap (λ n. 0 + length (form_bytes n one.ends)) order ∙ zero-add _;
       have = λ key.
-          sym (or_false (has one.ends key)) ∙ ap (λ sets. all_have Either sets key) (sym one.sets_are)
+          sym (or-false (has one.ends key)) ∙ ap (λ sets. all_have Either sets key) (sym one.sets_are)
           ∙ ap (λ rule. all_have rule left.0 key) (sym c.close.ensures.fits.either) ∙ left.2 key
           ∙ ap (λ rule. all_have rule closed.sets key) c.close.ensures.fits.either ∙ closed.have key;
     }
