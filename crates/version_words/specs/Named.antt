@@ -1,5 +1,5 @@
 -- What single words of a run name.
-use Rattle.std.specs.Prelude.{ℕ, Bool, true, false, List, [], ◌∷◌, Option, None, Some, codes, nat_lt, unwrap_or, ◌==◌, ◌||◌, ◌&&◌, ◌^◌, if◌then◌else◌}
+use Rattle.std.specs.Prelude.{ℕ, Bool, true, false, List, [], ◌∷◌, Option, None, Some, codes, find, map, nat_lt, option_map, unwrap_or, ◌==◌, ◌&&◌, ◌^◌, if◌then◌else◌}
 use Rattle.std.specs.Char.{is_ascii}
 use Rattle.std.specs.List.{list_all}
 use Rattle.std.specs.Str.{bytes_eq}
@@ -7,37 +7,34 @@ use Rattle.std.specs.Str.Parse.{digits_value, without_leading_plus}
 use Rattle.version_commands.specs.declared.options.Invalid.{Invalid}
 use Rattle.version_answers.specs.declared.two.compare.Operator.{Operator}
 use Rattle.version_commands.specs.declared.options.Invalid.TheVariants as invalid
-use Rattle.version_answers.specs.declared.two.compare.Operator.TheVariants as operator
 use Rattle.version_words.specs.declared.named.Verb.{Verb}
 use Rattle.version_words.specs.declared.named.Verb.TheVariants as verb
+use Rattle.version_words.specs.declared.named.TheConstants.{INVALIDS, LEVELS, OPERATORS}
+use Rattle.version_words.specs.declared.table.TheConstants.{COMMANDS}
+use Rattle.version_words.specs.Grammar.{Text}
 use Rattle.version_lines.specs.Column.{has_bytes}
 use Rattle.version_order.specs.texts.DigitRun.{is_digits}
 use Rattle.version_tasks.specs.declared.stability.Stability.{Stability}
-use Rattle.version_tasks.specs.declared.stability.Stability.TheVariants as stability
+
+-- the rows of a table with the texts of their names
+abbrev pub texts_in : {T V : Type 0} → (T → List ℕ) → List (T × V) → List (List ℕ × V)
+texts_in text table = map (λ row. (text row.0, row.1)) table
+
+-- what a word names in such rows
+abbrev pub value_named : {V : Type 0} → List (List ℕ × V) → List ℕ → Option V
+value_named rows word = option_map (λ row. row.1) (find (λ row. bytes_eq row.0 word) rows)
+
+-- the same in a table of the program
+abbrev pub named : {V : Type 0} → List (Text × V) → List ℕ → Option V
+named table word = value_named (texts_in (λ name. name.now) table) word
 
 -- the command of a name
 abbrev pub verb_named : List ℕ → Option Verb
-verb_named word =
-    if bytes_eq word (codes "sort") then Some verb.Sort
-    else (if bytes_eq word (codes "newest") then Some verb.Newest
-    else (if bytes_eq word (codes "filter") then Some verb.Filter
-    else (if bytes_eq word (codes "show") then Some verb.Show
-    else (if bytes_eq word (codes "key") then Some verb.Key
-    else (if bytes_eq word (codes "test") then Some verb.Test
-    else (if bytes_eq word (codes "compare") then Some verb.Compare
-    else (if bytes_eq word (codes "why") then Some verb.Why
-    else (if bytes_eq word (codes "implies") then Some verb.Implies
-    else (if bytes_eq word (codes "meets") then Some verb.Meets
-    else (if bytes_eq word (codes "diff") then Some verb.Diff
-    else (if bytes_eq word (codes "next") then Some verb.Next else None)))))))))))
+verb_named word = named COMMANDS word
 
 -- what a word of `--invalid` names
 abbrev pub invalid_named : List ℕ → Option Invalid
-invalid_named word =
-    if bytes_eq word (codes "fail") then Some invalid.Fail
-    else (if bytes_eq word (codes "skip") then Some invalid.Skip
-    else (if bytes_eq word (codes "first") then Some invalid.First
-    else (if bytes_eq word (codes "last") then Some invalid.Last else None)))
+invalid_named word = named INVALIDS word
 
 -- whether a command can do this with lines that have no version: only those of all lines can put
 -- them before or after the others
@@ -58,22 +55,11 @@ invalid_asked (Some other) true by_default = None
 
 -- what a word of `--min-stability` names
 abbrev pub stability_named : List ℕ → Option Stability
-stability_named word =
-    if bytes_eq word (codes "dev") then Some stability.Dev
-    else (if bytes_eq word (codes "alpha") then Some stability.Alpha
-    else (if bytes_eq word (codes "beta") then Some stability.Beta
-    else (if bytes_eq word (codes "rc") then Some stability.Rc
-    else (if bytes_eq word (codes "stable") then Some stability.Stable else None))))
+stability_named word = named LEVELS word
 
 -- the operator that a word of `test` names, by its sign or by its two letters
 abbrev pub operator_named : List ℕ → Option Operator
-operator_named word =
-    if bytes_eq word (codes "<") || bytes_eq word (codes "lt") then Some operator.Less
-    else (if bytes_eq word (codes "<=") || bytes_eq word (codes "le") then Some operator.LessOrEqual
-    else (if bytes_eq word (codes "=") || bytes_eq word (codes "eq") then Some operator.Equal
-    else (if bytes_eq word (codes ">=") || bytes_eq word (codes "ge") then Some operator.GreaterOrEqual
-    else (if bytes_eq word (codes ">") || bytes_eq word (codes "gt") then Some operator.Greater
-    else None))))
+operator_named word = named OPERATORS word
 
 -- the bytes that a word of `-t` names: its own, if they are ASCII and there are any, a tab by `\t` and NUL by `\0`
 abbrev pub separators_named : List ℕ → Option (List ℕ)

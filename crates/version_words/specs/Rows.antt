@@ -21,6 +21,7 @@ use Rattle.version_words.specs.Wrong.{Quotes}
 use Rattle.version_words.specs.declared.faults.WordsFault.{WordsFault}
 use Rattle.version_words.specs.declared.named.Verb.{Verb}
 use Rattle.version_words.specs.declared.named.Verb.TheVariants.{Filter}
+use Rattle.version_words.specs.declared.table.TheConstants.{CRLF, CSV, FIELD_SEPARATOR, GROUP, HEADER, HEADER_LINES, INVALID, INVALID_TO, INVERT_MATCH, KEY_COLUMN, MATCH, MIN_STABILITY, SCHEME, SCHEME_COLUMN, SET, ZERO_TERMINATED}
 
 -- the rows of a command
 abbrev pub rows_in : ArgMatches → List Row
@@ -48,16 +49,16 @@ number_of name rows = option_and_then count_named (first_of name rows)
 
 -- the byte that ends lines
 abbrev pub end_of : List Row → ℕ
-end_of rows = if is_set (codes "zero-terminated") rows then 0 else 10
+end_of rows = if is_set ZERO_TERMINATED.name.now rows then 0 else 10
 
 -- the bytes between columns, if they are asked for; None of all where the word names none
 abbrev pub separators_asked : List Row → Option (Option (List ℕ))
 separators_asked rows = option_map_or (λ word. option_map Some (separators_named word))
-    (first_of (codes "field-separator") rows) (Some None)
+    (first_of FIELD_SEPARATOR.name.now rows) (Some None)
 
 -- whether columns are the fields of CSV
 abbrev pub is_csv : List Row → Bool
-is_csv rows = is_set (codes "csv") rows
+is_csv rows = is_set CSV.name.now rows
 
 -- the byte between these: the one that is asked for, which is neither a quote nor the byte that ends lines, or else a
 -- comma
@@ -79,7 +80,7 @@ AreSeparators rows (Csv separator) = (is_csv rows ≡ true) × (csv_separator_of
 abbrev pub HasNoSeparators : List Row → WordsFault → Type 0
 HasNoSeparators rows fault =
     ((separators_asked rows ≡ None) ⊎ ((is_csv rows ≡ true) × (csv_separator_of rows ≡ None)))
-    × Quotes (word_of (codes "field-separator") rows) fault
+    × Quotes (word_of FIELD_SEPARATOR.name.now rows) fault
 
 -- the separator of CSV
 abbrev pub csv_of : Separators → Option ℕ
@@ -92,7 +93,7 @@ line_end separators rows = record { byte = end_of rows; csv = csv_of separators 
 
 -- whether a carriage return at the end of a line belongs to the line's end, as it does in CSV
 abbrev pub is_crlf : List Row → Bool
-is_crlf rows = is_set (codes "crlf") rows || is_csv rows
+is_crlf rows = is_set CRLF.name.now rows || is_csv rows
 
 -- the column of a number that counts from 1
 abbrev pub column_at : Separators → ℕ → Column
@@ -104,7 +105,7 @@ column_of name separators rows = option_map (column_at separators) (number_of na
 
 -- the number of the version's column: where none is asked for, 1 of CSV
 abbrev pub key_of : List Row → Option ℕ
-key_of rows = option_or (number_of (codes "key") rows) (if is_csv rows then Some 1 else None)
+key_of rows = option_or (number_of KEY_COLUMN.name.now rows) (if is_csv rows then Some 1 else None)
 
 -- the name of the column that an option asks for, if its word is one
 abbrev pub name_of_column : List ℕ → List Row → Option (List ℕ)
@@ -121,23 +122,23 @@ has_no_column option rows = option_map_or is_no_column (first_of option rows) fa
 
 -- the level of the versions that are kept
 abbrev pub level_of : List Row → Option Stability
-level_of rows = option_map_or stability_named (first_of (codes "min-stability") rows) (Some Dev)
+level_of rows = option_map_or stability_named (first_of MIN_STABILITY.name.now rows) (Some Dev)
 
 -- the scheme that is asked for, or else mixed; None where the word names none
 abbrev pub scheme_of : List Row → Option Scheme
-scheme_of rows = option_map_or scheme_named (first_of (codes "scheme") rows) (Some Mixed)
+scheme_of rows = option_map_or scheme_named (first_of SCHEME.name.now rows) (Some Mixed)
 
 -- whether a column of schemes is given beside a scheme, or beside a set, which is one of a scheme
 abbrev pub has_two_schemes : List Row → Bool
-has_two_schemes rows = is_given (codes "scheme-column") rows
-    && (is_given (codes "scheme") rows || is_given (codes "match") rows)
+has_two_schemes rows = is_given SCHEME_COLUMN.name.now rows
+    && (is_given SCHEME.name.now rows || is_given MATCH.name.now rows)
 
 -- what is asked of lines without a version, if it is; None of all where the word names nothing that
 -- the command can do
 abbrev pub invalid_word : Verb → List Row → Option (Option Invalid)
 invalid_word command rows = option_map_or
     (λ word. option_and_then (λ asked. if may_ask command asked then Some (Some asked) else None)
-    (invalid_named word)) (first_of (codes "invalid") rows) (Some None)
+    (invalid_named word)) (first_of INVALID.name.now rows) (Some None)
 
 -- what becomes of them where nothing is asked
 abbrev pub invalid_unasked : Verb → Invalid
@@ -147,31 +148,31 @@ invalid_unasked other = Fail
 -- what becomes of lines without a version
 abbrev pub invalid_of : Verb → List Row → Option Invalid
 invalid_of command rows = option_and_then
-    (λ asked. invalid_asked asked (is_given (codes "invalid-to") rows) (invalid_unasked command))
+    (λ asked. invalid_asked asked (is_given INVALID_TO.name.now rows) (invalid_unasked command))
     (invalid_word command rows)
 
 -- how many lines stay on top: so many, one, or none
 abbrev pub header_of : List Row → ℕ
-header_of rows = unwrap_or (number_of (codes "header-lines") rows) (if is_set (codes "header") rows then 1 else 0)
+header_of rows = unwrap_or (number_of HEADER_LINES.name.now rows) (if is_set HEADER.name.now rows then 1 else 0)
 
 -- whether a column is asked for by its name where no line has names
 abbrev pub lacks_header : List Row → Bool
-lacks_header rows = header_of rows == 0 && (is_named (codes "key") rows
-    || (is_named (codes "group") rows || is_named (codes "scheme-column") rows))
+lacks_header rows = header_of rows == 0 && (is_named KEY_COLUMN.name.now rows
+    || (is_named GROUP.name.now rows || is_named SCHEME_COLUMN.name.now rows))
 
 -- whether a column is asked for that can't be: by the number of none, or by its name without a header
 abbrev pub has_wrong_column : List Row → Bool
-has_wrong_column rows = has_no_column (codes "key") rows || (has_no_column (codes "group") rows
-    || (has_no_column (codes "scheme-column") rows || lacks_header rows))
+has_wrong_column rows = has_no_column KEY_COLUMN.name.now rows || (has_no_column GROUP.name.now rows
+    || (has_no_column SCHEME_COLUMN.name.now rows || lacks_header rows))
 
 -- whether `filter` has no set where it needs one: no stability is asked for, or the set is to be inverted
 abbrev pub lacks_set : List Row → Bool
-lacks_set rows = not (is_given (codes "SET") rows)
-    && (not (is_given (codes "min-stability") rows) || is_set (codes "invert-match") rows)
+lacks_set rows = not (is_given SET.name.now rows)
+    && (not (is_given MIN_STABILITY.name.now rows) || is_set INVERT_MATCH.name.now rows)
 
 -- whether `diff` is given what is for lists alone
 abbrev pub has_option_of_lists : List Row → Bool
-has_option_of_lists rows = is_given (codes "group") rows || (is_given (codes "key") rows
-    || (is_given (codes "field-separator") rows || (is_given (codes "scheme") rows
-    || (is_given (codes "invalid") rows || (is_set (codes "zero-terminated") rows
+has_option_of_lists rows = is_given GROUP.name.now rows || (is_given KEY_COLUMN.name.now rows
+    || (is_given FIELD_SEPARATOR.name.now rows || (is_given SCHEME.name.now rows
+    || (is_given INVALID.name.now rows || (is_set ZERO_TERMINATED.name.now rows
     || is_crlf rows)))))

@@ -1,8 +1,8 @@
 //! The commands and the arguments that they take, as `clap` reads them.
 
-ghost use Rattle.std.specs.Prelude.{◌≡◌, [], false, map, IfOk};
+ghost use Rattle.std.specs.Prelude.{◌≡◌, ◌++◌, [], false, map, IfOk};
 ghost use Rattle.clap.specs.Words.{app_of, shape_of};
-ghost use Rattle.version_words.specs.Grammar.{command_app, name_of, program_app, program_shape, rule_of_argument, shape_of_command, with_rules, HasNoGlobal};
+ghost use Rattle.version_words.specs.Grammar.{command_app, command_shape, program_app, program_shape, rule_of_row, rules_of, with_rules, HasNoGlobal};
 
 mod arguments;
 
@@ -28,8 +28,8 @@ pub fn program<'a>(alloc: Global) -> Result<Command<'a>, AllocError>
     ensures { IfOk result (λ program. app_of program ≡ program_app) }
 {
     let mut program = program_alone(alloc).bin_name("versions")?;
-    for command in COMMANDS {
-        program = program.subcommand(command_of(alloc, command)?)?;
+    for (name, command) in COMMANDS {
+        program = program.subcommand(command_of(alloc, name, command)?)?;
     }
     Ok(program)
 }
@@ -50,21 +50,25 @@ fn program_alone<'a>(alloc: Global) -> Command<'a>
 }
 
 // Returns a command with its arguments.
-fn command_of<'a>(alloc: Global, command: Verb) -> Result<Command<'a>, AllocError>
-    ensures shape { IfOk result (λ made. shape_of made ≡ shape_of_command command) }
+fn command_of<'a>(
+    alloc: Global,
+    name: &'static str,
+    command: Verb,
+) -> Result<Command<'a>, AllocError>
+    ensures shape { IfOk result (λ made. shape_of made ≡ command_shape name.now (rules_of command)) }
     ensures local { IfOk result HasNoGlobal }
 {
     let entry = entry_of(command);
-    let command = with_arguments(alloc, command_alone(alloc, &entry), entry.own)?;
+    let command = with_arguments(alloc, command_alone(alloc, name, &entry), entry.own)?;
     with_arguments(alloc, command, entry.shared)
 }
 
 // Returns a command without its arguments.
-fn command_alone<'a>(alloc: Global, entry: &Entry) -> Command<'a>
-    ensures app { app_of result ≡ command_app entry.now.name.now [] }
+fn command_alone<'a>(alloc: Global, name: &'static str, entry: &Entry) -> Command<'a>
+    ensures app { app_of result ≡ command_app name.now [] }
     ensures local { HasNoGlobal result }
 {
-    let command = Command::new(alloc, entry.name)
+    let command = Command::new(alloc, name)
         .about(entry.about)
         .after_help(entry.example);
     match entry.usage {
@@ -80,8 +84,8 @@ fn with_arguments<'a>(
     arguments: &'static [Argument],
 ) -> Result<Command<'a>, AllocError>
     requires { HasNoGlobal command }
-    ensures app { IfOk result (λ made. app_of made
-        ≡ with_rules (app_of command.entry) (map rule_of_argument arguments.now)) }
+    ensures app { IfOk result (λ made. app_of made ≡ with_rules (app_of command.entry)
+        (map (rule_of_row (λ name. name.now)) arguments.now)) }
     ensures local { IfOk result HasNoGlobal }
 {
     let mut made = command;

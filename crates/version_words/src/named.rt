@@ -1,10 +1,13 @@
 //! What single words name.
 
-ghost use Rattle.std.specs.Prelude.{◌≡◌, option_map};
+ghost use Rattle.std.specs.Prelude.{◌≡◌, find, option_map};
 ghost use Rattle.std.specs.Char.{is_ascii};
 ghost use Rattle.std.specs.List.{list_all};
-ghost use Rattle.version_words.specs.Named.{count_named, invalid_asked, invalid_named, is_no_column, is_number, may_ask, number_named, operator_named, place_named, separators_named, stability_named, verb_named};
+ghost use Rattle.std.specs.Str.{bytes_eq};
+ghost use Rattle.version_words.specs.Named.{count_named, invalid_asked, invalid_named, is_no_column, is_number, may_ask, number_named, operator_named, place_named, separators_named, stability_named, texts_in, value_named, verb_named};
 
+use crate::table::COMMANDS;
+use std::alloc::{AllocError, Global};
 use version_answers::Operator;
 use version_commands::Invalid;
 use version_order::is_digits;
@@ -27,25 +30,65 @@ pub enum Verb {
     Next,
 }
 
+/// What a word of `--invalid` names.
+pub const INVALIDS: [(&str, Invalid); 4] = [
+    ("fail", Invalid::Fail),
+    ("skip", Invalid::Skip),
+    ("first", Invalid::First),
+    ("last", Invalid::Last),
+];
+
+/// What a word of `--min-stability` names.
+pub const LEVELS: [(&str, Stability); 5] = [
+    ("dev", Stability::Dev),
+    ("alpha", Stability::Alpha),
+    ("beta", Stability::Beta),
+    ("rc", Stability::Rc),
+    ("stable", Stability::Stable),
+];
+
+/// The operator that a word of `test` names, by its sign or by its two letters.
+pub const OPERATORS: [(&str, Operator); 10] = [
+    ("<", Operator::Less),
+    ("<=", Operator::LessOrEqual),
+    ("=", Operator::Equal),
+    (">=", Operator::GreaterOrEqual),
+    (">", Operator::Greater),
+    ("lt", Operator::Less),
+    ("le", Operator::LessOrEqual),
+    ("eq", Operator::Equal),
+    ("ge", Operator::GreaterOrEqual),
+    ("gt", Operator::Greater),
+];
+
+// Returns what a word names in a table.
+fn value_named<V: Copy>(table: &[(&'static str, V)], word: &str) -> Option<V>
+    ensures { result ≡ value_named (texts_in (λ name. name.now) table.now) word.now }
+{
+    first_named(table, word)
+}
+
+// Returns what stands in the first row of this name.
+fn first_named<V: Copy>(table: &[(&'static str, V)], word: &str) -> Option<V>
+    ensures { result ≡ option_map (λ row. row.1) (find (λ row. bytes_eq row.0.now word.now) table.now) }
+{
+    let (_, value) = table.iter().find(|row| row.0 == word)?;
+    Some(*value)
+}
+
+/// Returns the names in a table.
+pub fn names_of<V>(
+    alloc: Global,
+    table: &[(&'static str, V)],
+) -> Result<Vec<&'static str>, AllocError> {
+    table.iter().map(|row| row.0).collect(alloc)
+}
+
 /// Returns the command of a name.
 pub fn verb_named(word: &str) -> Option<Verb>
     ensures { result ≡ verb_named word.now }
 {
-    match word {
-        "sort" => Some(Verb::Sort),
-        "newest" => Some(Verb::Newest),
-        "filter" => Some(Verb::Filter),
-        "show" => Some(Verb::Show),
-        "key" => Some(Verb::Key),
-        "test" => Some(Verb::Test),
-        "compare" => Some(Verb::Compare),
-        "why" => Some(Verb::Why),
-        "implies" => Some(Verb::Implies),
-        "meets" => Some(Verb::Meets),
-        "diff" => Some(Verb::Diff),
-        "next" => Some(Verb::Next),
-        _ => None,
-    }
+    value_named(&COMMANDS, word)
 }
 
 /// Returns what becomes of lines without a version, or None if that is not to be had.
@@ -64,13 +107,7 @@ pub fn invalid_asked(asked: Option<Invalid>, to_file: bool, by_default: Invalid)
 pub fn invalid_named(word: &str) -> Option<Invalid>
     ensures { result ≡ invalid_named word.now }
 {
-    match word {
-        "fail" => Some(Invalid::Fail),
-        "skip" => Some(Invalid::Skip),
-        "first" => Some(Invalid::First),
-        "last" => Some(Invalid::Last),
-        _ => None,
-    }
+    value_named(&INVALIDS, word)
 }
 
 /// Returns whether a command can do this with lines that have no version.
@@ -87,28 +124,14 @@ pub fn may_ask(command: Verb, asked: Invalid) -> bool
 pub fn stability_named(word: &str) -> Option<Stability>
     ensures { result ≡ stability_named word.now }
 {
-    match word {
-        "dev" => Some(Stability::Dev),
-        "alpha" => Some(Stability::Alpha),
-        "beta" => Some(Stability::Beta),
-        "rc" => Some(Stability::Rc),
-        "stable" => Some(Stability::Stable),
-        _ => None,
-    }
+    value_named(&LEVELS, word)
 }
 
 /// Returns the operator that a word of `test` names.
 pub fn operator_named(word: &str) -> Option<Operator>
     ensures { result ≡ operator_named word.now }
 {
-    match word {
-        "<" | "lt" => Some(Operator::Less),
-        "<=" | "le" => Some(Operator::LessOrEqual),
-        "=" | "eq" => Some(Operator::Equal),
-        ">=" | "ge" => Some(Operator::GreaterOrEqual),
-        ">" | "gt" => Some(Operator::Greater),
-        _ => None,
-    }
+    value_named(&OPERATORS, word)
 }
 
 /// Returns the bytes that a word of `-t` names.

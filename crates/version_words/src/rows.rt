@@ -1,6 +1,6 @@
 //! What the words say to a command.
 
-ghost use Rattle.std.specs.Prelude.{◌≡◌, ◌⊎◌, None, Some, codes, false, true, map, option_map, IfErr, IfOk, OnOk, unwrap_or};
+ghost use Rattle.std.specs.Prelude.{◌≡◌, ◌⊎◌, None, Some, false, true, map, option_map, IfErr, IfOk, OnOk, unwrap_or};
 ghost use Rattle.clap.specs.Words.{all_of, first_of, subcommand_rows_of};
 ghost use Rattle.version_words.specs.Rows.{column_at, column_of, csv_separator, end_of, has_no_column, has_option_of_lists, has_two_schemes, has_wrong_column, header_of, invalid_of, invalid_unasked, invalid_word, is_crlf, is_csv, is_given, is_named, is_set, key_of, lacks_header, lacks_set, level_of, line_end, name_of_column, number_of, rows_in, scheme_of, separators_asked, word_of, words_of, AreSeparators, HasNoSeparators};
 ghost use Rattle.version_words.specs.Task.{HasNoColumn, HasWrongColumn, HasWrongInvalid, HasWrongLevel, HasWrongScheme};
@@ -11,6 +11,10 @@ use crate::faults::WordsFault;
 use crate::named::{
     Verb, count_named, invalid_asked, invalid_named, is_no_column, is_number, may_ask,
     separators_named, stability_named, verb_named,
+};
+use crate::table::{
+    CRLF, CSV, FIELD_SEPARATOR, GROUP, HEADER, HEADER_LINES, INVALID, INVALID_TO, INVERT_MATCH,
+    KEY_COLUMN, MATCH, MIN_STABILITY, SCHEME, SCHEME_COLUMN, SET, ZERO_TERMINATED,
 };
 use crate::wrong::{
     wrong, wrong_column, wrong_csv_separator, wrong_invalid, wrong_scheme, wrong_separators,
@@ -92,7 +96,7 @@ pub fn number_of(options: &ArgMatches<'_>, name: &str) -> Option<usize>
 pub fn end_of(options: &ArgMatches<'_>) -> u8
     ensures { result ≡ end_of (rows_in options.now) }
 {
-    if is_set(options, "zero-terminated") {
+    if is_set(options, ZERO_TERMINATED.name) {
         0
     } else {
         b'\n'
@@ -103,9 +107,9 @@ pub fn end_of(options: &ArgMatches<'_>) -> u8
 pub fn header_of(options: &ArgMatches<'_>) -> usize
     ensures { result ≡ header_of (rows_in options.now) }
 {
-    match number_of(options, "header-lines") {
+    match number_of(options, HEADER_LINES.name) {
         Some(count) => count,
-        None => usize::from(is_set(options, "header")),
+        None => usize::from(is_set(options, HEADER.name)),
     }
 }
 
@@ -121,7 +125,7 @@ pub fn separators_of<'w>(
     if is_csv(options) {
         return match csv_separator(end_of(options), asked) {
             Some(separator) => Ok(Separators::Csv(separator)),
-            None => Err(wrong_csv_separator(alloc, word_of(options, "field-separator"))),
+            None => Err(wrong_csv_separator(alloc, word_of(options, FIELD_SEPARATOR.name))),
         };
     }
     match asked {
@@ -138,9 +142,9 @@ fn separators_asked<'w>(
     ensures ok { IfOk result (λ asked. separators_asked (rows_in options.now)
         ≡ Some (option_map (λ bytes. bytes.now) asked)) }
     ensures faults { IfErr result (ComesOfWrong (λ fault. (separators_asked (rows_in options.now) ≡ None)
-        × Quotes (word_of (codes "field-separator") (rows_in options.now)) fault)) }
+        × Quotes (word_of FIELD_SEPARATOR.name.now (rows_in options.now)) fault)) }
 {
-    let Some(word) = text_of(options, "field-separator") else {
+    let Some(word) = text_of(options, FIELD_SEPARATOR.name) else {
         return Ok(None);
     };
     match separators_named(word) {
@@ -164,7 +168,7 @@ fn csv_separator(end: u8, asked: Option<&[u8]>) -> Option<u8>
 fn is_csv(options: &ArgMatches<'_>) -> bool
     ensures { result ≡ is_csv (rows_in options.now) }
 {
-    is_set(options, "csv")
+    is_set(options, CSV.name)
 }
 
 /// Returns how lines end.
@@ -185,7 +189,7 @@ pub fn line_end(separators: Separators<'_>, options: &ArgMatches<'_>) -> LineEnd
 pub fn is_crlf(options: &ArgMatches<'_>) -> bool
     ensures { result ≡ is_crlf (rows_in options.now) }
 {
-    is_set(options, "crlf") || is_csv(options)
+    is_set(options, CRLF.name) || is_csv(options)
 }
 
 /// Returns the column that an option names.
@@ -213,7 +217,7 @@ pub fn column_at(separators: Separators<'_>, number: usize) -> Column<'_>
 pub fn key_column<'w>(separators: Separators<'w>, options: &ArgMatches<'_>) -> Option<Column<'w>>
     ensures { result ≡ option_map (column_at separators.entry) (key_of (rows_in options.now)) }
 {
-    match number_of(options, "key") {
+    match number_of(options, KEY_COLUMN.name) {
         Some(number) => Some(column_at(separators, number)),
         None if is_csv(options) => Some(column_at(separators, 1)),
         None => None,
@@ -243,23 +247,18 @@ fn lacks_header(options: &ArgMatches<'_>) -> bool
     ensures { result ≡ lacks_header (rows_in options.now) }
 {
     header_of(options) == 0
-        && (is_named(options, "key")
-            || is_named(options, "group")
-            || is_named(options, "scheme-column"))
+        && (is_named(options, KEY_COLUMN.name)
+            || is_named(options, GROUP.name)
+            || is_named(options, SCHEME_COLUMN.name))
 }
 
 // Fails where an option asks for a column by the number of none.
-fn refuse_number(
-    alloc: Global,
-    options: &ArgMatches<'_>,
-    option: &str,
-    argument: &str,
-) -> Result<(), WordsFault>
+fn refuse_number(alloc: Global, options: &ArgMatches<'_>, option: &str) -> Result<(), WordsFault>
     ensures ok { OnOk result (has_no_column option.now (rows_in options.now) ≡ false) }
     ensures faults { IfErr result (ComesOfWrong (HasNoColumn option.now (rows_in options.now))) }
 {
     match text_of(options, option) {
-        Some(word) if is_no_column(word) => Err(wrong_column(alloc, word, argument)),
+        Some(word) if is_no_column(word) => Err(wrong_column(alloc, word, option)),
         _ => Ok(()),
     }
 }
@@ -269,14 +268,9 @@ pub fn refuse_columns(alloc: Global, options: &ArgMatches<'_>) -> Result<(), Wor
     ensures ok { OnOk result (has_wrong_column (rows_in options.now) ≡ false) }
     ensures faults { IfErr result (ComesOfWrong (HasWrongColumn (rows_in options.now))) }
 {
-    refuse_number(alloc, options, "key", "'--key <COLUMN>'")?;
-    refuse_number(alloc, options, "group", "'--group <COLUMN>'")?;
-    refuse_number(
-        alloc,
-        options,
-        "scheme-column",
-        "'--scheme-column <COLUMN>'",
-    )?;
+    refuse_number(alloc, options, KEY_COLUMN.name)?;
+    refuse_number(alloc, options, GROUP.name)?;
+    refuse_number(alloc, options, SCHEME_COLUMN.name)?;
     if lacks_header(options) {
         return Err(wrong(alloc, "a column by its name needs --header"));
     }
@@ -288,7 +282,7 @@ pub fn level_of(alloc: Global, options: &ArgMatches<'_>) -> Result<Stability, Wo
     ensures ok { IfOk result (λ level. level_of (rows_in options.now) ≡ Some level) }
     ensures faults { IfErr result (ComesOfWrong (HasWrongLevel (rows_in options.now))) }
 {
-    let Some(word) = text_of(options, "min-stability") else {
+    let Some(word) = text_of(options, MIN_STABILITY.name) else {
         return Ok(Stability::Dev);
     };
     match stability_named(word) {
@@ -302,7 +296,7 @@ pub fn scheme_of(alloc: Global, options: &ArgMatches<'_>) -> Result<Scheme, Word
     ensures ok { IfOk result (λ scheme. scheme_of (rows_in options.now) ≡ Some scheme) }
     ensures faults { IfErr result (ComesOfWrong (HasWrongScheme (rows_in options.now))) }
 {
-    let Some(word) = text_of(options, "scheme") else {
+    let Some(word) = text_of(options, SCHEME.name) else {
         return Ok(Scheme::Mixed);
     };
     match Scheme::of_name(word.as_bytes()) {
@@ -318,7 +312,7 @@ pub fn scheme_column_of<'w>(
     options: &ArgMatches<'_>,
 ) -> Result<Option<Column<'w>>, WordsFault>
     ensures column { IfOk result (λ column. column
-        ≡ column_of (codes "scheme-column") separators.entry (rows_in options.now)) }
+        ≡ column_of SCHEME_COLUMN.name.now separators.entry (rows_in options.now)) }
     ensures one { IfOk result (λ _. has_two_schemes (rows_in options.now) ≡ false) }
     ensures faults { IfErr result (ComesOfWrong (λ _. has_two_schemes (rows_in options.now) ≡ true)) }
 {
@@ -327,15 +321,15 @@ pub fn scheme_column_of<'w>(
             "the argument '--scheme-column <COLUMN>' cannot be used with '--scheme <NAME>' or '--match <SET>'";
         return Err(wrong(alloc, what));
     }
-    Ok(column_of(options, "scheme-column", separators))
+    Ok(column_of(options, SCHEME_COLUMN.name, separators))
 }
 
 // Returns whether a column of schemes is given beside a scheme or a set.
 fn has_two_schemes(options: &ArgMatches<'_>) -> bool
     ensures { result ≡ has_two_schemes (rows_in options.now) }
 {
-    is_given(options, "scheme-column")
-        && (is_given(options, "scheme") || is_given(options, "match"))
+    is_given(options, SCHEME_COLUMN.name)
+        && (is_given(options, SCHEME.name) || is_given(options, MATCH.name))
 }
 
 /// Returns what becomes of lines without a version.
@@ -350,7 +344,7 @@ pub fn invalid_of(
     let asked = invalid_word(alloc, command, options)?;
     match invalid_asked(
         asked,
-        is_given(options, "invalid-to"),
+        is_given(options, INVALID_TO.name),
         invalid_unasked(command),
     ) {
         Some(invalid) => Ok(invalid),
@@ -369,9 +363,9 @@ fn invalid_word(
 ) -> Result<Option<Invalid>, WordsFault>
     ensures ok { IfOk result (λ asked. invalid_word command (rows_in options.now) ≡ Some asked) }
     ensures faults { IfErr result (ComesOfWrong (λ fault. (invalid_word command (rows_in options.now) ≡ None)
-        × Quotes (word_of (codes "invalid") (rows_in options.now)) fault)) }
+        × Quotes (word_of INVALID.name.now (rows_in options.now)) fault)) }
 {
-    let Some(word) = text_of(options, "invalid") else {
+    let Some(word) = text_of(options, INVALID.name) else {
         return Ok(None);
     };
     match invalid_named(word) {
@@ -394,12 +388,12 @@ fn invalid_unasked(command: Verb) -> Invalid
 pub fn has_option_of_lists(options: &ArgMatches<'_>) -> bool
     ensures { result ≡ has_option_of_lists (rows_in options.now) }
 {
-    is_given(options, "group")
-        || is_given(options, "key")
-        || is_given(options, "field-separator")
-        || is_given(options, "scheme")
-        || is_given(options, "invalid")
-        || is_set(options, "zero-terminated")
+    is_given(options, GROUP.name)
+        || is_given(options, KEY_COLUMN.name)
+        || is_given(options, FIELD_SEPARATOR.name)
+        || is_given(options, SCHEME.name)
+        || is_given(options, INVALID.name)
+        || is_set(options, ZERO_TERMINATED.name)
         || is_crlf(options)
 }
 
@@ -407,6 +401,6 @@ pub fn has_option_of_lists(options: &ArgMatches<'_>) -> bool
 pub fn lacks_set(options: &ArgMatches<'_>) -> bool
     ensures { result ≡ lacks_set (rows_in options.now) }
 {
-    !is_given(options, "SET")
-        && (!is_given(options, "min-stability") || is_set(options, "invert-match"))
+    !is_given(options, SET.name)
+        && (!is_given(options, MIN_STABILITY.name) || is_set(options, INVERT_MATCH.name))
 }

@@ -1,13 +1,14 @@
-//! The commands, the arguments that they take, and what help says of them.
+//! The commands, the arguments that they take, and what help says of them. Definitions read the names and the arguments
+//! here.
 
 ghost use Rattle.std.specs.Prelude.{◌≡◌, ◌++◌, map};
-ghost use Rattle.version_words.specs.Grammar.{name_of, rule_of_argument, rules_of};
+ghost use Rattle.version_words.specs.Grammar.{rule_of_row, rules_of};
 
 use crate::named::Verb;
 
 /// What an argument is.
 #[derive(Clone, Copy)]
-pub enum Form {
+pub enum Form<T> {
     /// A word that has to be there.
     Word,
     /// A word that may be there.
@@ -21,23 +22,44 @@ pub enum Form {
     /// An option with a number from 1 on.
     Number,
     /// An option with a text, which help names so.
-    Text(&'static str),
+    Text(T),
 }
 
-/// An argument: its form, the letter of an option that has one, its name, and what help says of it.
+/// An argument: its form, the letter of an option that has one, its name, and what help says of it, where `[schemes]`
+/// and `[levels]` stand for their names. Definitions see a text in a constant only where its type is a parameter.
 #[derive(Clone, Copy)]
-pub struct Argument {
-    pub form: Form,
+pub struct Row<T> {
+    pub form: Form<T>,
     pub letter: Option<char>,
-    pub name: &'static str,
-    pub help: &'static str,
+    pub name: T,
+    pub help: T,
 }
 
-/// A command: its name, what help says of it, with an example, and its arguments, the last of which it shares with
-/// others.
+pub type Argument = Row<&'static str>;
+
+// A row: what it is, the letter of an option that has one, its name, and what help says of it.
+macro_rules! row {
+    ($form:ident $(($value:literal))? $name:literal: $help:literal) => {
+        Row {
+            form: Form::$form $(($value))?,
+            letter: None,
+            name: $name,
+            help: $help,
+        }
+    };
+    ($form:ident $(($value:literal))? -$letter:literal $name:literal: $help:literal) => {
+        Row {
+            form: Form::$form $(($value))?,
+            letter: Some($letter),
+            name: $name,
+            help: $help,
+        }
+    };
+}
+
+/// A command: what help says of it, with an example, and its arguments, the last of which it shares with others.
 #[derive(Clone, Copy)]
 pub struct Entry {
-    pub name: &'static str,
     pub about: &'static str,
     /// How it is used, if its arguments don't show that.
     pub usage: Option<&'static str>,
@@ -46,37 +68,29 @@ pub struct Entry {
     pub shared: &'static [Argument],
 }
 
-/// The commands, in the order in which help has them.
-pub const COMMANDS: [Verb; 12] = [
-    Verb::Sort,
-    Verb::Newest,
-    Verb::Filter,
-    Verb::Show,
-    Verb::Key,
-    Verb::Test,
-    Verb::Compare,
-    Verb::Why,
-    Verb::Implies,
-    Verb::Meets,
-    Verb::Diff,
-    Verb::Next,
-];
-
-/// The names of the commands.
-pub const NAMES: [&str; 12] = [
-    "sort", "newest", "filter", "show", "key", "test", "compare", "why", "implies", "meets",
-    "diff", "next",
+/// The commands by their names, in the order in which help has them.
+pub const COMMANDS: [(&str, Verb); 12] = [
+    ("sort", Verb::Sort),
+    ("newest", Verb::Newest),
+    ("filter", Verb::Filter),
+    ("show", Verb::Show),
+    ("key", Verb::Key),
+    ("test", Verb::Test),
+    ("compare", Verb::Compare),
+    ("why", Verb::Why),
+    ("implies", Verb::Implies),
+    ("meets", Verb::Meets),
+    ("diff", Verb::Diff),
+    ("next", Verb::Next),
 ];
 
 /// Returns what the table has of a command.
 pub fn entry_of(command: Verb) -> Entry
-    ensures name { result.name.now ≡ name_of command }
-    ensures rules { map rule_of_argument result.own.now ++ map rule_of_argument result.shared.now
+    ensures { map (rule_of_row (λ name. name.now)) result.own.now ++ map (rule_of_row (λ name. name.now)) result.shared.now
         ≡ rules_of command }
 {
     match command {
         Verb::Sort => Entry {
-            name: "sort",
             about: "Write lines in the order of their versions",
             usage: None,
             example: "Example:
@@ -88,7 +102,6 @@ pub fn entry_of(command: Verb) -> Entry
             shared: &LINES,
         },
         Verb::Newest => Entry {
-            name: "newest",
             about: "Write the line with the newest version, or that of each group",
             usage: None,
             example: "Example:
@@ -102,7 +115,6 @@ pub fn entry_of(command: Verb) -> Entry
             shared: &LINES,
         },
         Verb::Filter => Entry {
-            name: "filter",
             about: "Write lines whose versions are in a set",
             usage: None,
             example: "Example:
@@ -113,7 +125,6 @@ pub fn entry_of(command: Verb) -> Entry
             shared: &LINES,
         },
         Verb::Show => Entry {
-            name: "show",
             about: "Write the kind of versions, their numbers and other fields",
             usage: None,
             example: "Example:
@@ -129,7 +140,6 @@ pub fn entry_of(command: Verb) -> Entry
             shared: &ENDS,
         },
         Verb::Key => Entry {
-            name: "key",
             about: "Write sort keys in hexadecimal, whose order as bytes is that of the versions",
             usage: None,
             example: "Example:
@@ -139,7 +149,6 @@ pub fn entry_of(command: Verb) -> Entry
             shared: &ENDS,
         },
         Verb::Test => Entry {
-            name: "test",
             about: "End with 0 if it is so, 1 if not, and 2 if a word is wrong; write nothing",
             usage: Some(
                 "versions test A OP B
@@ -152,7 +161,6 @@ pub fn entry_of(command: Verb) -> Entry
             shared: &NOTHING,
         },
         Verb::Compare => Entry {
-            name: "compare",
             about: "Write <, = or > between two versions",
             usage: None,
             example: "Example:
@@ -162,7 +170,6 @@ pub fn entry_of(command: Verb) -> Entry
             shared: &NOTHING,
         },
         Verb::Why => Entry {
-            name: "why",
             about: "Write whether each version is in a set, or which members leave it out",
             usage: None,
             example: "Example:
@@ -174,7 +181,6 @@ pub fn entry_of(command: Verb) -> Entry
             shared: &ENDS,
         },
         Verb::Implies => Entry {
-            name: "implies",
             about: "Write yes, and end with 0, if all that is in a set is in another; else no and 1",
             usage: None,
             example: "Example:
@@ -184,7 +190,6 @@ pub fn entry_of(command: Verb) -> Entry
             shared: &NOTHING,
         },
         Verb::Meets => Entry {
-            name: "meets",
             about: "Write yes, and end with 0, if two sets have something in common; else no and 1",
             usage: None,
             example: "Example:
@@ -194,7 +199,6 @@ pub fn entry_of(command: Verb) -> Entry
             shared: &NOTHING,
         },
         Verb::Diff => Entry {
-            name: "diff",
             about: "Write where two versions differ first, or what changed between two lists of names",
             usage: None,
             example: "Example:
@@ -204,7 +208,6 @@ pub fn entry_of(command: Verb) -> Entry
             shared: &ENDS,
         },
         Verb::Next => Entry {
-            name: "next",
             about: "Write the version that comes next, and what stands before it in a tag",
             usage: None,
             example: "Example:
@@ -220,330 +223,197 @@ pub fn entry_of(command: Verb) -> Entry
     }
 }
 
-const SET: Argument = Argument {
-    form: Form::Word,
-    letter: None,
-    name: "SET",
-    help: "Which versions, such as '>=1.2, <2 || ^3'",
-};
+/// What the commands take, each of its own.
+pub static SORT: [Argument; 5] = [FILES, REVERSE, UNIQUE, SCHEME_COLUMN, INVALID];
 
-const FILES: Argument = Argument {
-    form: Form::Words,
-    letter: None,
-    name: "FILE",
-    help: "Files that are read in turn; - is standard input, which is read without any",
-};
+pub static NEWEST: [Argument; 5] = [FILES, COUNT, GROUP, SCHEME_COLUMN, FAIL_OR_SKIP];
 
-const VERSIONS: Argument = Argument {
-    form: Form::Words,
-    letter: None,
-    name: "VERSION",
-    help: "Versions; without any, or with - alone, the lines of standard input",
-};
+pub static FILTER: [Argument; 4] = [SET_OR_NONE, FILES, INVERT_MATCH, SKIP_OR_OTHER];
 
-const FIELD_SEPARATOR: Argument = Argument {
-    form: Form::Text("SEP"),
-    letter: Some('t'),
-    name: "field-separator",
-    help: "The bytes between columns, each alone, \\t or \\0 too; runs of spaces and tabs unless they are given",
-};
+pub static SHOW: [Argument; 4] = [VERSIONS, JSON, TAGS, PREFIX];
 
-const CSV: Argument = Argument {
-    form: Form::Flag,
-    letter: None,
-    name: "csv",
-    help: "Lines are records of CSV and columns their fields: column 1 without -k, a comma between them without -t",
-};
+pub static KEY: [Argument; 4] = [VERSIONS, TAGS, PREFIX, SCHEME];
 
-const TAGS: Argument = Argument {
-    form: Form::Flag,
-    letter: None,
-    name: "tags",
-    help: "The version is that of a tag, such as v1.2.0 or tool-1.2.0",
-};
+pub static TEST: [Argument; 4] = [WORDS_OF_TEST, TAGS, PREFIX, SCHEME];
 
-const PREFIX: Argument = Argument {
-    form: Form::Text("P"),
-    letter: None,
-    name: "prefix",
-    help: "The version is what follows the prefix P",
-};
+pub static COMPARE: [Argument; 6] = [A, B, EXPLAIN, TAGS, PREFIX, SCHEME];
 
-const SCHEME: Argument = Argument {
-    form: Form::Text("NAME"),
-    letter: None,
-    name: "scheme",
-    help: "Whose order it goes by; mixed unless it is given [possible values: mixed, deb, rpm, pypi, semver, gem]",
-};
+pub static WHY: [Argument; 5] = [SET, VERSIONS, TAGS, PREFIX, SCHEME];
 
-const SCHEME_COLUMN: Argument = Argument {
-    form: Form::Text("COLUMN"),
-    letter: None,
-    name: "scheme-column",
-    help: "The column names the scheme of a line; the lines of each scheme together, as schemes first appear",
-};
+pub static SETS: [Argument; 3] = [SET, OTHER, SCHEME];
 
-const ZERO_TERMINATED: Argument = Argument {
-    form: Form::Flag,
-    letter: Some('z'),
-    name: "zero-terminated",
-    help: "Lines end with NUL, and not with a line feed",
-};
-
-const CRLF: Argument = Argument {
-    form: Form::Flag,
-    letter: None,
-    name: "crlf",
-    help: "A carriage return at a line's end belongs to the end",
-};
-
-static SORT: [Argument; 5] = [
-    FILES,
-    Argument {
-        form: Form::Flag,
-        letter: Some('r'),
-        name: "reverse",
-        help: "From the last to the first; lines that compare equal keep their order",
-    },
-    Argument {
-        form: Form::Flag,
-        letter: Some('u'),
-        name: "unique",
-        help: "Of lines whose versions tie in precedence, the first of the input alone",
-    },
-    SCHEME_COLUMN,
-    Argument {
-        form: Form::Text("WHAT"),
-        letter: None,
-        name: "invalid",
-        help: "What becomes of lines without a version; fail unless it is given [possible values: fail, skip, first, last]",
-    },
-];
-
-static NEWEST: [Argument; 5] = [
-    FILES,
-    Argument {
-        form: Form::Number,
-        letter: Some('n'),
-        name: "count",
-        help: "How many, the newest first; 1 unless it is given",
-    },
-    Argument {
-        form: Form::Text("COLUMN"),
-        letter: Some('g'),
-        name: "group",
-        help: "Of each value of the column, the groups as they first appear",
-    },
-    SCHEME_COLUMN,
-    Argument {
-        form: Form::Text("WHAT"),
-        letter: None,
-        name: "invalid",
-        help: "What becomes of lines without a version; fail unless it is given [possible values: fail, skip]",
-    },
-];
-
-static FILTER: [Argument; 4] = [
-    Argument {
-        form: Form::FirstWord,
-        letter: None,
-        name: "SET",
-        help: "Which versions, such as '>=1.2, <2 || ^3'; --min-stability alone needs none",
-    },
-    FILES,
-    Argument {
-        form: Form::Flag,
-        letter: Some('v'),
-        name: "invert-match",
-        help: "Write the lines whose versions are not in the set",
-    },
-    Argument {
-        form: Form::Text("WHAT"),
-        letter: None,
-        name: "invalid",
-        help: "What becomes of lines without a version; skip unless it is given [possible values: fail, skip, first, last]",
-    },
-];
-
-static SHOW: [Argument; 4] = [
-    VERSIONS,
-    Argument {
-        form: Form::Flag,
-        letter: None,
-        name: "json",
-        help: "Write a JSON object for each",
-    },
-    TAGS,
-    PREFIX,
-];
-
-static KEY: [Argument; 4] = [VERSIONS, TAGS, PREFIX, SCHEME];
-
-static TEST: [Argument; 4] = [
-    Argument {
-        form: Form::TwoOrThree,
-        letter: None,
-        name: "WORD",
-        help: "Two versions with <, <=, =, >=, > or lt, le, eq, ge, gt between them, or a version and a set",
-    },
-    TAGS,
-    PREFIX,
-    SCHEME,
-];
-
-static COMPARE: [Argument; 6] = [
-    Argument {
-        form: Form::Word,
-        letter: None,
-        name: "A",
-        help: "A version",
-    },
-    Argument {
-        form: Form::Word,
-        letter: None,
-        name: "B",
-        help: "Another",
-    },
-    Argument {
-        form: Form::Flag,
-        letter: None,
-        name: "explain",
-        help: "Write where they differ first, and what they have there",
-    },
-    TAGS,
-    PREFIX,
-    SCHEME,
-];
-
-static WHY: [Argument; 5] = [SET, VERSIONS, TAGS, PREFIX, SCHEME];
-
-static SETS: [Argument; 3] = [
-    SET,
-    Argument {
-        form: Form::Word,
-        letter: None,
-        name: "OTHER",
-        help: "Another",
-    },
-    SCHEME,
-];
-
-static DIFF: [Argument; 11] = [
-    Argument {
-        form: Form::Word,
-        letter: None,
-        name: "A",
-        help: "A version, or with --lists the file with the old names and versions",
-    },
-    Argument {
-        form: Form::Word,
-        letter: None,
-        name: "B",
-        help: "Another, or the file with the new ones; - is standard input",
-    },
-    Argument {
-        form: Form::Flag,
-        letter: None,
-        name: "lists",
-        help: "Write which names were added, removed, raised or lowered",
-    },
-    Argument {
-        form: Form::Number,
-        letter: Some('g'),
-        name: "group",
-        help: "The name is column N; 1 unless it is given",
-    },
-    Argument {
-        form: Form::Number,
-        letter: Some('k'),
-        name: "key",
-        help: "The version is column N; 2 unless it is given",
-    },
+pub static DIFF: [Argument; 11] = [
+    OLD,
+    NEW,
+    LISTS,
+    NAME_COLUMN,
+    VERSION_COLUMN,
     FIELD_SEPARATOR,
     CSV,
     TAGS,
     PREFIX,
     SCHEME,
-    Argument {
-        form: Form::Text("WHAT"),
-        letter: None,
-        name: "invalid",
-        help: "What becomes of lines without a version; fail unless it is given [possible values: fail, skip]",
-    },
+    FAIL_OR_SKIP,
 ];
 
-static NEXT: [Argument; 5] = [
-    Argument {
-        form: Form::Word,
-        letter: None,
-        name: "PLACE",
-        help: "major, minor, patch, release, pre, or the place of a number, counted from 0",
-    },
-    VERSIONS,
-    Argument {
-        form: Form::Text("W"),
-        letter: None,
-        name: "word",
-        help: "What the pre-release of pre begins with, such as rc, where the version has none of its own",
-    },
-    TAGS,
-    PREFIX,
-];
+pub static NEXT: [Argument; 5] = [PLACE, VERSIONS, PRE_WORD, TAGS, PREFIX];
 
-// What the commands take that answer with lines of their input, after their own arguments.
-static LINES: [Argument; 14] = [
-    Argument {
-        form: Form::Text("FILE"),
-        letter: None,
-        name: "invalid-to",
-        help: "Write lines without a version to this file, and leave them out",
-    },
-    Argument {
-        form: Form::Text("COLUMN"),
-        letter: Some('k'),
-        name: "key",
-        help: "The column of the version: a number, from 1 on, or with --header a name",
-    },
+/// What the commands take that answer with lines of their input, after their own arguments.
+pub static LINES: [Argument; 14] = [
+    INVALID_TO,
+    KEY_COLUMN,
     FIELD_SEPARATOR,
     CSV,
     TAGS,
     PREFIX,
     SCHEME,
-    Argument {
-        form: Form::Text("LEVEL"),
-        letter: None,
-        name: "min-stability",
-        help: "Leave out versions that are less stable [possible values: dev, alpha, beta, rc, stable]",
-    },
-    Argument {
-        form: Form::Text("SET"),
-        letter: None,
-        name: "match",
-        help: "Leave out versions that are not in this set",
-    },
-    Argument {
-        form: Form::Flag,
-        letter: None,
-        name: "header",
-        help: "The first line stays on top, as it is",
-    },
-    Argument {
-        form: Form::Number,
-        letter: None,
-        name: "header-lines",
-        help: "So many lines stay on top",
-    },
+    MIN_STABILITY,
+    MATCH,
+    HEADER,
+    HEADER_LINES,
     ZERO_TERMINATED,
     CRLF,
-    Argument {
-        form: Form::Flag,
-        letter: None,
-        name: "progress",
-        help: "Tell on standard error how far the work is",
-    },
+    PROGRESS,
 ];
 
-// How lines end.
-static ENDS: [Argument; 2] = [ZERO_TERMINATED, CRLF];
+/// How lines end.
+pub static ENDS: [Argument; 2] = [ZERO_TERMINATED, CRLF];
 
 static NOTHING: [Argument; 0] = [];
+
+pub const FILES: Argument = row!(Words "FILE":
+    "Files that are read in turn; - is standard input, which is read without any");
+
+pub const REVERSE: Argument = row!(Flag -'r' "reverse":
+    "From the last to the first; lines that compare equal keep their order");
+
+pub const UNIQUE: Argument = row!(Flag -'u' "unique":
+    "Of lines whose versions tie in precedence, the first of the input alone");
+
+pub const SCHEME_COLUMN: Argument = row!(Text("COLUMN") "scheme-column":
+    "The column names the scheme of a line; the lines of each scheme together, as schemes first appear");
+
+pub const INVALID: Argument = row!(Text("WHAT") "invalid":
+    "What becomes of lines without a version; fail unless it is given [possible values: fail, skip, first, last]");
+
+pub const COUNT: Argument = row!(Number -'n' "count":
+    "How many, the newest first; 1 unless it is given");
+
+pub const GROUP: Argument = row!(Text("COLUMN") -'g' "group":
+    "Of each value of the column, the groups as they first appear");
+
+const FAIL_OR_SKIP: Argument = Row {
+    help: "What becomes of lines without a version; fail unless it is given [possible values: fail, skip]",
+    ..INVALID
+};
+
+pub const SET: Argument = row!(Word "SET":
+    "Which versions, such as '>=1.2, <2 || ^3'");
+
+const SET_OR_NONE: Argument = Row {
+    form: Form::FirstWord,
+    help: "Which versions, such as '>=1.2, <2 || ^3'; --min-stability alone needs none",
+    ..SET
+};
+
+pub const INVERT_MATCH: Argument = row!(Flag -'v' "invert-match":
+    "Write the lines whose versions are not in the set");
+
+const SKIP_OR_OTHER: Argument = Row {
+    help: "What becomes of lines without a version; skip unless it is given [possible values: fail, skip, first, last]",
+    ..INVALID
+};
+
+pub const INVALID_TO: Argument = row!(Text("FILE") "invalid-to":
+    "Write lines without a version to this file, and leave them out");
+
+pub const KEY_COLUMN: Argument = row!(Text("COLUMN") -'k' "key":
+    "The column of the version: a number, from 1 on, or with --header a name");
+
+pub const FIELD_SEPARATOR: Argument = row!(Text("SEP") -'t' "field-separator":
+    "The bytes between columns, each alone, \\t or \\0 too; runs of spaces and tabs unless they are given");
+
+pub const CSV: Argument = row!(Flag "csv":
+    "Lines are records of CSV and columns their fields: column 1 without -k, a comma between them without -t");
+
+pub const TAGS: Argument = row!(Flag "tags":
+    "The version is that of a tag, such as v1.2.0 or tool-1.2.0");
+
+pub const PREFIX: Argument = row!(Text("P") "prefix":
+    "The version is what follows the prefix P");
+
+pub const SCHEME: Argument = row!(Text("NAME") "scheme":
+    "Whose order it goes by; mixed unless it is given [schemes]");
+
+pub const MIN_STABILITY: Argument = row!(Text("LEVEL") "min-stability":
+    "Leave out versions that are less stable [levels]");
+
+pub const MATCH: Argument = row!(Text("SET") "match":
+    "Leave out versions that are not in this set");
+
+pub const HEADER: Argument = row!(Flag "header":
+    "The first line stays on top, as it is");
+
+pub const HEADER_LINES: Argument = row!(Number "header-lines":
+    "So many lines stay on top");
+
+pub const ZERO_TERMINATED: Argument = row!(Flag -'z' "zero-terminated":
+    "Lines end with NUL, and not with a line feed");
+
+pub const CRLF: Argument = row!(Flag "crlf":
+    "A carriage return at a line's end belongs to the end");
+
+pub const PROGRESS: Argument = row!(Flag "progress":
+    "Tell on standard error how far the work is");
+
+pub const VERSIONS: Argument = row!(Words "VERSION":
+    "Versions; without any, or with - alone, the lines of standard input");
+
+pub const JSON: Argument = row!(Flag "json":
+    "Write a JSON object for each");
+
+pub const WORDS_OF_TEST: Argument = row!(TwoOrThree "WORD":
+    "Two versions with <, <=, =, >=, > or lt, le, eq, ge, gt between them, or a version and a set");
+
+pub const A: Argument = row!(Word "A":
+    "A version");
+
+pub const B: Argument = row!(Word "B":
+    "Another");
+
+pub const EXPLAIN: Argument = row!(Flag "explain":
+    "Write where they differ first, and what they have there");
+
+pub const OTHER: Argument = row!(Word "OTHER":
+    "Another");
+
+const OLD: Argument = Row {
+    help: "A version, or with --lists the file with the old names and versions",
+    ..A
+};
+
+const NEW: Argument = Row {
+    help: "Another, or the file with the new ones; - is standard input",
+    ..B
+};
+
+pub const LISTS: Argument = row!(Flag "lists":
+    "Write which names were added, removed, raised or lowered");
+
+const NAME_COLUMN: Argument = Row {
+    form: Form::Number,
+    help: "The name is column N; 1 unless it is given",
+    ..GROUP
+};
+
+const VERSION_COLUMN: Argument = Row {
+    form: Form::Number,
+    help: "The version is column N; 2 unless it is given",
+    ..KEY_COLUMN
+};
+
+pub const PLACE: Argument = row!(Word "PLACE":
+    "major, minor, patch, release, pre, or the place of a number, counted from 0");
+
+pub const PRE_WORD: Argument = row!(Text("W") "word":
+    "What the pre-release of pre begins with, such as rc, where the version has none of its own");

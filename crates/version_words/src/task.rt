@@ -1,6 +1,6 @@
 //! Which task the words mean.
 
-ghost use Rattle.std.specs.Prelude.{◌≡◌, ◌⊎◌, None, Some, IfErr, IfOk, true, false, codes};
+ghost use Rattle.std.specs.Prelude.{◌≡◌, ◌⊎◌, None, Some, IfErr, IfOk, true, false};
 ghost use Rattle.clap.specs.Words.{all_of, subcommand_rows_of};
 ghost use Rattle.version_words.specs.Named.{place_named};
 ghost use Rattle.version_words.specs.Rows.{column_of, is_given, is_set, rows_in, word_of};
@@ -14,6 +14,11 @@ use crate::rows::{
     is_given, is_set, key_column, lacks_set, level_of, line_end, name_of_column, number_of,
     refuse_columns, scheme_column_of, scheme_of, separators_of, text_of, texts_of, word_of,
     words_of,
+};
+use crate::table::{
+    A, B, COUNT, CRLF, EXPLAIN, GROUP, INVALID_TO, INVERT_MATCH, JSON, KEY_COLUMN, LISTS, MATCH,
+    OTHER, PLACE, PRE_WORD, PREFIX, PROGRESS, REVERSE, SCHEME, SCHEME_COLUMN, SET, TAGS, UNIQUE,
+    WORDS_OF_TEST,
 };
 use crate::wrong::{wrong, wrong_operator, wrong_place};
 use clap::ArgMatches;
@@ -45,13 +50,13 @@ pub fn task_of<'w>(alloc: Global, matches: &ArgMatches<'w>) -> Result<Task<'w>, 
         Verb::Compare => compare_task(alloc, options),
         Verb::Implies => Ok(Task::Implies(
             scheme_of(alloc, options)?,
-            word_of(options, "SET"),
-            word_of(options, "OTHER"),
+            word_of(options, SET.name),
+            word_of(options, OTHER.name),
         )),
         Verb::Meets => Ok(Task::Meets(
             scheme_of(alloc, options)?,
-            word_of(options, "SET"),
-            word_of(options, "OTHER"),
+            word_of(options, SET.name),
+            word_of(options, OTHER.name),
         )),
         Verb::Diff => diff_task(alloc, options),
     }
@@ -63,8 +68,8 @@ fn sort_task<'w>(alloc: Global, options: &ArgMatches<'w>) -> Result<Task<'w>, Wo
 {
     let separators = separators_of(alloc, options)?;
     let arrangement = Arrangement::Sort {
-        reverse: is_set(options, "reverse"),
-        unique: is_set(options, "unique"),
+        reverse: is_set(options, REVERSE.name),
+        unique: is_set(options, UNIQUE.name),
     };
     let line_options = line_options(alloc, Verb::Sort, arrangement, separators, options)?;
     Ok(Task::Lines(line_options, words_of(alloc, options)?))
@@ -76,8 +81,8 @@ fn newest_task<'w>(alloc: Global, options: &ArgMatches<'w>) -> Result<Task<'w>, 
 {
     let separators = separators_of(alloc, options)?;
     let arrangement = Arrangement::Newest {
-        count: number_of(options, "count").unwrap_or(1),
-        group: column_of(options, "group", separators),
+        count: number_of(options, COUNT.name).unwrap_or(1),
+        group: column_of(options, GROUP.name, separators),
     };
     let line_options = line_options(alloc, Verb::Newest, arrangement, separators, options)?;
     Ok(Task::Lines(line_options, words_of(alloc, options)?))
@@ -93,8 +98,8 @@ fn filter_task<'w>(alloc: Global, options: &ArgMatches<'w>) -> Result<Task<'w>, 
     }
     let separators = separators_of(alloc, options)?;
     let arrangement = Arrangement::Filter {
-        set: text_of(options, "SET"),
-        inverted: is_set(options, "invert-match"),
+        set: text_of(options, SET.name),
+        inverted: is_set(options, INVERT_MATCH.name),
     };
     let line_options = line_options(alloc, Verb::Filter, arrangement, separators, options)?;
     Ok(Task::Lines(line_options, words_of(alloc, options)?))
@@ -106,9 +111,9 @@ fn column_names<'w>(separators: Separators<'w>, options: &ArgMatches<'w>) -> Col
 {
     ColumnNames {
         first: column_at(separators, 1),
-        version: name_of_column(options, "key"),
-        group: name_of_column(options, "group"),
-        scheme: name_of_column(options, "scheme-column"),
+        version: name_of_column(options, KEY_COLUMN.name),
+        group: name_of_column(options, GROUP.name),
+        scheme: name_of_column(options, SCHEME_COLUMN.name),
     }
 }
 
@@ -138,11 +143,11 @@ fn line_options<'w>(
         names: column_names(separators, options),
         choice: Choice {
             least,
-            wanted: text_of(options, "match"),
+            wanted: text_of(options, MATCH.name),
         },
         invalid,
-        invalid_to: text_of(options, "invalid-to"),
-        progress: is_set(options, "progress"),
+        invalid_to: text_of(options, INVALID_TO.name),
+        progress: is_set(options, PROGRESS.name),
     })
 }
 
@@ -178,7 +183,7 @@ fn naming_of<'w>(alloc: Global, options: &ArgMatches<'w>) -> Result<Naming<'w>, 
     ensures naming { IfOk result (IsNaming (rows_in options.now)) }
     ensures faults { IfErr result (ComesOfWrong (HasWrongNaming (rows_in options.now))) }
 {
-    match (is_set(options, "tags"), text_of(options, "prefix")) {
+    match (is_set(options, TAGS.name), text_of(options, PREFIX.name)) {
         (false, None) => Ok(Naming::Bare),
         (true, None) => Ok(Naming::Tag),
         (false, Some(prefix)) => Ok(Naming::Prefix(prefix)),
@@ -203,7 +208,7 @@ fn each_options<'w>(alloc: Global, options: &ArgMatches<'w>) -> Result<EachOptio
         versions,
         naming: naming_of(alloc, options)?,
         end: end_of(options),
-        crlf: is_set(options, "crlf"),
+        crlf: is_set(options, CRLF.name),
     })
 }
 
@@ -219,7 +224,7 @@ fn show_task<'w>(alloc: Global, options: &ArgMatches<'w>) -> Result<Task<'w>, Wo
 fn show_question<'w>(options: &ArgMatches<'_>) -> Question<'w>
     ensures { IsQuestion Verb.Show (rows_in options.now) result }
 {
-    if is_set(options, "json") {
+    if is_set(options, JSON.name) {
         Question::Json
     } else {
         Question::Show
@@ -238,7 +243,7 @@ fn why_task<'w>(alloc: Global, options: &ArgMatches<'w>) -> Result<Task<'w>, Wor
     ensures task { IfOk result (IsTaskOf Verb.Why (rows_in options.now)) }
     ensures faults { IfErr result (ComesOfWrong (HasWrongSpelling (rows_in options.now))) }
 {
-    let question = Question::Why(scheme_of(alloc, options)?, word_of(options, "SET"));
+    let question = Question::Why(scheme_of(alloc, options)?, word_of(options, SET.name));
     Ok(Task::Each(question, each_options(alloc, options)?))
 }
 
@@ -246,8 +251,11 @@ fn compare_task<'w>(alloc: Global, options: &ArgMatches<'w>) -> Result<Task<'w>,
     ensures task { IfOk result (IsTaskOf Verb.Compare (rows_in options.now)) }
     ensures faults { IfErr result (ComesOfWrong (HasWrongCompare (rows_in options.now))) }
 {
-    let (first, second) = (word_of(options, "A"), word_of(options, "B"));
-    match (is_set(options, "explain"), is_given(options, "scheme")) {
+    let (first, second) = (word_of(options, A.name), word_of(options, B.name));
+    match (
+        is_set(options, EXPLAIN.name),
+        is_given(options, SCHEME.name),
+    ) {
         (true, true) => {
             let what = "the argument '--explain' cannot be used with '--scheme <NAME>'";
             Err(wrong(alloc, what))
@@ -271,11 +279,11 @@ fn step_of<'w>(alloc: Global, options: &ArgMatches<'w>) -> Result<Step<'w>, Word
     ensures step { IfOk result (IsStep (rows_in options.now)) }
     ensures faults { IfErr result (ComesOfWrong (HasNoStep (rows_in options.now))) }
 {
-    let word = word_of(options, "PLACE");
+    let word = word_of(options, PLACE.name);
     if word == "pre" {
-        return Ok(Step::Pre(text_of(options, "word")));
+        return Ok(Step::Pre(text_of(options, PRE_WORD.name)));
     }
-    if is_given(options, "word") {
+    if is_given(options, PRE_WORD.name) {
         let what = "the argument '--word <W>' takes the place 'pre' alone";
         return Err(wrong(alloc, what));
     }
@@ -294,7 +302,7 @@ fn test_task<'w>(alloc: Global, options: &ArgMatches<'w>) -> Result<Task<'w>, Wo
         (ComesOfWrong (IsWrong Verb.Test (rows_in options.now))) }
 {
     let spelling = spelling_of(alloc, options)?;
-    match texts_of(options, "WORD") {
+    match texts_of(options, WORDS_OF_TEST.name) {
         Some([version, set]) => Ok(Task::TestSet(spelling, version, set)),
         Some([first, word, second]) => match operator_named(word) {
             Some(operator) => Ok(Task::TestTwo(spelling, first, operator, second)),
@@ -308,7 +316,7 @@ fn diff_task<'w>(alloc: Global, options: &ArgMatches<'w>) -> Result<Task<'w>, Wo
     ensures task { IfOk result (IsTaskOf Verb.Diff (rows_in options.now)) }
     ensures faults { IfErr result (ComesOfWrong (HasWrongDiff (rows_in options.now))) }
 {
-    if is_set(options, "lists") {
+    if is_set(options, LISTS.name) {
         return lists_task(alloc, options);
     }
     if has_option_of_lists(options) {
@@ -316,14 +324,14 @@ fn diff_task<'w>(alloc: Global, options: &ArgMatches<'w>) -> Result<Task<'w>, Wo
     }
     Ok(Task::Difference(
         naming_of(alloc, options)?,
-        word_of(options, "A"),
-        word_of(options, "B"),
+        word_of(options, A.name),
+        word_of(options, B.name),
     ))
 }
 
 // Returns what is wrong with options for lists where none are compared.
 fn what_lists_lack(options: &ArgMatches<'_>) -> &'static str {
-    if is_given(options, "scheme") {
+    if is_given(options, SCHEME.name) {
         "the argument '--scheme <NAME>' takes '--lists' alone: two versions are compared by mixed"
     } else {
         "the following required arguments were not provided:\n  --lists"
@@ -332,18 +340,18 @@ fn what_lists_lack(options: &ArgMatches<'_>) -> &'static str {
 
 // Returns the task of `diff --lists`.
 fn lists_task<'w>(alloc: Global, options: &ArgMatches<'w>) -> Result<Task<'w>, WordsFault>
-    requires { is_set (codes "lists") (rows_in options.now) ≡ true }
+    requires { is_set LISTS.name.now (rows_in options.now) ≡ true }
     ensures task { IfOk result (IsTaskOf Verb.Diff (rows_in options.now)) }
     ensures faults { IfErr result (ComesOfWrong (HasWrongDiff (rows_in options.now))) }
 {
     let separators = separators_of(alloc, options)?;
-    let name = number_of(options, "group").unwrap_or(1);
-    let version = number_of(options, "key").unwrap_or(2);
+    let name = number_of(options, GROUP.name).unwrap_or(1);
+    let version = number_of(options, KEY_COLUMN.name).unwrap_or(2);
     let place = place_of(alloc, Some(column_at(separators, version)), options)?;
     let invalid = invalid_of(alloc, Verb::Diff, options)?;
     Ok(Task::Lists(Lists {
-        old: word_of(options, "A"),
-        new: word_of(options, "B"),
+        old: word_of(options, A.name),
+        new: word_of(options, B.name),
         end: line_end(separators, options),
         name: column_at(separators, name),
         place,

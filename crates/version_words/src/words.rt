@@ -7,10 +7,11 @@ ghost use Rattle.version_words.specs.Wrong.{HasText};
 
 use crate::faults::WordsFault;
 use crate::grammar::{ABOUT, program};
+use crate::named::{LEVELS, names_of};
 use crate::near::{similar, with_tip, without_tip};
-use crate::table::NAMES;
+use crate::table::COMMANDS;
 use crate::task::task_of;
-use crate::wrong::MORE;
+use crate::wrong::{MORE, names_of_schemes};
 use clap::Error;
 use clap::error::ErrorKind;
 use std::alloc::{AllocError, Global};
@@ -51,7 +52,26 @@ fn text_shown(alloc: Global, error: &Error) -> Result<String, AllocError>
     if text.is_empty() {
         [ABOUT, "\n"].concat(alloc)
     } else {
-        Ok(text)
+        let text = with_names(alloc, text, "[schemes]", names_of_schemes(alloc)?)?;
+        with_names(alloc, text, "[levels]", names_of(alloc, &LEVELS)?)
+    }
+}
+
+// Returns a text of help with these names where it lists them.
+fn with_names(
+    alloc: Global,
+    text: String,
+    list: &str,
+    names: Vec<&'static str>,
+) -> Result<String, AllocError>
+    ensures { HasText (string_bytes text) → IfOk result (λ made. HasText (string_bytes made)) }
+{
+    match text.as_str().split_once(list) {
+        Some((before, after)) => {
+            let names = names.join(alloc, ", ")?;
+            [before, "[possible values: ", names.as_str(), "]", after].concat(alloc)
+        }
+        None => Ok(text),
     }
 }
 
@@ -121,7 +141,7 @@ fn meant_command(alloc: Global, text: String, words: &[String]) -> Result<String
     };
     let name = match word.as_str() {
         "match" => Some("filter"),
-        word => similar(alloc, word, &NAMES)?,
+        word => similar(alloc, word, names_of(alloc, &COMMANDS)?.as_slice())?,
     };
     with_tip(alloc, text, name)
 }

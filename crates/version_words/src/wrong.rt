@@ -5,7 +5,7 @@ ghost use Rattle.version_words.specs.Words.{ComesOfWrong};
 ghost use Rattle.version_words.specs.Wrong.{in_quotes, wrong_text, Holds, Quotes, Says};
 
 use crate::faults::WordsFault;
-use crate::named::Verb;
+use crate::named::{INVALIDS, LEVELS, Verb, may_ask, names_of};
 use crate::near::similar;
 use std::alloc::{AllocError, Global};
 use version_answers::quoted;
@@ -45,26 +45,20 @@ fn operator_meant(word: &str) -> Option<&'static str> {
 pub fn wrong_place(alloc: Global, word: &str) -> WordsFault
     ensures { ComesOfWrong (Quotes word.now) result }
 {
-    let argument =
-        "'<PLACE>'\n  [possible values: major, minor, patch, release, pre, a number from 0]";
-    wrong_name(
-        alloc,
-        word,
-        argument,
-        &["major", "minor", "patch", "release", "pre"],
-    )
+    let listed = "major, minor, patch, release, pre, a number from 0";
+    let names = ["major", "minor", "patch", "release", "pre"];
+    fault_of(text_of_listed(alloc, word, "'<PLACE>'", listed, &names))
 }
 
 /// Returns the fault of a word that is no level of stability.
 pub fn wrong_stability(alloc: Global, word: &str) -> WordsFault
     ensures { ComesOfWrong (Quotes word.now) result }
 {
-    let argument = "'--min-stability <LEVEL>'\n  [possible values: dev, alpha, beta, rc, stable]";
     wrong_name(
         alloc,
         word,
-        argument,
-        &["dev", "alpha", "beta", "rc", "stable"],
+        "'--min-stability <LEVEL>'",
+        names_of(alloc, &LEVELS),
     )
 }
 
@@ -80,14 +74,17 @@ fn text_of_scheme(alloc: Global, word: &str) -> Result<String, AllocError>
     ensures { IfOk result (λ text. Holds (in_quotes word.now) (string_bytes text)) }
 {
     let listed = listed_schemes(alloc)?;
-    let argument = [
-        "'--scheme <NAME>'\n  [possible values: ",
+    let mut names = names_of_schemes(alloc)?;
+    for scheme in Scheme::all() {
+        names.extend_from_slice(scheme.aliases())?;
+    }
+    text_of_listed(
+        alloc,
+        word,
+        "'--scheme <NAME>'",
         listed.as_str(),
-        "]",
-    ]
-    .concat(alloc)?;
-    let names = names_of_schemes(alloc)?;
-    text_of_name(alloc, word, argument.as_str(), names.as_slice())
+        names.as_slice(),
+    )
 }
 
 // Returns the names of the schemes, each with what else people call it.
@@ -108,29 +105,21 @@ fn listed_schemes(alloc: Global) -> Result<String, AllocError> {
     Ok(listed)
 }
 
-// Returns the names of the schemes, and then what else people call them.
-fn names_of_schemes(alloc: Global) -> Result<Vec<&'static str>, AllocError> {
-    let mut names = Vec::new(alloc);
-    for scheme in Scheme::all() {
-        names.push(scheme.name())?;
-    }
-    for scheme in Scheme::all() {
-        names.extend_from_slice(scheme.aliases())?;
-    }
-    Ok(names)
+/// Returns the names of the schemes.
+pub fn names_of_schemes(alloc: Global) -> Result<Vec<&'static str>, AllocError> {
+    Scheme::all().map(Scheme::name).collect(alloc)
 }
 
 /// Returns the fault of a word that doesn't name what a command can do with lines without a version.
 pub fn wrong_invalid(alloc: Global, command: Verb, word: &str) -> WordsFault
     ensures { ComesOfWrong (Quotes word.now) result }
 {
-    if matches!(command, Verb::Sort | Verb::Filter) {
-        let argument = "'--invalid <WHAT>'\n  [possible values: fail, skip, first, last]";
-        wrong_name(alloc, word, argument, &["fail", "skip", "first", "last"])
-    } else {
-        let argument = "'--invalid <WHAT>'\n  [possible values: fail, skip]";
-        wrong_name(alloc, word, argument, &["fail", "skip"])
-    }
+    let names = INVALIDS
+        .iter()
+        .filter(|row| may_ask(command, row.1))
+        .map(|row| row.0)
+        .collect(alloc);
+    wrong_name(alloc, word, "'--invalid <WHAT>'", names)
 }
 
 /// Returns the fault of a word that names no bytes between columns.
@@ -166,29 +155,50 @@ fn text_of_column(alloc: Global, word: &str, option: &str) -> Result<String, All
     ensures { IfOk result (λ text. Holds (in_quotes word.now) (string_bytes text)) }
 {
     let argument = format!(in alloc;
-        "{option}: it is a number from 1 to 18446744073709551615, or a name"
+        "'--{option} <COLUMN>': it is a number from 1 to 18446744073709551615, or a name"
     )?;
     text_of_value(alloc, word, argument.as_str(), None)
 }
 
-// Returns the fault of a word that is none of these names.
-fn wrong_name(alloc: Global, word: &str, argument: &str, names: &[&'static str]) -> WordsFault
-    ensures { ComesOfWrong (Quotes word.now) result }
-{
-    fault_of(text_of_name(alloc, word, argument, names))
-}
-
-// Returns the text of that fault.
-fn text_of_name(
+// Returns the fault of a word that is none of these names, if there was memory for them.
+fn wrong_name(
     alloc: Global,
     word: &str,
     argument: &str,
+    names: Result<Vec<&'static str>, AllocError>,
+) -> WordsFault
+    ensures { ComesOfWrong (Quotes word.now) result }
+{
+    fault_of(text_of_names(alloc, word, argument, names))
+}
+
+// Returns the text of that fault.
+fn text_of_names(
+    alloc: Global,
+    word: &str,
+    argument: &str,
+    names: Result<Vec<&'static str>, AllocError>,
+) -> Result<String, AllocError>
+    ensures { IfOk result (λ text. Holds (in_quotes word.now) (string_bytes text)) }
+{
+    let names = names?;
+    let listed = names.join(alloc, ", ")?;
+    text_of_listed(alloc, word, argument, listed.as_str(), names.as_slice())
+}
+
+// Returns the text of the fault of a word that is none of these names, which are listed so.
+fn text_of_listed(
+    alloc: Global,
+    word: &str,
+    argument: &str,
+    listed: &str,
     names: &[&'static str],
 ) -> Result<String, AllocError>
     ensures { IfOk result (λ text. Holds (in_quotes word.now) (string_bytes text)) }
 {
+    let argument = [argument, "\n  [possible values: ", listed, "]"].concat(alloc)?;
     let meant = similar(alloc, word, names)?;
-    text_of_value(alloc, word, argument, meant)
+    text_of_value(alloc, word, argument.as_str(), meant)
 }
 
 // Returns the fault of a word that an argument can't take: the argument's name and values, and which of them may be

@@ -6,7 +6,7 @@ use Rattle.clap.specs.declared.error.kind.ErrorKind.{ErrorKind}
 use Rattle.clap.specs.declared.parser.matches.ArgMatches.{ArgMatches}
 use Rattle.version_words.specs.declared.faults.WordsFault.{WordsFault}
 use Rattle.version_commands.specs.declared.options.Task.{Task}
-use Rattle.version_commands.specs.declared.options.Task.TheVariants.{Compare, Explain, Difference, Each, Implies, Label, Lines, Lists, Match, Meets, Say, TestSet, TestTwo}
+use Rattle.version_commands.specs.declared.options.Task.TheVariants.{Say}
 use Rattle.version_words.specs.Grammar.{program_app}
 use Rattle.version_words.specs.Rows.{word_of}
 use Rattle.version_words.specs.Task.{IsTaskOf}
@@ -34,17 +34,7 @@ word_wrong option rows word fault Wrong first wrong =
 -- a command's task is none to show a text
 unsaid : (command : Verb) (rows : List Row) (text : String Global) → IsTaskOf command rows (Say text) → ⊥
 unsaid verb.Sort rows text never = never
-unsaid verb.Newest rows text never = never
-unsaid verb.Filter rows text never = never
-unsaid verb.Show rows text never = never
-unsaid verb.Key rows text never = never
-unsaid verb.Test rows text never = never
-unsaid verb.Compare rows text never = never
-unsaid verb.Why rows text never = never
-unsaid verb.Implies rows text never = never
-unsaid verb.Meets rows text never = never
-unsaid verb.Diff rows text never = never
-unsaid verb.Next rows text never = never
+unsaid command rows text never = never
 
 unsaid-in : (found : Option (Verb × List Row)) (text : String Global) → IsTaskIn found (Say text) → ⊥
 unsaid-in None text never = never
@@ -52,36 +42,14 @@ unsaid-in (Some (command, rows)) text is = unsaid command rows text is
 
 module _ (words : List (List ℕ)) where
   meant : (task : Task) → faults words ≡ [] → IsTaskIn (command_of words) task → Means words task
-  meant (Lines options files) right is = (right, is)
-  meant (Each question options) right is = (right, is)
-  meant (TestTwo scheme first operator second) right is = (right, is)
-  meant (TestSet scheme version set) right is = (right, is)
-  meant (Implies scheme one other) right is = (right, is)
-  meant (Meets scheme one other) right is = (right, is)
-  meant (Compare scheme first second) right is = (right, is)
-  meant (Explain naming first second) right is = (right, is)
-  meant (Difference naming first second) right is = (right, is)
-  meant (Lists lists) right is = (right, is)
-  meant (Label labels) right is = (right, is)
-  meant (Match list) right is = (right, is)
   meant (Say text) right is = absurd (unsaid-in (command_of words) text is)
+  meant task right is = (right, is)
 
   -- an error that shows a text
   shown : (task : Task) (kind : ErrorKind) → (shows kind ≡ true → HasAnswer true (faults words))
       → Shows kind task → Means words task
   shown (Say text) kind answers (is, has_text) = (answers is, has_text)
-  shown (Lines options files) kind answers never = absurd never
-  shown (Each question options) kind answers never = absurd never
-  shown (TestTwo scheme first operator second) kind answers never = absurd never
-  shown (TestSet scheme version set) kind answers never = absurd never
-  shown (Implies scheme one other) kind answers never = absurd never
-  shown (Meets scheme one other) kind answers never = absurd never
-  shown (Compare scheme first second) kind answers never = absurd never
-  shown (Explain naming first second) kind answers never = absurd never
-  shown (Difference naming first second) kind answers never = absurd never
-  shown (Lists lists) kind answers never = absurd never
-  shown (Label labels) kind answers never = absurd never
-  shown (Match list) kind answers never = absurd never
+  shown task kind answers never = absurd never
 
   module _ (app : App) (same : app ≡ program_app) where
     -- a parse that found matches

@@ -1,8 +1,8 @@
 //! What an argument is.
 
-ghost use Rattle.std.specs.Prelude.{◌≡◌, false, Some, None};
-ghost use Rattle.clap.specs.Words.{new_rule, rule_of};
-ghost use Rattle.version_words.specs.Grammar.{first_word_rule, flag_rule, number_rule, rule_of_argument, text_rule, two_or_three_rule, valued_rule, word_rule, words_rule};
+ghost use Rattle.std.specs.Prelude.{◌≡◌, false, Some};
+ghost use Rattle.clap.specs.Words.{rule_of};
+ghost use Rattle.version_words.specs.Grammar.{first_word_rule, option_rule, rule_of_row, valued_rule};
 
 use crate::table::{Argument, Form};
 use clap::builder::ValueParser;
@@ -11,120 +11,58 @@ use std::alloc::Global;
 
 /// Returns an argument of the table.
 pub fn argument<'a>(alloc: Global, row: &Argument) -> Arg<'a>
-    ensures rule { rule_of result ≡ rule_of_argument row.now }
+    ensures rule { rule_of result ≡ rule_of_row (λ name. name.now) row.now }
     ensures local { result.global ≡ false }
 {
     match row.form {
-        Form::Word => word(alloc, row.name, row.help),
-        Form::FirstWord => first_word(alloc, row.name, row.help),
-        Form::TwoOrThree => two_or_three(alloc, row.name, row.help),
-        Form::Words => words(alloc, row.name, row.help),
-        Form::Flag => flag(alloc, row.letter, row.name, row.help),
-        Form::Number => number(alloc, row.letter, row.name, row.help),
-        Form::Text(value) => text(alloc, row.letter, row.name, value, row.help),
+        Form::Word => word(alloc, row).required(true),
+        Form::FirstWord => word(alloc, row),
+        Form::TwoOrThree => word(alloc, row).required(true).num_args(2..=3),
+        // Their id is not the name of a word that has to be there.
+        Form::Words => Arg::new(alloc, "WORDS")
+            .value_name(row.name)
+            .num_args(0..)
+            .action(ArgAction::Append)
+            .help(row.help),
+        Form::Flag => option(alloc, row).action(ArgAction::SetTrue),
+        Form::Number => valued(alloc, row, "N", ValueParser::Unsigned(1, u64::MAX)),
+        Form::Text(value) => valued(alloc, row, value, ValueParser::String),
     }
 }
 
-// Returns a word that has to be there.
-fn word<'a>(alloc: Global, name: &'static str, help: &'static str) -> Arg<'a>
-    ensures rule { rule_of result ≡ word_rule name.now }
-    ensures local { result.global ≡ false }
-{
-    first_word(alloc, name, help).required(true)
-}
-
 // Returns a word that may be there.
-fn first_word<'a>(alloc: Global, name: &'static str, help: &'static str) -> Arg<'a>
-    ensures rule { rule_of result ≡ first_word_rule name.now }
+fn word<'a>(alloc: Global, row: &Argument) -> Arg<'a>
+    ensures rule { rule_of result ≡ first_word_rule row.now.name.now }
     ensures local { result.global ≡ false }
 {
-    Arg::new(alloc, name).action(ArgAction::Set).help(help)
+    Arg::new(alloc, row.name)
+        .action(ArgAction::Set)
+        .help(row.help)
 }
 
-// Returns two or three words.
-fn two_or_three<'a>(alloc: Global, name: &'static str, help: &'static str) -> Arg<'a>
-    ensures rule { rule_of result ≡ two_or_three_rule name.now }
-    ensures local { result.global ≡ false }
-{
-    word(alloc, name, help).num_args(2..=3)
-}
-
-// Returns any number of words. Their id is not the name of a word that has to be there.
-fn words<'a>(alloc: Global, name: &'static str, help: &'static str) -> Arg<'a>
-    ensures rule { rule_of result ≡ words_rule }
-    ensures local { result.global ≡ false }
-{
-    Arg::new(alloc, "WORDS")
-        .value_name(name)
-        .num_args(0..)
-        .action(ArgAction::Append)
-        .help(help)
-}
-
-// Returns an option that takes nothing: its letter and its name.
-fn flag<'a>(alloc: Global, letter: Option<char>, name: &'static str, help: &'static str) -> Arg<'a>
-    ensures rule { rule_of result ≡ flag_rule letter name.now }
-    ensures local { result.global ≡ false }
-{
-    option(alloc, letter, name)
-        .action(ArgAction::SetTrue)
-        .help(help)
-}
-
-// Returns an option with a number from 1 on.
-fn number<'a>(
-    alloc: Global,
-    letter: Option<char>,
-    name: &'static str,
-    help: &'static str,
-) -> Arg<'a>
-    ensures rule { rule_of result ≡ number_rule letter name.now }
-    ensures local { result.global ≡ false }
-{
-    let parser = ValueParser::Unsigned(1, u64::MAX);
-    valued(alloc, letter, name, "N", parser, help)
-}
-
-// Returns an option with a text: its letter and its name, and how help names the text.
-fn text<'a>(
-    alloc: Global,
-    letter: Option<char>,
-    name: &'static str,
-    value: &'static str,
-    help: &'static str,
-) -> Arg<'a>
-    ensures rule { rule_of result ≡ text_rule letter name.now }
-    ensures local { result.global ≡ false }
-{
-    valued(alloc, letter, name, value, ValueParser::String, help)
-}
-
-// Returns an option with a value.
+// Returns an option with a value, which help names so.
 fn valued<'a>(
     alloc: Global,
-    letter: Option<char>,
-    name: &'static str,
+    row: &Argument,
     value: &'static str,
     parser: ValueParser<'static>,
-    help: &'static str,
 ) -> Arg<'a>
-    ensures rule { rule_of result ≡ valued_rule letter name.now parser.entry }
+    ensures rule { rule_of result ≡ valued_rule row.now.letter row.now.name.now parser.entry }
     ensures local { result.global ≡ false }
 {
-    option(alloc, letter, name)
+    option(alloc, row)
         .action(ArgAction::Set)
         .value_name(value)
         .value_parser(parser)
-        .help(help)
 }
 
 // Returns an option.
-fn option<'a>(alloc: Global, letter: Option<char>, name: &'static str) -> Arg<'a>
-    ensures rule { rule_of result ≡ record (new_rule name.now) { long = Some name.now; short = letter } }
+fn option<'a>(alloc: Global, row: &Argument) -> Arg<'a>
+    ensures rule { rule_of result ≡ option_rule row.now.letter row.now.name.now }
     ensures local { result.global ≡ false }
 {
-    let option = Arg::new(alloc, name).long(name);
-    match letter {
+    let option = Arg::new(alloc, row.name).long(row.name).help(row.help);
+    match row.letter {
         Some(letter) => option.short(letter),
         None => option,
     }

@@ -1,11 +1,11 @@
 use Rattle.std.proofs.Common.{◌≡◌, drop, map}
 use Rattle.clap.specs.Words.{app_of}
-use Rattle.version_words.specs.Grammar.{commands, program_app, shape_of_command, HasNoGlobal}
+use Rattle.version_words.specs.Grammar.{program_app, shape_of_command, HasNoGlobal}
 use Rattle.version_words.proofs.lemmas.Grammar.{with_subcommands}
 use Rattle.version_words.proofs.grammar.program.Given as goal
 
 -- with the commands that are left it is the whole program
-abbrev pub invariant-loop-command : goal.invariant-loop-command
-invariant-loop-command l =
-    (with_subcommands (app_of l.program) (map shape_of_command (drop l.command-index commands)) ≡ program_app)
-    × HasNoGlobal l.program
+abbrev pub invariant-loop-name : goal.invariant-loop-name
+invariant-loop-name l =
+    (with_subcommands (app_of l.program) (map (shape_of_command (λ name. name.now)) (drop l.name-index l.name-items))
+    ≡ program_app) × HasNoGlobal l.program

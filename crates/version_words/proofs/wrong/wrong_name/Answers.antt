@@ -2,4 +2,4 @@ use Rattle.version_words.proofs.lemmas.Wrong.{fault_quotes}
 use Rattle.version_words.proofs.wrong.wrong_name.Goals as goal
 
 pub returns : goal.returns
-returns c = fault_quotes c.args.word.now c.text_of_name.result c.fault_of.result c.text_of_name.ensures c.fault_of.ensures
+returns c = fault_quotes c.args.word.now c.text_of_names.result c.fault_of.result c.text_of_names.ensures c.fault_of.ensures
