@@ -3,7 +3,7 @@ use Rattle.std.proofs.Common.{◌≡◌, ◌∙◌, ◌<◌, ◌≤◌, ◌+◌,
 use Rattle.std.proofs.Math.Seq.{drop-cons}
 use Rattle.std.proofs.lemmas.Bool.{cases_Bool}
 use Rattle.std.proofs.lemmas.Bool.Decides.{nat_tests}
-use Rattle.std.proofs.lemmas.Cmp.{nat_cmp_total, nat_list_cmp_total, tied_itself}
+use Rattle.std.proofs.lemmas.Cmp.{nat_cmp_total, tied_itself}
 use Rattle.std.proofs.lemmas.List.{length-drop, take-append-drop, take_all}
 use Rattle.std.proofs.lemmas.Map.Lookups.{exact_unsigned}
 use Rattle.std.specs.Char.{digit_value, is_ascii_digit}
@@ -14,26 +14,17 @@ use Rattle.std.specs.declared.cmp.Ordering.{Ordering}
 use Rattle.std.specs.declared.cmp.Ordering.TheVariants.{Equal}
 use Rattle.version_order.specs.texts.DigitRun.{run_value, starts_with_digit, behind_digits}
 use Rattle.version_order.specs.texts.Front.{begins}
-use Rattle.version_order.specs.keys.Codes.{then_first}
 use Rattle.version_order.specs.keys.Lists.{ended_cmp}
 use Rattle.version_order.proofs.lemmas.Runs.{all_behind, no_run, run_cons, run_none}
 use Rattle.version_order.proofs.lemmas.Orders.{settled}
 use Rattle.scheme_deb.proofs.lemmas.Cut.{by_numbers, by_runs, byte_and_end, same_bytes, two_bytes}
 use Rattle.version_order.proofs.lemmas.Cuts.{alike, run_common}
-use Rattle.scheme_deb.specs.Laws.{byte_same, part_writes}
-use Rattle.scheme_deb.specs.Order.{Part, byte_cmp, more_cmp, part_bytes, part_cmp}
+use Rattle.scheme_deb.specs.Laws.{byte_same}
+use Rattle.scheme_deb.specs.Order.{byte_cmp, more_cmp, part_cmp}
 use Rattle.scheme_deb.specs.Texts.{cut_of, first_of, is_of_upstream, is_run, mores, part_in, part_of}
 
 abbrev pub texts_cmp : List ℕ → List ℕ → Ordering
 texts_cmp x y = part_cmp (part_of x) (part_of y)
-
--- a part ties with itself
-tied : (part : Part) → part_cmp part part ≡ Equal
-tied part =
-    then_first _ _ (sym (part_writes.compares part part [] []) ∙ tied_itself nat_list_cmp_total (part_bytes part ++ []))
-
-pub one_text : (x y : List ℕ) → x ≡ y → texts_cmp x y ≡ Equal
-one_text x y same = ap (λ (text : List ℕ). texts_cmp x text) (sym same) ∙ tied (part_of x)
 
 -- texts that begin with numbers, or are empty
 from_numbers : (x y : List ℕ) → begins is_run x ≡ false → begins is_run y ≡ false
