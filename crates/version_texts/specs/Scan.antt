@@ -1,5 +1,4 @@
 -- The kind and the shape of a text, by its pieces.
-use Rattle.std.proofs.Props.{props}
 use Rattle.std.specs.Prelude.{◌≡◌, ◌==◌, ◌&&◌, ◌||◌, ◌+◌, ◌-◌, ◌<◌, ◌≤◌, ℕ, Bool, true, List, drop, length, not, slice_range, take, Option, if◌then◌else◌, ◌^◌, [], ◌∷◌, nat_lt, Some, None}
 use Rattle.std.specs.Char.{is_ascii_digit, is_ascii_alphanumeric}
 use Rattle.std.specs.List.{list_all, prefix_len, slice_split, take_while}
@@ -95,12 +94,6 @@ is_tail_byte _ b = is_metadata_byte b
 abbrev pub TailFits : TailKind → ℕ → ℕ → Type 0
 TailFits Nothing end tail_end = end ≡ tail_end
 TailFits _ end tail_end = end < tail_end
-
-pub one_tail : (tail : TailKind) (end tail_end : ℕ) → IsProp (TailFits tail end tail_end)
-one_tail PreRelease end tail_end = Prim.hlevel props
-one_tail Nothing end tail_end = Prim.hlevel props
-one_tail Release end tail_end = Prim.hlevel props
-one_tail Sections end tail_end = Prim.hlevel props
 
 -- the pieces lie in the text, one behind another, and have only bytes of their kinds
 pub record Fits (text : List ℕ) (s : Shape) : Type 0 where

@@ -4,8 +4,7 @@ ghost use Rattle.std.specs.Prelude.{◌≡◌, Some, true};
 ghost use Rattle.std.specs.Char.{is_ascii_digit};
 ghost use Rattle.std.specs.List.{list_all};
 ghost use Rattle.std.specs.Str.Parse.{digits_value};
-ghost use Rattle.std.proofs.Props.{props};
-ghost use Rattle.version_texts.specs.Scan.{one_tail, shape_of, Fits};
+ghost use Rattle.version_texts.specs.Scan.{shape_of};
 ghost use Rattle.version_order.specs.keys.Sinks.{saturated};
 ghost use Rattle.version_rules.specs.grammar.Versioning.{versioning_kind};
 
@@ -36,7 +35,6 @@ pub struct VersioningRef<'a> {
     text: &'a [u8],
     shape: Shape,
     ghost read: { shape_of text.now ≡ Some shape },
-    ghost fits: { Fits text.now shape } by { Prim.hlevel (props, one_tail) },
 }
 
 impl<'a> VersioningRef<'a> {
@@ -131,7 +129,7 @@ impl<'a> VersioningRef<'a> {
 
     /// Returns its epoch: the number before its colon, which counts in the order. None without an epoch, which a strict
     /// version never has. A number past `u64::MAX` gives `u64::MAX`. Does not allocate.
-    #[tactic(auto, using(std::proofs::lemmas::Bool::ne_eqb, crate::proofs::lemmas::versioning_ref::Field::field_spans))]
+    #[tactic(auto, using(std::proofs::lemmas::Bool::ne_eqb, crate::proofs::lemmas::versioning_ref::VersioningRef::shape_fits, crate::proofs::lemmas::versioning_ref::Field::field_spans))]
     pub fn epoch(&self) -> Option<u64>
         ensures { result ≡ option_map saturated (versioning_epoch (plain_versioning_ref self.now)) }
     {
@@ -164,7 +162,7 @@ impl<'a> VersioningRef<'a> {
 
     /// Returns the text of its epoch with the colon, which is empty without an epoch, and the text of its parts with
     /// dots between them. None of a messy version. Does not allocate.
-    #[tactic(auto, using(crate::proofs::lemmas::versioning_ref::Field::body_within, crate::proofs::lemmas::versioning_ref::Field::no_texts, crate::proofs::lemmas::versioning_ref::Field::texts_are, crate::proofs::lemmas::Library::length_taken))]
+    #[tactic(auto, using(crate::proofs::lemmas::versioning_ref::Field::body_within, crate::proofs::lemmas::versioning_ref::Field::no_texts, crate::proofs::lemmas::versioning_ref::Field::texts_are, crate::proofs::lemmas::versioning_ref::VersioningRef::shape_fits, crate::proofs::lemmas::Library::length_taken))]
     pub fn epoch_and_parts(&self) -> Option<(&'a [u8], &'a [u8])>
         ensures { option_map (λ texts. (texts.0.now, texts.1.now)) result
             ≡ epoch_and_parts (plain_versioning_ref self.now) }
@@ -198,7 +196,7 @@ impl<'a> VersioningRef<'a> {
 
     /// Compares two versions of any kind by their keys: the order of all versions (docs/ORDER.md). `Ord` breaks its
     /// ties. Does not allocate.
-    #[tactic(auto, using(crate::proofs::lemmas::versioning_ref::VersioningRef::key_read))]
+    #[tactic(auto, using(crate::proofs::lemmas::versioning_ref::VersioningRef::shape_fits, crate::proofs::lemmas::versioning_ref::VersioningRef::key_read))]
     pub fn precedence(&self, other: &VersioningRef<'_>) -> Ordering
         ensures { result ≡ precedence (key_of (plain_versioning_ref self.now))
             (key_of (plain_versioning_ref other.now)) }
@@ -210,7 +208,7 @@ impl<'a> VersioningRef<'a> {
     /// in their tails. A version whose parts end differs there from one that has more, as `1.2` in part 2 from `1.2.0`.
     /// `Same` and `Tie` come exactly where `precedence` is `Equal`: `Same` where `==` holds, otherwise `Tie`. Does not
     /// allocate.
-    #[tactic(auto, using(crate::proofs::lemmas::order::Difference::by_keys, crate::proofs::lemmas::versioning_ref::VersioningRef::key_read))]
+    #[tactic(auto, using(crate::proofs::lemmas::order::Difference::by_keys, crate::proofs::lemmas::versioning_ref::VersioningRef::shape_fits, crate::proofs::lemmas::versioning_ref::VersioningRef::key_read))]
     pub fn difference(&self, other: &VersioningRef<'_>) -> Difference
         ensures { result ≡ difference_of (plain_versioning_ref self.now)
             (plain_versioning_ref other.now) }
@@ -255,7 +253,7 @@ impl<'a> VersioningRef<'a> {
     /// Writes the bytes of its key into a buffer from a place on, if they fit there, and returns the place after them.
     /// Does not allocate.
     #[inline(always)]
-    #[tactic(auto, using(crate::proofs::lemmas::versioning_ref::VersioningRef::key_read))]
+    #[tactic(auto, using(crate::proofs::lemmas::versioning_ref::VersioningRef::shape_fits, crate::proofs::lemmas::versioning_ref::VersioningRef::key_read))]
     pub fn write_key(&self, room: &mut [u8], start: usize) -> usize
         ensures bytes { IsWritten room.old start
             (key_bytes (key_of (plain_versioning_ref self.now))) room.new }
@@ -277,7 +275,7 @@ impl<'a> VersioningRef<'a> {
 
     /// Compares the bytes of its key with given bytes, up to the first difference. Does not allocate.
     #[inline(always)]
-    #[tactic(auto, using(crate::proofs::lemmas::versioning_ref::VersioningRef::key_read))]
+    #[tactic(auto, using(crate::proofs::lemmas::versioning_ref::VersioningRef::shape_fits, crate::proofs::lemmas::versioning_ref::VersioningRef::key_read))]
     pub fn compare_key(&self, bytes: &[u8]) -> Ordering
         ensures { result ≡ bytes_cmp (key_bytes (key_of (plain_versioning_ref self.now)))
             bytes.now }
@@ -322,7 +320,7 @@ impl<'a> VersioningRef<'a> {
 
     /// Writes the bytes of an end of a range into a sink. Does not allocate.
     #[inline(always)]
-    #[tactic(auto, using(crate::proofs::lemmas::versioning_ref::VersioningRef::key_read))]
+    #[tactic(auto, using(crate::proofs::lemmas::versioning_ref::VersioningRef::shape_fits, crate::proofs::lemmas::versioning_ref::VersioningRef::key_read))]
     pub fn put_end<S: Sink>(&self, end: End, sink: &mut S)
         requires { S.fits sink.old (end_bytes end (key_of (plain_versioning_ref self.now))) }
         ensures { S.takes sink.old (end_bytes end (key_of (plain_versioning_ref self.now)))
@@ -333,7 +331,7 @@ impl<'a> VersioningRef<'a> {
 
     /// Writes its key into a sink.
     #[inline(always)]
-    #[tactic(auto, using(crate::proofs::lemmas::versioning_ref::VersioningRef::key_read))]
+    #[tactic(auto, using(crate::proofs::lemmas::versioning_ref::VersioningRef::shape_fits, crate::proofs::lemmas::versioning_ref::VersioningRef::key_read))]
     pub fn put_key<S: Sink>(&self, sink: &mut S)
         requires { S.fits sink.old (key_bytes (key_of (plain_versioning_ref self.now))) }
         ensures { S.takes sink.old (key_bytes (key_of (plain_versioning_ref self.now))) sink.new }
@@ -343,7 +341,7 @@ impl<'a> VersioningRef<'a> {
 
     /// Writes the bytes of its epoch and of the parts that are kept into a sink.
     #[inline(always)]
-    #[tactic(auto, using(crate::proofs::lemmas::versioning_ref::VersioningRef::key_read))]
+    #[tactic(auto, using(crate::proofs::lemmas::versioning_ref::VersioningRef::shape_fits, crate::proofs::lemmas::versioning_ref::VersioningRef::key_read))]
     pub fn put_begun<S: Sink>(&self, kept: Kept, sink: &mut S)
         requires { S.fits sink.old (begun (key_of (plain_versioning_ref self.now)).epoch
             (kept_parts kept (key_of (plain_versioning_ref self.now)).body)) }
@@ -414,7 +412,7 @@ impl<'a> VersioningRef<'a> {
 
     /// Compares the bytes of an end of a range with given bytes, up to the first difference. Does not allocate.
     #[inline(always)]
-    #[tactic(auto, using(crate::proofs::lemmas::versioning_ref::VersioningRef::key_read))]
+    #[tactic(auto, using(crate::proofs::lemmas::versioning_ref::VersioningRef::shape_fits, crate::proofs::lemmas::versioning_ref::VersioningRef::key_read))]
     pub fn compare_end(&self, end: End, bytes: &[u8]) -> Ordering
         ensures { result ≡ bytes_cmp (end_bytes end (key_of (plain_versioning_ref self.now)))
             bytes.now }
@@ -423,7 +421,7 @@ impl<'a> VersioningRef<'a> {
     }
 
     // Compares the bytes of an end of a range with those of another, up to the first difference.
-    #[tactic(auto, using(crate::proofs::lemmas::versioning_ref::VersioningRef::key_read))]
+    #[tactic(auto, using(crate::proofs::lemmas::versioning_ref::VersioningRef::shape_fits, crate::proofs::lemmas::versioning_ref::VersioningRef::key_read))]
     pub(crate) fn compare_ends(
         &self,
         end: End,

@@ -33,7 +33,6 @@ fn versions_of_two_keys()
 {}
 
 // Two versions differ first in the same place, whichever of them is named first.
-#[tactic(auto, using(crate::proofs::lemmas::order::Difference::either_way_law))]
 fn either_way()
     ensures { (a b : PlainVersioning) → difference_of a b ≡ difference_of b a }
 {}

@@ -20,9 +20,7 @@ use version_rules::{Kind, parts_match_caret, parts_match_tilde};
 #[tactic(auto, using(crate::proofs::lemmas::requirement::Matching::kinds))]
 pub fn matches_tilde(wanted: &[u8], wanted_shape: Shape, text: &[u8], shape: Shape) -> bool
     requires wanted_is { shape_of wanted.now ≡ Some wanted_shape }
-    requires wanted_fits { Fits wanted.now wanted_shape }
     requires text_is { shape_of text.now ≡ Some shape }
-    requires text_fits { Fits text.now shape }
     ensures { (w v : PlainVersioning) → versioning_of wanted.now ≡ Some w
         → versioning_of text.now ≡ Some v → (IsTrue result ↔ MatchesTilde w v) }
 {
@@ -40,9 +38,7 @@ pub fn matches_tilde(wanted: &[u8], wanted_shape: Shape, text: &[u8], shape: Sha
 #[tactic(auto, using(crate::proofs::lemmas::requirement::Matching::kinds))]
 pub fn matches_caret(wanted: &[u8], wanted_shape: Shape, text: &[u8], shape: Shape) -> bool
     requires wanted_is { shape_of wanted.now ≡ Some wanted_shape }
-    requires wanted_fits { Fits wanted.now wanted_shape }
     requires text_is { shape_of text.now ≡ Some shape }
-    requires text_fits { Fits text.now shape }
     ensures { (w v : PlainVersioning) → versioning_of wanted.now ≡ Some w
         → versioning_of text.now ≡ Some v → (IsTrue result ↔ MatchesCaret w v) }
 {

@@ -3,7 +3,7 @@
 ghost use Rattle.std.specs.Prelude.{◌≡◌, ◌==◌, ◌∷◌, Some, drop, false, IfNone, IfSome};
 ghost use Rattle.version_rules.specs.grammar.Versioning.{versioning_nth};
 ghost use Rattle.version_texts.specs.VersioningRef.{body_number, chunk_number, last_number, pieces_left, section_in, version_in};
-ghost use Rattle.version_texts.specs.Scan.{shape_of, Fits};
+ghost use Rattle.version_texts.specs.Scan.{shape_of};
 ghost use Rattle.version_order.specs.texts.Cuts.{pieces};
 
 use crate::key::body_at;
@@ -18,10 +18,9 @@ pub const LARGEST_EPOCH: u64 = 0x7FFF_FFFF_FFFF_FFFF;
 
 /// Returns the number at a place, counted from 0, or None if no number is there: of the body of a strict or general
 /// version, and of the first section of a messy one that no colon follows.
-#[tactic(auto, using(crate::proofs::lemmas::versioning_ref::Numbers::body_nth, crate::proofs::lemmas::versioning_ref::Numbers::messy_nth))]
+#[tactic(auto, using(crate::proofs::lemmas::versioning_ref::Numbers::body_nth, crate::proofs::lemmas::versioning_ref::Numbers::messy_nth, crate::proofs::lemmas::versioning_ref::VersioningRef::shape_fits))]
 pub fn nth(text: &[u8], shape: Shape, n: usize) -> Option<u32>
-    requires read { shape_of text.now ≡ Some shape }
-    requires fits { Fits text.now shape }
+    requires { shape_of text.now ≡ Some shape }
     ensures { result ≡ versioning_nth (version_in text.now) n }
 {
     match shape.kind {

@@ -1,6 +1,21 @@
+use Rattle.version_texts.proofs.lemmas.versioning_ref.VersioningRef.{shape_fits}
 use Rattle.version_texts.proofs.lemmas.requirement.Matching.{match_of_general, caret_of_strict}
 use Rattle.version_texts.proofs.lemmas.order.Piece.{chain}
 use Rattle.version_texts.proofs.requirement.matching.matches_caret.Goals as goal
+
+pub body_parts-requires : goal.body_parts-requires
+body_parts-requires c = shape_fits _ _ c.requires.wanted_is
+
+pub body_parts-requires-in-Ideal-Ideal : goal.body_parts-requires-in-Ideal-Ideal
+body_parts-requires-in-Ideal-Ideal c = shape_fits _ _ c.requires.text_is
+
+pub general_match_caret-requires-clause-wanted_fits :
+    goal.general_match_caret-requires-clause-wanted_fits
+general_match_caret-requires-clause-wanted_fits c = shape_fits _ _ c.requires.wanted_is
+
+pub general_match_caret-requires-clause-text_fits :
+    goal.general_match_caret-requires-clause-text_fits
+general_match_caret-requires-clause-text_fits c = shape_fits _ _ c.requires.text_is
 
 pub returns-in-Ideal-Ideal : goal.returns-in-Ideal-Ideal
 returns-in-Ideal-Ideal c w v wanted_is text_is =

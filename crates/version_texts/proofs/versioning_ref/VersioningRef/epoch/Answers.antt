@@ -2,6 +2,7 @@ use Rattle.std.proofs.Common.{ap, sym}
 use Rattle.std.proofs.lemmas.Bool.{ne_eqb}
 use Rattle.std.specs.Option.{option_map}
 use Rattle.version_order.specs.keys.Sinks.{saturated}
+use Rattle.version_texts.proofs.lemmas.versioning_ref.VersioningRef.{shape_fits}
 use Rattle.version_texts.proofs.lemmas.versioning_ref.Field.{field_spans}
 use Rattle.version_texts.proofs.versioning_ref.VersioningRef.epoch.Goals as goal
 
@@ -9,6 +10,9 @@ pub returns-then-self-eq0 : goal.returns-then-self-eq0
 returns-then-self-eq0 c =
     sym (ap (option_map saturated)
     (rw c.if-self-eq0.true at (field_spans _ _ c.args.self.now.read).value))
+
+pub epoch_at-requires : goal.epoch_at-requires
+epoch_at-requires c = shape_fits _ _ c.args.self.now.read
 
 pub returns : goal.returns
 returns c =
