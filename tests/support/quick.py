@@ -181,7 +181,7 @@ def main(copy):
     parts = []
     if WORDS != ["rest"]:
         parts += [Cases(copy, "vectors", cases_of_vectors())]
-        parts += [Cases(copy, "versions_program", cases_of_runs(*runs.VERSIONS, *runs.MISSPELT))]
+        parts += [Cases(copy, "versions_program", cases_of_runs(*runs.VERSIONS, *runs.SHOWN, *runs.MISSPELT))]
         parts += [Cases(copy, "vers", cases_of_vers())]
     parts += [Script(SCRIPTS[0]), FirstCommand(copy), Script(SCRIPTS[1])]
     passed, failed = run(parts)

@@ -145,9 +145,6 @@ def tip(kind, meant):
 
 # The commands with the options that decide what is allocated, and words, lines and files that they refuse.
 VERSIONS = (
-    Run("key --help", "", HELP_OF_KEY),
-    Run("--help", "", HELP),
-    Run("--version", "", "versions 0.1.0\n"),
     Run("sort", "1.10\n1.9\n1.10rc1", "1.9\n1.10rc1\n1.10\n"),
     Run("sort -r -u -k 2 -t ,", "a,1.0\nb,1.10\nc,0:1.0\nd,1.9\n", "b,1.10\nd,1.9\na,1.0\n"),
     Run("sort -t ' /' -k 3", "a/sid 1.10 amd64\nb/sid 1.9 amd64\n", "b/sid 1.9 amd64\na/sid 1.10 amd64\n"),
@@ -305,12 +302,20 @@ MISSPELT = (
     ),
 )
 
+# What is shown of the program itself. The names in it are gathered one by one.
+SHOWN = (
+    Run("key --help", "", HELP_OF_KEY),
+    Run("--help", "", HELP),
+    Run("--version", "", "versions 0.1.0\n"),
+)
+
 # Runs of a program by how they take memory.
 TABLES = (
     ("vers", "", VERS),
     ("vers", "without memory", VERS_WITHOUT_MEMORY),
     ("versions", "", VERSIONS),
     ("versions", "", VERSIONS_WITH_FILES),
+    ("versions", "with retries", SHOWN),
     ("versions", "with retries", MISSPELT),
 )
 
@@ -320,6 +325,7 @@ CALLS = {
     "version_words::run": ("versions", "sort"),
     # `run` makes these two calls. The last quotes a line that is no version.
     "version_words::read_words": ("versions", "key 1..2"),
+    "version_commands::Files::read": ("versions", "sort -t, -k2 table -"),
     "version_commands::serve": ("versions", "compare --explain 1.10 1.9"),
     "version_answers::quoted": ("versions", "sort"),
     "version_answers::add_show": ("versions", "show 1:2.0-3"),
