@@ -1,13 +1,7 @@
 -- The version of Debian that is read from a text, and the rules of the scheme.
 use Rattle.std.specs.Prelude.{[], ◌∷◌, codes}
-use Rattle.version_order.specs.Facts.{PlainFacts}
-use Rattle.version_order.specs.Keyed.{by_key}
-use Rattle.version_order.specs.Rules.{Rules, rules_of}
-use Rattle.version_order.specs.declared.facts.Operators.TheVariants.{Doubled}
-use Rattle.version_order.specs.texts.DigitRun.{run_value}
-use Rattle.scheme_deb.specs.declared.version.Deb.{Deb}
-use Rattle.scheme_deb.specs.Order.{PlainDeb, deb_bytes, deb_cmp}
-use Rattle.scheme_deb.specs.Texts.{deb_of, part_of}
+use Rattle.version_order.specs.{Facts.PlainFacts, Keyed.by_key, Rules.Rules, Rules.rules_of, declared.facts.Operators.TheVariants.Doubled, texts.Front.run_value}
+use Rattle.scheme_deb.specs.{Order.PlainDeb, Order.deb_bytes, Order.deb_cmp, Texts.deb_of, Texts.part_of, declared.version.Deb.Deb}
 
 abbrev pub plain_deb : Deb → PlainDeb
 plain_deb v = record {

@@ -1,22 +1,12 @@
 -- Keys of Debian's versions write their order.
 use Rattle.std.proofs.Common.{◌-◌, if◌then◌else◌, ◌≡◌, ◌∙◌, ◌+◌, ◌==◌, ◌++◌, Bool, true, false, ℕ, List, [], Option, None, Some, ap, arith, refl, sym, IfSome, ◌∷◌}
-use Rattle.std.proofs.lemmas.Bool.{eqb-true}
-use Rattle.std.proofs.lemmas.Bool.Decides.{nat_tests}
-use Rattle.std.specs.FinMap.{IsAntisymmetric, nat_cmp-IsAntisymmetric}
-use Rattle.std.specs.Ordering.{on, ordering_then, then_cmp}
+use Rattle.std.proofs.lemmas.{Bool.eqb-true, Bool.Decides.nat_tests}
+use Rattle.std.specs.{Char.is_ascii_alphabetic, FinMap.IsAntisymmetric, FinMap.nat_cmp-IsAntisymmetric, Option.is_some, Ordering.on, Ordering.ordering_then, Ordering.then_cmp}
 use Rattle.version_order.proofs.lemmas.Codes.{ended_same, writes_list, writes_on, writes_then, compares_by_keys, some_key}
-use Rattle.version_order.proofs.lemmas.NumberBytes.{number_writes, some_bytes}
-use Rattle.version_order.proofs.lemmas.Orders.{then_decided}
-use Rattle.version_order.specs.keys.Codes.{Writes, then_first, then_second}
-use Rattle.version_order.specs.keys.Lists.{bytes_cmp}
-use Rattle.std.specs.Char.{is_ascii_alphabetic}
-use Rattle.std.specs.Option.{is_some}
-use Rattle.version_order.specs.Keyed.{by_key}
-use Rattle.version_order.specs.Rules.{ComparesByKeys}
-use Rattle.version_order.specs.Viable.{IsViable}
-use Rattle.scheme_deb.specs.Deb.{deb_facts, deb_rules}
-use Rattle.scheme_deb.specs.Texts.{deb_of}
+use Rattle.version_order.proofs.lemmas.{NumberBytes.number_writes, NumberBytes.some_bytes, Orders.then_decided}
+use Rattle.version_order.specs.{Keyed.by_key, Rules.ComparesByKeys, Viable.IsViable, keys.Codes.Writes, keys.Codes.then_first, keys.Codes.then_second, keys.Lists.bytes_cmp}
 use Rattle.scheme_deb.specs.Order.{PlainDeb, More, Pair, Part, byte_cmp, byte_code, deb_bytes, deb_cmp, more_bytes, more_cmp, pair_bytes, pair_cmp, part_bytes, part_cmp, rank}
+use Rattle.scheme_deb.specs.{Deb.deb_facts, Deb.deb_rules, Texts.deb_of}
 
 byte_writes : Writes byte_cmp byte_code
 byte_writes = record { compares = λ a b x y. refl }

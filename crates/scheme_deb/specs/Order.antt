@@ -1,12 +1,7 @@
 -- The order of Debian's versions, and their keys: Debian Policy, 5.6.12.
 use Rattle.std.specs.Prelude.{◌+◌, ◌==◌, ℕ, List, [], ◌∷◌, ◌++◌, if◌then◌else◌, Option, None, Some}
-use Rattle.std.specs.Char.{is_ascii_alphabetic}
-use Rattle.std.specs.Ordering.{nat_cmp, on, then_cmp}
-use Rattle.std.specs.declared.cmp.Ordering.{Ordering}
-use Rattle.std.specs.declared.cmp.Ordering.TheVariants.{Equal}
-use Rattle.version_order.specs.keys.Codes.{list_bytes}
-use Rattle.version_order.specs.keys.NumberBytes.{number_bytes}
-use Rattle.version_order.specs.keys.Lists.{ended_cmp}
+use Rattle.std.specs.{Char.is_ascii_alphabetic, Ordering.nat_cmp, Ordering.on, Ordering.then_cmp, declared.cmp.Ordering.Ordering, declared.cmp.Ordering.TheVariants.Equal}
+use Rattle.version_order.specs.keys.{Codes.list_bytes, Codes.number_bytes, Lists.ended_cmp}
 
 -- the rank of a byte of a run, or of its end: a tilde before the end, letters behind it, and then all else
 abbrev pub rank : Option ℕ → ℕ

@@ -1,13 +1,7 @@
 -- Which texts are Debian's versions.
 use Rattle.std.specs.Prelude.{◌==◌, ◌&&◌, ◌||◌, ℕ, Bool, false, List, [], ◌∷◌, if◌then◌else◌, map, Option, None, Some, not, option_and_then}
-use Rattle.std.specs.Char.{is_ascii_alphanumeric, is_ascii_digit}
-use Rattle.std.specs.List.{list_all}
-use Rattle.std.specs.Option.{is_some, option_map}
-use Rattle.std.specs.Str.Parse.{digits_value}
-use Rattle.std.specs.declared.cmp.Ordering.{Ordering}
-use Rattle.version_order.specs.texts.DigitRun.{starts_with_digit}
-use Rattle.version_order.specs.texts.Cuts.{cut_last, split_epoch}
-use Rattle.version_order.specs.Rules.{compared}
+use Rattle.std.specs.{Char.is_ascii_alphanumeric, Char.is_ascii_digit, List.list_all, Option.is_some, Option.option_map, Str.Parse.digits_value, declared.cmp.Ordering.Ordering}
+use Rattle.version_order.specs.{Rules.compared, texts.Cuts.cut_last, texts.Cuts.split_epoch, texts.Front.starts_with_digit}
 use Rattle.scheme_deb.specs.Order.{More, Pair, Part, PlainDeb, deb_cmp}
 
 -- a byte of a run

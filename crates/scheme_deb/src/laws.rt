@@ -2,12 +2,8 @@
 
 ghost use Rattle.std.specs.Prelude.{◌≡◌, [], codes, is_some, IfSome, List, None, Some, ℕ};
 ghost use Rattle.std.specs.declared.cmp.Ordering.TheVariants.{Equal, Greater, Less};
-ghost use Rattle.version_order.specs.Rules.{ComparesByKeys};
-ghost use Rattle.version_order.specs.Viable.{IsViable};
-ghost use Rattle.version_order.specs.keys.Codes.{Writes};
-ghost use Rattle.scheme_deb.specs.Deb.{deb_rules};
-ghost use Rattle.scheme_deb.specs.Order.{deb_bytes, deb_cmp};
-ghost use Rattle.scheme_deb.specs.Texts.{deb_of, texts_cmp};
+ghost use Rattle.version_order.specs.{Rules.ComparesByKeys, Viable.IsViable, keys.Codes.Writes};
+ghost use Rattle.scheme_deb.specs.{Deb.deb_rules, Order.deb_bytes, Order.deb_cmp, Texts.deb_of, Texts.texts_cmp};
 
 // Keys compare as the order does, whatever bytes follow them, and so do texts; no key is empty; and some text is a version.
 #[tactic(auto, using(crate::specs::Laws::deb_writes, crate::specs::Laws::deb_compares, crate::specs::Laws::deb_some_key, crate::specs::Laws::deb_nothing))]

@@ -1,8 +1,7 @@
 //! The ranks of the bytes of a run, and of its end.
 
 ghost use Rattle.std.specs.Prelude.{◌≡◌, Some, true};
-ghost use Rattle.scheme_deb.specs.Order.{rank};
-ghost use Rattle.scheme_deb.specs.Texts.{is_of_upstream};
+ghost use Rattle.scheme_deb.specs.{Order.rank, Texts.is_of_upstream};
 
 // The rank of each byte of an upstream version, and 0 of all others.
 static RANKS: [u8; 256] = [

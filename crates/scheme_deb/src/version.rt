@@ -1,14 +1,8 @@
 //! Debian's versions, and their order: Debian Policy, 5.6.12.
 
 ghost use Rattle.std.specs.Prelude.{◌≡◌, ◌∷◌, ◌&&◌, codes, drop, false, None, Some, true, IfNone, IfSome};
-ghost use Rattle.std.specs.List.{list_all, prefix_len, take_while};
-ghost use Rattle.std.specs.Ordering.{nat_cmp};
-ghost use Rattle.std.specs.declared.cmp.Ordering.TheVariants.{Equal, Greater, Less};
-ghost use Rattle.version_order.specs.texts.DigitRun.{run_value, starts_with_digit};
-ghost use Rattle.version_order.specs.texts.Front.{begins};
-ghost use Rattle.version_order.specs.keys.Codes.{Writes, list_bytes};
-ghost use Rattle.version_order.specs.keys.Lists.{ended_cmp};
-ghost use Rattle.version_order.specs.texts.Cuts.{cut_first};
+ghost use Rattle.std.specs.{List.list_all, List.prefix_len, List.take_while, Ordering.nat_cmp, declared.cmp.Ordering.TheVariants.Equal, declared.cmp.Ordering.TheVariants.Greater, declared.cmp.Ordering.TheVariants.Less};
+ghost use Rattle.version_order.specs.{keys.Codes.Writes, keys.Codes.list_bytes, keys.Lists.ended_cmp, texts.Cuts.cut_first, texts.Front.run_value, texts.Front.starts_with_digit, texts.Front.begins};
 ghost use Rattle.scheme_deb.specs.Order.{byte_cmp, byte_code, deb_bytes, deb_cmp, part_bytes, part_cmp, rank};
 ghost use Rattle.scheme_deb.specs.Texts.{behind_epoch, deb_of, first_of, is_of_revision, is_of_upstream, is_revision, is_run, is_upstream, part_of};
 
@@ -328,14 +322,11 @@ fn put_run<'t, S: Sink>(sink: &mut S, text: &'t [u8]) -> &'t [u8]
 }
 
 impl<'t> SchemeVersion<'t> for Deb<'t> {
+    ghost use Rattle.std.specs.Prelude.{is_some};
     ghost use Rattle.std.specs.Ordering.{on};
     ghost use Rattle.version_order.proofs.lemmas.Codes.{writes_on, doubled_no_parts};
-    ghost use Rattle.std.specs.Prelude.{is_some};
-    ghost use Rattle.version_order.specs.Facts.{key_room, plain_facts};
-    ghost use Rattle.version_order.specs.Keyed.{by_key, AreWithin};
-    ghost use Rattle.version_order.specs.Viable.{IsLongestViable};
-    ghost use Rattle.scheme_deb.specs.Deb.{deb_facts, deb_rules, plain_deb};
-    ghost use Rattle.scheme_deb.specs.Laws.{deb_some, deb_writes};
+    ghost use Rattle.version_order.specs.{Facts.key_room, Facts.plain_facts, Keyed.by_key, Keyed.AreWithin, Viable.IsLongestViable};
+    ghost use Rattle.scheme_deb.specs.{Deb.deb_facts, Deb.deb_rules, Deb.plain_deb, Laws.deb_some, Laws.deb_writes};
 
     ghost rules = { deb_rules };
 

@@ -1,22 +1,13 @@
 -- Keys of RubyGems' versions write their order, and none is empty.
 use Rattle.std.proofs.Common.{◌≡◌, ◌∙◌, ◌++◌, ◌∷◌, ℕ, zero, suc, List, [], Option, None, Some, ap, arith, refl, replicate, sym}
-use Rattle.std.specs.FinMap.{IsAntisymmetric, nat_cmp-IsAntisymmetric, slice_cmp-IsAntisymmetric}
-use Rattle.std.proofs.lemmas.Bool.Decides.{nat_tests}
-use Rattle.std.specs.Cmp.{nat_cmp_is}
-use Rattle.std.specs.Ordering.{nat_cmp, ordering_then}
+use Rattle.std.specs.{Cmp.nat_cmp_is, FinMap.IsAntisymmetric, FinMap.nat_cmp-IsAntisymmetric, FinMap.slice_cmp-IsAntisymmetric, Ordering.nat_cmp, Ordering.ordering_then, Prelude.IfSome, Prelude.codes, Prelude.is_some}
 use Rattle.std.specs.declared.cmp.Ordering.TheVariants.{Less, Greater}
-use Rattle.version_order.proofs.lemmas.Codes.{writes_list, compares_by_keys, some_key}
-use Rattle.version_order.proofs.lemmas.NumberBytes.{number_writes, text_writes}
-use Rattle.version_order.specs.keys.Codes.{Writes, then_first, then_second}
-use Rattle.version_order.specs.keys.NumberBytes.{number_bytes, text_bytes}
-use Rattle.version_order.specs.keys.Lists.{bytes_cmp}
-use Rattle.std.specs.Prelude.{IfSome, codes, is_some}
-use Rattle.version_order.specs.Keyed.{by_key}
-use Rattle.version_order.specs.Rules.{ComparesByKeys}
-use Rattle.version_order.specs.Viable.{IsViable}
-use Rattle.scheme_gem.specs.Rules.{gem_facts, gem_rules}
-use Rattle.scheme_gem.specs.Texts.{gem_of}
+use Rattle.std.proofs.lemmas.Bool.Decides.{nat_tests}
+use Rattle.version_order.proofs.lemmas.{Codes.writes_list, Codes.compares_by_keys, Codes.some_key, NumberBytes.number_writes, NumberBytes.text_writes}
+use Rattle.version_order.specs.keys.Codes.{Writes, then_first, then_second, number_bytes, text_bytes}
+use Rattle.version_order.specs.{Keyed.by_key, Rules.ComparesByKeys, Viable.IsViable, keys.Lists.bytes_cmp}
 use Rattle.scheme_gem.specs.Order.{Entry, Letters, Number, entry_bytes, entry_cmp, gem_bytes, gem_cmp}
+use Rattle.scheme_gem.specs.{Rules.gem_facts, Rules.gem_rules, Texts.gem_of}
 
 none_below : (n : ℕ) → Less ≡ nat_cmp 0 (suc n)
 none_below n = nat_cmp_is 0 (suc n) Less (omega arith)

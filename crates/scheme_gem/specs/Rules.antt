@@ -1,13 +1,7 @@
 -- RubyGems' versions as a scheme.
 use Rattle.std.specs.Prelude.{[], ◌∷◌, codes, false, List}
-use Rattle.version_order.specs.Facts.{PlainFacts}
-use Rattle.version_order.specs.Keyed.{by_key}
-use Rattle.version_order.specs.Rules.{Rules, rules_of}
-use Rattle.version_order.specs.declared.facts.Operators.TheVariants.{Plain}
-use Rattle.scheme_gem.specs.declared.version.Gem.{Gem}
-use Rattle.scheme_gem.specs.Order.{Entry, gem_bytes, gem_cmp}
-use Rattle.scheme_gem.specs.Segments.{entries_in}
-use Rattle.scheme_gem.specs.Texts.{gem_of}
+use Rattle.version_order.specs.{Facts.PlainFacts, Keyed.by_key, Rules.Rules, Rules.rules_of, declared.facts.Operators.TheVariants.Plain}
+use Rattle.scheme_gem.specs.{Order.Entry, Order.gem_bytes, Order.gem_cmp, Segments.entries_in, Texts.gem_of, declared.version.Gem.Gem}
 
 -- a hyphen takes the most bytes of a key, five
 abbrev pub gem_facts : PlainFacts

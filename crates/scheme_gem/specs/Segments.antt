@@ -1,15 +1,9 @@
 -- The segments of a version, `Gem::Version#segments`, the entries that they make, and RubyGems' own comparison of them.
 use Rattle.std.specs.Prelude.{◌==◌, ◌&&◌, ◌||◌, ℕ, zero, suc, Bool, true, false, List, [], ◌∷◌, codes, if◌then◌else◌, not, ◌++◌, drop, ◌≡◌, Option, None, Some, ⊤}
-use Rattle.std.specs.Char.{is_ascii_alphabetic, is_ascii_digit}
-use Rattle.std.specs.List.{flat_map, take_while, prefix_len, list_all}
-use Rattle.version_order.specs.texts.Bytes.{dot, hyphen}
-use Rattle.version_order.specs.texts.DigitRun.{run_value, behind_digits}
-use Rattle.scheme_gem.specs.Order.{Entry, Letters, Number}
-use Rattle.std.specs.Ordering.{nat_cmp, on, ordering_then}
-use Rattle.std.specs.declared.cmp.Ordering.{Ordering}
+use Rattle.std.specs.{Char.is_ascii_alphabetic, Char.is_ascii_digit, List.flat_map, List.take_while, List.prefix_len, List.list_all, Ordering.nat_cmp, Ordering.on, Ordering.ordering_then, declared.cmp.Ordering.Ordering}
 use Rattle.std.specs.declared.cmp.Ordering.TheVariants.{Less, Equal, Greater}
-use Rattle.version_order.specs.keys.Lists.{bytes_cmp}
-use Rattle.scheme_gem.specs.declared.version.Next.{Next}
+use Rattle.version_order.specs.{keys.Lists.bytes_cmp, texts.Bytes.dot, texts.Bytes.hyphen, texts.Front.run_value, texts.Front.behind_digits}
+use Rattle.scheme_gem.specs.{Order.Entry, Order.Letters, Order.Number, declared.version.Next.Next}
 use Rattle.scheme_gem.specs.declared.version.Next.TheVariants as next
 
 -- letters, or a number

@@ -1,16 +1,9 @@
 -- Which texts are RubyGems' versions: those of `Gem::Version.correct?`, but not the blank ones.
-use Rattle.std.specs.Prelude.{◌==◌, ◌&&◌, ◌||◌, ℕ, Bool, true, false, List, [], ◌∷◌, drop, if◌then◌else◌, not, Option, None, Some}
-use Rattle.std.specs.Char.{is_ascii_alphanumeric}
-use Rattle.std.specs.Int.{is_in_range}
 use Rattle.std.specs.List.{before_first, list_all, prefix_len, slice_split, take_while}
-use Rattle.std.specs.declared.cmp.Ordering.{Ordering}
-use Rattle.version_order.specs.texts.Bytes.{hyphen, is_identifier_byte}
-use Rattle.version_order.specs.texts.DigitRun.{is_digits}
-use Rattle.version_order.specs.texts.Front.{begins}
-use Rattle.version_order.specs.texts.Cuts.{is_dot, cut_first}
-use Rattle.version_order.specs.Rules.{compared}
-use Rattle.scheme_gem.specs.Order.{Entry, gem_cmp}
-use Rattle.scheme_gem.specs.Segments.{entries_in, without_last}
+use Rattle.std.specs.Prelude.{◌==◌, ◌&&◌, ◌||◌, ℕ, Bool, true, false, List, [], ◌∷◌, drop, if◌then◌else◌, not, Option, None, Some}
+use Rattle.std.specs.{Char.is_ascii_alphanumeric, Int.is_in_range, declared.cmp.Ordering.Ordering}
+use Rattle.version_order.specs.{Rules.compared, texts.Bytes.hyphen, texts.Bytes.is_identifier_byte, texts.Cuts.is_dot, texts.Cuts.cut_first, texts.Front.is_digits, texts.Front.begins}
+use Rattle.scheme_gem.specs.{Order.Entry, Order.gem_cmp, Segments.entries_in, Segments.without_last}
 
 -- a blank or a byte that ends a line or a page: Ruby's `\s`
 abbrev pub is_blank : ℕ → Bool

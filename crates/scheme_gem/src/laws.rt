@@ -2,13 +2,8 @@
 
 ghost use Rattle.std.specs.Prelude.{◌≡◌, ◌∷◌, List, [], codes, false, is_some, IfSome, None, Some, ℕ};
 ghost use Rattle.std.specs.declared.cmp.Ordering.TheVariants.{Equal, Greater, Less};
-ghost use Rattle.version_order.specs.Rules.{ComparesByKeys};
-ghost use Rattle.version_order.specs.Viable.{IsViable};
-ghost use Rattle.version_order.specs.keys.Codes.{Writes};
-ghost use Rattle.scheme_gem.specs.Order.{gem_bytes, gem_cmp};
-ghost use Rattle.scheme_gem.specs.Rules.{gem_rules};
-ghost use Rattle.scheme_gem.specs.Segments.{Segment, canonical_cmp, entries_in, entries_of};
-ghost use Rattle.scheme_gem.specs.Texts.{gem_of, texts_cmp};
+ghost use Rattle.version_order.specs.{Rules.ComparesByKeys, Viable.IsViable, keys.Codes.Writes};
+ghost use Rattle.scheme_gem.specs.{Order.gem_bytes, Order.gem_cmp, Rules.gem_rules, Segments.Segment, Segments.canonical_cmp, Segments.entries_in, Segments.entries_of, Texts.gem_of, Texts.texts_cmp};
 
 // Keys compare as the order does, whatever bytes follow them, and so do texts by their keys. No key is empty, and nothing
 // is a beginning of a version. RubyGems' own comparison of segments is the order on entries.

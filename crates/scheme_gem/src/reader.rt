@@ -1,8 +1,7 @@
 //! Which texts are RubyGems' versions, `Gem::Version.correct?` of RubyGems 3.3, and how far the others could become one.
 
 ghost use Rattle.std.specs.Prelude.{◌≡◌, false, true, MatchResult};
-ghost use Rattle.version_order.specs.Viable.{IsLongestViable, Stops};
-ghost use Rattle.version_order.specs.texts.Bytes.{is_identifier_byte};
+ghost use Rattle.version_order.specs.{Viable.IsLongestViable, Viable.Stops, texts.Bytes.is_identifier_byte};
 ghost use Rattle.scheme_gem.specs.Texts.{are_pieces, is_blank, is_gem, is_hyphenated, is_plain, is_version, trimmed};
 
 use version_order::{ByteSet, Class, Stop, after_byte, split_run, split_set};

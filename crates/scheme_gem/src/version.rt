@@ -1,12 +1,8 @@
 //! RubyGems' versions, their order, `Gem::Version#<=>` of RubyGems 3.3, and their keys.
 
 ghost use Rattle.std.specs.Prelude.{◌≡◌, ◌∷◌, [], false, is_some, MatchResult, IfNone, IfSome, None, Some, replicate, true};
-ghost use Rattle.std.specs.Char.{is_ascii_alphabetic};
-ghost use Rattle.std.specs.List.{list_all};
-ghost use Rattle.std.specs.declared.cmp.Ordering.TheVariants.{Equal};
-ghost use Rattle.version_order.specs.Viable.{IsLongestViable};
-ghost use Rattle.version_order.specs.texts.DigitRun.{run_value, behind_digits};
-ghost use Rattle.version_order.specs.texts.Front.{begins};
+ghost use Rattle.std.specs.{Char.is_ascii_alphabetic, List.list_all, declared.cmp.Ordering.TheVariants.Equal};
+ghost use Rattle.version_order.specs.{Viable.IsLongestViable, texts.Front.run_value, texts.Front.behind_digits, texts.Front.begins};
 ghost use Rattle.scheme_gem.specs.Order.{Letters, Number, entry_bytes, gem_bytes, gem_cmp, rank};
 ghost use Rattle.scheme_gem.specs.Segments.{HasLetters, Word, entries_from, entries_in, entry_of, is_lettered, segments_of};
 ghost use Rattle.scheme_gem.specs.Texts.{gem_of, is_gem};
@@ -227,10 +223,8 @@ fn put_zeros<S: Sink>(sink: &mut S, zeros: usize, byte: u8)
 impl<'t> SchemeVersion<'t> for Gem<'t> {
     ghost use Rattle.std.specs.Ordering.{on};
     ghost use Rattle.version_order.proofs.lemmas.Codes.{writes_on, plain_no_parts};
-    ghost use Rattle.version_order.specs.Keyed.{AreWithin, by_key};
-    ghost use Rattle.scheme_gem.specs.Rules.{plain_gem, gem_facts, gem_rules};
-    ghost use Rattle.version_order.specs.Facts.{key_room, plain_facts};
-    ghost use Rattle.scheme_gem.specs.Laws.{gem_some, gem_writes};
+    ghost use Rattle.version_order.specs.{Facts.key_room, Facts.plain_facts, Keyed.AreWithin, Keyed.by_key};
+    ghost use Rattle.scheme_gem.specs.{Laws.gem_some, Laws.gem_writes, Rules.plain_gem, Rules.gem_facts, Rules.gem_rules};
 
     ghost rules = { gem_rules };
 

@@ -1,18 +1,12 @@
 -- Laws of Python's versions: keys write their order, and none is empty.
 use Rattle.std.proofs.Common.{◌≡◌, ◌++◌, ℕ, List, [], Option, None, Some, IfSome, ap, codes, refl}
-use Rattle.std.specs.FinMap.{IsAntisymmetric, nat_cmp-IsAntisymmetric, slice_cmp-IsAntisymmetric}
-use Rattle.std.specs.Option.{option_cmp, is_some}
-use Rattle.std.specs.Ordering.{nat_cmp, ordering_then}
+use Rattle.std.specs.{FinMap.IsAntisymmetric, FinMap.nat_cmp-IsAntisymmetric, FinMap.slice_cmp-IsAntisymmetric, Option.option_cmp, Option.is_some, Ordering.nat_cmp, Ordering.ordering_then}
 use Rattle.version_order.proofs.lemmas.Codes.{writes_list, writes_on, writes_then, compares_by_keys, some_key}
 use Rattle.version_order.proofs.lemmas.NumberBytes.{number_writes, some_bytes, text_writes}
-use Rattle.version_order.specs.keys.Codes.{Writes, list_bytes, options_same}
-use Rattle.version_order.specs.keys.Lists.{bytes_cmp, ended_cmp, none_last_cmp}
-use Rattle.version_order.specs.Keyed.{by_key}
-use Rattle.version_order.specs.Rules.{ComparesByKeys}
-use Rattle.version_order.specs.Viable.{IsViable}
+use Rattle.version_order.specs.{Keyed.by_key, Rules.ComparesByKeys, Viable.IsViable, keys.Codes.Writes, keys.Codes.list_bytes, keys.Codes.options_same, keys.Lists.bytes_cmp, keys.Lists.ended_cmp, keys.Lists.none_last_cmp}
 use Rattle.version_order.specs.texts.Front.{optional, repeated, run_front}
-use Rattle.scheme_pypi.specs.Texts.{pypi_facts, pypi_rules, joined, pypi_of}
 use Rattle.scheme_pypi.specs.Order.{Alpha, Beta, Candidate, DevAlone, Final, Local, Number, Phase, PlainPypi, Text, dev_bytes, local_bytes, local_cmp, locals_bytes, number_or_end_bytes, phase_bytes, phase_cmp, pypi_bytes, pypi_cmp}
+use Rattle.scheme_pypi.specs.Texts.{pypi_facts, pypi_rules, joined, pypi_of}
 
 number_or_end_writes : Writes (option_cmp nat_cmp) number_or_end_bytes
 number_or_end_writes = record { compares = go }

@@ -1,12 +1,9 @@
 -- The version of Python that is read from a text.
-use Rattle.version_order.specs.texts.DigitRun.{run_value}
-use Rattle.scheme_pypi.specs.declared.read.Phase.{Phase}
+use Rattle.version_order.specs.texts.Front.{run_value}
 use Rattle.scheme_pypi.specs.declared.read.Phase.TheVariants.{Alpha, Beta, Candidate, DevAlone, Final}
-use Rattle.scheme_pypi.specs.Order as order
+use Rattle.scheme_pypi.specs.{Order.PlainPypi, Texts.pieces_of, Texts.release_of, declared.read.Phase.Phase, declared.version.Pypi.Pypi}
 use Rattle.std.specs.Option.{option_map}
-use Rattle.scheme_pypi.specs.declared.version.Pypi.{Pypi}
-use Rattle.scheme_pypi.specs.Order.{PlainPypi}
-use Rattle.scheme_pypi.specs.Texts.{pieces_of, release_of}
+use Rattle.scheme_pypi.specs.Order as order
 
 -- the phase by the digits of its number
 abbrev pub plain_phase : Phase → order.Phase

@@ -1,10 +1,7 @@
 -- What may follow each piece of a version of Python, as its readers have it.
 use Rattle.std.specs.Prelude.{◌≡◌, ◌==◌, true, [], ℕ, Bool, false, List, ◌∷◌, length}
-use Rattle.std.specs.Char.{is_ascii_digit}
-use Rattle.std.specs.Option.{option_map_or}
-use Rattle.version_order.specs.texts.Bytes.{hyphen, plus}
-use Rattle.version_order.specs.texts.DigitRun.{number_front}
-use Rattle.version_order.specs.texts.Front.{begins, behind, optional}
+use Rattle.std.specs.{Char.is_ascii_digit, Option.option_map_or}
+use Rattle.version_order.specs.texts.{Bytes.hyphen, Bytes.plus, Front.number_front, Front.begins, Front.behind, Front.optional}
 use Rattle.scheme_pypi.specs.Texts.{after_word, dev_front, epoch_front, epoch_or_zero, local_front, number_or_zero, post_front, pre_front, release_front, without_blanks, without_separator, without_v}
 
 -- blanks

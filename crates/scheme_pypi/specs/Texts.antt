@@ -1,19 +1,10 @@
 -- Which texts are Python's versions: PEP 440, appendix B. Each reader takes as much as it can. The appendix's pattern may
 -- give back what it took, but takes no other text by that.
 use Rattle.std.specs.Prelude.{◌==◌, ◌&&◌, ◌||◌, ℕ, Bool, List, [], ◌∷◌, codes, drop, if◌then◌else◌, length, map, nat_le, Option, None, Some, unwrap_or}
-use Rattle.std.specs.Char.{is_ascii_alphanumeric, is_ascii_digit, to_ascii_lowercase}
-use Rattle.std.specs.List.{prefix_len}
-use Rattle.std.specs.Option.{option_map, option_map_or, option_or}
-use Rattle.std.specs.Str.Parse.{digits_value}
-use Rattle.std.specs.declared.cmp.Ordering.{Ordering}
-use Rattle.version_order.specs.texts.Bytes.{dot, hyphen, plus, underscore}
-use Rattle.version_order.specs.texts.DigitRun.{is_digits, number_front, run_value}
-use Rattle.version_order.specs.texts.Front.{◌>>=◌, Front, after_mark, behind, map_value, optional, repeated, run_front, whole, begins}
-use Rattle.version_order.specs.Rules.{compared, Rules, rules_of}
+use Rattle.std.specs.{Char.is_ascii_alphanumeric, Char.is_ascii_digit, Char.to_ascii_lowercase, List.prefix_len, Option.option_map, Option.option_map_or, Option.option_or, Str.Parse.digits_value, declared.cmp.Ordering.Ordering}
+use Rattle.version_order.specs.texts.Front.{is_digits, number_front, run_value, ◌>>=◌, Front, after_mark, behind, map_value, optional, repeated, run_front, whole, begins}
+use Rattle.version_order.specs.{Facts.PlainFacts, Keyed.by_key, Rules.compared, Rules.Rules, Rules.rules_of, declared.facts.Operators.TheVariants.Plain, texts.Bytes.dot, texts.Bytes.hyphen, texts.Bytes.plus, texts.Bytes.underscore}
 use Rattle.scheme_pypi.specs.Order.{Alpha, Beta, Candidate, DevAlone, Final, Local, Number, Phase, PlainPypi, Text, pypi_cmp, pypi_bytes}
-use Rattle.version_order.specs.Facts.{PlainFacts}
-use Rattle.version_order.specs.Keyed.{by_key}
-use Rattle.version_order.specs.declared.facts.Operators.TheVariants.{Plain}
 
 -- ---- bytes and words
 

@@ -1,19 +1,16 @@
 //! Lists of numbers and of pieces, compared side by side.
 
 ghost use Rattle.std.specs.Prelude.{◌≡◌, map, true, Some};
-ghost use Rattle.std.specs.Char.{to_ascii_lowercase};
-ghost use Rattle.std.specs.Option.{option_cmp};
-ghost use Rattle.std.specs.Ordering.{nat_cmp};
-ghost use Rattle.version_order.specs.texts.DigitRun.{starts_with_digit};
-ghost use Rattle.version_order.specs.keys.Lists.{bytes_cmp, ended_cmp};
-ghost use Rattle.scheme_pypi.specs.Order.{local_cmp};
-ghost use Rattle.scheme_pypi.specs.Texts.{local_of, pieces_of, release_of};
+ghost use Rattle.std.specs.{Char.to_ascii_lowercase, Option.option_cmp, Ordering.nat_cmp};
+ghost use Rattle.version_order.specs.{keys.Lists.bytes_cmp, keys.Lists.ended_cmp, texts.Front.starts_with_digit};
+ghost use Rattle.scheme_pypi.specs.{Order.local_cmp, Texts.local_of, Texts.pieces_of, Texts.release_of};
 
 use crate::walk::{next_number, next_piece};
 use std::cmp::Ordering;
 use version_order::{Class, compare_numbers, is_digits, split_run};
 
 /// Compares two releases, number by number. Zeros at their ends do not count.
+#[tactic(auto, using(std::proofs::lemmas::Grind::common_steps, crate::proofs::lemmas::Items::decided, crate::proofs::lemmas::Items::is_equal, crate::proofs::lemmas::Items::left_over, crate::proofs::lemmas::Release::ended_equal, crate::proofs::lemmas::Release::next_left, crate::proofs::lemmas::Release::releases_step))]
 pub(crate) fn compare_releases(x: &[u8], y: &[u8]) -> Ordering
     requires x { starts_with_digit x.now ≡ true }
     requires y { starts_with_digit y.now ≡ true }

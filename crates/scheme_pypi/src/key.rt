@@ -1,15 +1,10 @@
 //! The pieces of a key.
 
 ghost use Rattle.std.specs.Prelude.{◌≡◌, ◌∷◌, drop, map, replicate, true, Some};
-ghost use Rattle.std.specs.Char.{is_ascii_alphanumeric, is_ascii_digit, to_ascii_lowercase};
-ghost use Rattle.std.specs.List.{list_all, prefix_len};
-ghost use Rattle.std.specs.Option.{option_map};
-ghost use Rattle.version_order.specs.texts.DigitRun.{run_value, starts_with_digit};
-ghost use Rattle.version_order.specs.keys.Codes.{items_bytes, list_bytes};
-ghost use Rattle.version_order.specs.keys.NumberBytes.{number_bytes, text_bytes};
+ghost use Rattle.std.specs.{Char.is_ascii_alphanumeric, Char.is_ascii_digit, Char.to_ascii_lowercase, List.list_all, List.prefix_len, Option.option_map};
+ghost use Rattle.version_order.specs.{keys.Codes.items_bytes, keys.Codes.list_bytes, keys.Codes.number_bytes, keys.Codes.text_bytes, texts.Front.run_value, texts.Front.starts_with_digit};
 ghost use Rattle.scheme_pypi.specs.Order.{dev_bytes, local_bytes, locals_bytes, number_or_end_bytes, phase_bytes};
-ghost use Rattle.scheme_pypi.specs.Texts.{local_of, pieces_of, release_of};
-ghost use Rattle.scheme_pypi.specs.Pypi.{plain_phase};
+ghost use Rattle.scheme_pypi.specs.{Pypi.plain_phase, Texts.local_of, Texts.pieces_of, Texts.release_of};
 
 use crate::read::Phase;
 use crate::walk::{next_number, next_piece};

@@ -2,11 +2,8 @@
 
 ghost use Rattle.std.specs.Prelude.{◌≡◌, [], codes, is_some, IfSome, List, None, Some, ℕ};
 ghost use Rattle.std.specs.declared.cmp.Ordering.TheVariants.{Equal, Greater, Less};
-ghost use Rattle.version_order.specs.Rules.{ComparesByKeys};
-ghost use Rattle.version_order.specs.Viable.{IsViable};
-ghost use Rattle.version_order.specs.keys.Codes.{Writes};
-ghost use Rattle.scheme_pypi.specs.Order.{pypi_bytes, pypi_cmp};
-ghost use Rattle.scheme_pypi.specs.Texts.{pypi_of, pypi_rules, texts_cmp};
+ghost use Rattle.version_order.specs.{Rules.ComparesByKeys, Viable.IsViable, keys.Codes.Writes};
+ghost use Rattle.scheme_pypi.specs.{Order.pypi_bytes, Order.pypi_cmp, Texts.pypi_of, Texts.pypi_rules, Texts.texts_cmp};
 
 // Keys compare as the order does, whatever bytes follow them, and none is empty. No text is too short to go on.
 #[tactic(auto, using(crate::specs::Laws::pypi_writes, crate::specs::Laws::pypi_compares, crate::specs::Laws::pypi_some_key, crate::specs::Laws::pypi_nothing))]

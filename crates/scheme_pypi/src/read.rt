@@ -1,14 +1,11 @@
 //! What the text of a version of Python is made of, piece by piece: PEP 440, appendix B.
 
 ghost use Rattle.std.specs.Prelude.{◌≡◌, ◌∷◌, [], true, IfSome, MatchResult, None, Some};
-ghost use Rattle.std.specs.Char.{is_ascii_alphanumeric};
-ghost use Rattle.std.specs.Option.{option_map};
+ghost use Rattle.std.specs.{Char.is_ascii_alphanumeric, Option.option_map};
+ghost use Rattle.version_order.specs.texts.Front.{number_front, run_value, starts_with_digit, begins, behind, optional};
 ghost use Rattle.version_order.specs.texts.Bytes.{hyphen};
-ghost use Rattle.version_order.specs.texts.DigitRun.{number_front, run_value, starts_with_digit};
-ghost use Rattle.version_order.specs.texts.Front.{begins, behind, optional};
-ghost use Rattle.scheme_pypi.specs.Order.{rank};
 ghost use Rattle.scheme_pypi.specs.Texts.{candidate_words, post_words, after_any, after_letter, after_word, dev_front, epoch_or_zero, is_blank, left_of_word, local_front, number_or_zero, phase_of, pieces_front, pieces_of, post_front, pre_front, release_front, without_blanks, without_separator, without_v};
-ghost use Rattle.scheme_pypi.specs.Pypi.{plain_phase};
+ghost use Rattle.scheme_pypi.specs.{Order.rank, Pypi.plain_phase};
 
 use crate::walk::{is_separator, next_number, next_piece};
 use version_order::{Class, after_byte, begins_with, split_run};

@@ -1,12 +1,9 @@
 //! Python's versions, and their order: PEP 440.
 
 ghost use Rattle.std.specs.Prelude.{◌≡◌, is_some, true};
-ghost use Rattle.std.specs.Option.{option_cmp, option_map};
-ghost use Rattle.std.specs.Ordering.{nat_cmp};
-ghost use Rattle.version_order.specs.texts.DigitRun.{starts_with_digit};
-ghost use Rattle.version_order.specs.keys.Lists.{ended_cmp, none_last_cmp};
-ghost use Rattle.scheme_pypi.specs.Order.{local_cmp, phase_cmp, pypi_bytes, pypi_cmp};
-ghost use Rattle.scheme_pypi.specs.Texts.{pypi_of};
+ghost use Rattle.std.specs.{Option.option_cmp, Option.option_map, Ordering.nat_cmp};
+ghost use Rattle.version_order.specs.{keys.Lists.ended_cmp, keys.Lists.none_last_cmp, texts.Front.starts_with_digit};
+ghost use Rattle.scheme_pypi.specs.{Order.local_cmp, Order.phase_cmp, Order.pypi_bytes, Order.pypi_cmp, Texts.pypi_of};
 
 use crate::compare::{compare_lists, compare_releases};
 use crate::key::{put_dev, put_local, put_phase, put_post, put_release};
@@ -135,13 +132,9 @@ impl<'t> Pypi<'t> {
 
 impl<'t> SchemeVersion<'t> for Pypi<'t> {
     ghost use Rattle.std.specs.Ordering.{on};
-    ghost use Rattle.scheme_pypi.specs.Pypi.{plain_pypi};
+    ghost use Rattle.scheme_pypi.specs.{Laws.pypi_some, Laws.pypi_writes, Pypi.plain_pypi, Texts.pypi_facts, Texts.pypi_rules};
     ghost use Rattle.version_order.proofs.lemmas.Codes.{writes_on, plain_no_parts};
-    ghost use Rattle.version_order.specs.Facts.{key_room, plain_facts};
-    ghost use Rattle.version_order.specs.Keyed.{AreWithin, by_key};
-    ghost use Rattle.version_order.specs.Viable.{IsLongestViable};
-    ghost use Rattle.scheme_pypi.specs.Texts.{pypi_facts, pypi_rules};
-    ghost use Rattle.scheme_pypi.specs.Laws.{pypi_some, pypi_writes};
+    ghost use Rattle.version_order.specs.{Facts.key_room, Facts.plain_facts, Keyed.AreWithin, Keyed.by_key, Viable.IsLongestViable};
 
     ghost rules = { pypi_rules };
 

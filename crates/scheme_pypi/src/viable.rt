@@ -2,10 +2,9 @@
 
 ghost use Rattle.std.specs.Prelude.{◌≡◌, ◌≢◌, ◌==◌, ◌≤◌, ◌⊎◌, ◌∷◌, IfNone, IfSome, ℕ, Bool, List, [], codes, false, is_some, length, map, true, MatchOption, MatchResult};
 ghost use Rattle.std.specs.Char.{to_ascii_lowercase};
-ghost use Rattle.version_order.specs.texts.Front.{begins};
-ghost use Rattle.scheme_pypi.specs.Texts.{is_separator, pypi_of, pypi_rules};
-ghost use Rattle.version_order.specs.Viable.{IsLeft, IsLongestViable};
+ghost use Rattle.version_order.specs.{Viable.IsLeft, Viable.IsLongestViable, texts.Front.begins};
 ghost use Rattle.scheme_pypi.specs.Stages.{Follows, after_blanks, after_dev, after_plus, after_post, after_pre, after_release, after_v, is_ended, is_epoch, is_implicit, is_release, word_then, worded};
+ghost use Rattle.scheme_pypi.specs.Texts.{is_separator, pypi_of, pypi_rules};
 
 use crate::read::{split_number, split_word, without_blanks, without_separator, without_v};
 use crate::walk::is_separator;

@@ -1,18 +1,11 @@
 -- Keys of RPM's versions write their order.
 use Rattle.std.proofs.Common.{◌≡◌, ◌++◌, ℕ, List, [], Option, None, Some, ap, refl, IfSome, ◌∷◌}
-use Rattle.std.specs.FinMap.{IsAntisymmetric, nat_cmp-IsAntisymmetric, slice_cmp-IsAntisymmetric}
-use Rattle.std.specs.Option.{option_cmp, is_some}
-use Rattle.std.specs.Ordering.{ordering_then}
+use Rattle.std.specs.{FinMap.IsAntisymmetric, FinMap.nat_cmp-IsAntisymmetric, FinMap.slice_cmp-IsAntisymmetric, Option.option_cmp, Option.is_some, Ordering.ordering_then}
 use Rattle.version_order.proofs.lemmas.Codes.{writes_list, writes_on, writes_then, compares_by_keys, some_key}
 use Rattle.version_order.proofs.lemmas.NumberBytes.{number_writes, some_bytes, text_writes}
-use Rattle.version_order.specs.keys.Codes.{Writes, list_bytes}
-use Rattle.version_order.specs.keys.Lists.{bytes_cmp}
-use Rattle.version_order.specs.Keyed.{by_key}
-use Rattle.version_order.specs.Rules.{ComparesByKeys}
-use Rattle.version_order.specs.Viable.{IsViable}
-use Rattle.scheme_rpm.specs.Rpm.{rpm_facts, rpm_rules}
-use Rattle.scheme_rpm.specs.Texts.{rpm_of}
+use Rattle.version_order.specs.{Keyed.by_key, Rules.ComparesByKeys, Viable.IsViable, keys.Codes.Writes, keys.Codes.list_bytes, keys.Lists.bytes_cmp}
 use Rattle.scheme_rpm.specs.Order.{Caret, Item, Letters, Number, PlainRpm, Tilde, item_bytes, item_cmp, items_cmp, release_bytes, rpm_bytes, rpm_cmp}
+use Rattle.scheme_rpm.specs.{Rpm.rpm_facts, Rpm.rpm_rules, Texts.rpm_of}
 
 item_writes : Writes item_cmp item_bytes
 item_writes = record { compares = go }

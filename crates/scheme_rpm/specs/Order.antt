@@ -1,12 +1,7 @@
 -- The order of RPM's versions, and their keys: rpm-version(7), `rpmvercmp`.
 use Rattle.std.specs.Prelude.{ℕ, List, [], ◌∷◌, ◌++◌, Option, None, Some}
-use Rattle.std.specs.Option.{option_cmp}
-use Rattle.std.specs.Ordering.{nat_cmp, on, then_cmp}
-use Rattle.std.specs.declared.cmp.Ordering.{Ordering}
-use Rattle.std.specs.declared.cmp.Ordering.TheVariants.{Equal}
-use Rattle.version_order.specs.keys.Codes.{list_bytes}
-use Rattle.version_order.specs.keys.NumberBytes.{number_bytes, text_bytes}
-use Rattle.version_order.specs.keys.Lists.{bytes_cmp, ended_cmp}
+use Rattle.std.specs.{Option.option_cmp, Ordering.nat_cmp, Ordering.on, Ordering.then_cmp, declared.cmp.Ordering.Ordering, declared.cmp.Ordering.TheVariants.Equal}
+use Rattle.version_order.specs.keys.{Codes.list_bytes, Codes.number_bytes, Codes.text_bytes, Lists.bytes_cmp, Lists.ended_cmp}
 
 -- a piece of a version or release: a tilde, a caret, a run of letters, or a number
 pub data Item : Type 0 where

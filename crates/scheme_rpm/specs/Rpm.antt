@@ -1,14 +1,7 @@
 -- The version of RPM that is read from a text, and the rules of the scheme.
-use Rattle.std.specs.Prelude.{[], ◌∷◌, codes}
-use Rattle.std.specs.Option.{option_map}
-use Rattle.version_order.specs.Facts.{PlainFacts}
-use Rattle.version_order.specs.Keyed.{by_key}
-use Rattle.version_order.specs.Rules.{Rules, rules_of}
-use Rattle.version_order.specs.declared.facts.Operators.TheVariants.{Plain}
-use Rattle.version_order.specs.texts.DigitRun.{run_value}
-use Rattle.scheme_rpm.specs.declared.version.Rpm.{Rpm}
-use Rattle.scheme_rpm.specs.Order.{PlainRpm, rpm_bytes, rpm_cmp}
-use Rattle.scheme_rpm.specs.Texts.{items_in, rpm_of}
+use Rattle.std.specs.{Option.option_map, Prelude.[], Prelude.◌∷◌, Prelude.codes}
+use Rattle.version_order.specs.{Facts.PlainFacts, Keyed.by_key, Rules.Rules, Rules.rules_of, declared.facts.Operators.TheVariants.Plain, texts.Front.run_value}
+use Rattle.scheme_rpm.specs.{Order.PlainRpm, Order.rpm_bytes, Order.rpm_cmp, Texts.items_in, Texts.rpm_of, declared.version.Rpm.Rpm}
 
 abbrev pub plain_rpm : Rpm → PlainRpm
 plain_rpm v = record {

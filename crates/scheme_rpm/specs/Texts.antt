@@ -1,12 +1,7 @@
 -- Which texts are RPM's versions.
 use Rattle.std.specs.Prelude.{◌≡◌, ◌≢◌, ◌==◌, ◌&&◌, ◌||◌, ℕ, Bool, false, List, [], ◌∷◌, ◌++◌, if◌then◌else◌, not, Option, None, Some, option_and_then}
-use Rattle.std.specs.Char.{is_ascii_alphabetic, is_ascii_alphanumeric, is_ascii_digit}
-use Rattle.std.specs.List.{list_all, take_while}
-use Rattle.std.specs.Option.{is_some, option_map}
-use Rattle.std.specs.declared.cmp.Ordering.{Ordering}
-use Rattle.std.specs.Str.Parse.{digits_value}
-use Rattle.version_order.specs.texts.Cuts.{cut_last, split_epoch}
-use Rattle.version_order.specs.Rules.{compared}
+use Rattle.std.specs.{Char.is_ascii_alphabetic, Char.is_ascii_alphanumeric, Char.is_ascii_digit, List.list_all, List.take_while, Option.is_some, Option.option_map, Str.Parse.digits_value, declared.cmp.Ordering.Ordering}
+use Rattle.version_order.specs.{Rules.compared, texts.Cuts.cut_last, texts.Cuts.split_epoch}
 use Rattle.scheme_rpm.specs.Order.{Caret, Item, Letters, Number, PlainRpm, Tilde, rpm_cmp}
 
 -- a run of a kind begins with a byte: the byte before it is none of the kind

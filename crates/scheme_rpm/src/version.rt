@@ -1,17 +1,10 @@
 //! RPM's versions, and their order: rpm-version(7), and `rpmvercmp`.
 
 ghost use Rattle.std.specs.Prelude.{◌≡◌, ◌≢◌, drop, None, Some, false, IfNone, IfSome};
-ghost use Rattle.std.specs.Char.{is_ascii_alphabetic};
-ghost use Rattle.std.specs.List.{prefix_len, take_while};
-ghost use Rattle.std.specs.Option.{option_cmp, option_map};
-ghost use Rattle.std.specs.declared.cmp.Ordering.TheVariants.{Equal};
-ghost use Rattle.version_order.specs.texts.DigitRun.{run_value};
-ghost use Rattle.version_order.specs.keys.Codes.{list_bytes};
-ghost use Rattle.version_order.specs.keys.NumberBytes.{text_bytes};
-ghost use Rattle.version_order.specs.keys.Lists.{bytes_cmp};
+ghost use Rattle.std.specs.{Char.is_ascii_alphabetic, List.prefix_len, List.take_while, Option.option_cmp, Option.option_map, declared.cmp.Ordering.TheVariants.Equal};
+ghost use Rattle.version_order.specs.{keys.Codes.list_bytes, keys.Codes.text_bytes, keys.Lists.bytes_cmp, texts.Cuts.cut_first, texts.Front.run_value};
 ghost use Rattle.scheme_rpm.specs.Order.{held_bytes, item_bytes, item_cmp, items_cmp, release_bytes, rpm_bytes, rpm_cmp};
 ghost use Rattle.scheme_rpm.specs.Texts.{behind_epoch, byte_rank, first_of, is_version, items_in, rpm_of, Begins};
-ghost use Rattle.version_order.specs.texts.Cuts.{cut_first};
 
 use crate::sets::OfRpm;
 use crate::viable::left_of_rpm;
@@ -330,14 +323,11 @@ fn put_release<S: Sink>(sink: &mut S, release: Option<&[u8]>)
 }
 
 impl<'t> SchemeVersion<'t> for Rpm<'t> {
+    ghost use Rattle.std.specs.Prelude.{is_some};
     ghost use Rattle.std.specs.Ordering.{on};
     ghost use Rattle.version_order.proofs.lemmas.Codes.{writes_on, plain_no_parts};
-    ghost use Rattle.std.specs.Prelude.{is_some};
-    ghost use Rattle.version_order.specs.Facts.{key_room, plain_facts};
-    ghost use Rattle.version_order.specs.Keyed.{by_key, AreWithin};
-    ghost use Rattle.version_order.specs.Viable.{IsLongestViable};
-    ghost use Rattle.scheme_rpm.specs.Rpm.{rpm_facts, rpm_rules, plain_rpm};
-    ghost use Rattle.scheme_rpm.specs.Laws.{rpm_some, rpm_writes};
+    ghost use Rattle.version_order.specs.{Facts.key_room, Facts.plain_facts, Keyed.by_key, Keyed.AreWithin, Viable.IsLongestViable};
+    ghost use Rattle.scheme_rpm.specs.{Laws.rpm_some, Laws.rpm_writes, Rpm.rpm_facts, Rpm.rpm_rules, Rpm.plain_rpm};
 
     ghost rules = { rpm_rules };
 

@@ -1,23 +1,11 @@
 -- Keys of SemVer's versions write their order, and none is empty.
 use Rattle.std.proofs.Common.{◌≡◌, ◌++◌, ℕ, List, [], Option, None, Some, refl}
-use Rattle.std.specs.Ordering.{ordering_then}
-use Rattle.version_order.proofs.lemmas.Codes.{writes_on, writes_then, compares_by_keys, some_key}
-use Rattle.version_order.proofs.lemmas.NumberBytes.{number_writes, some_bytes}
+use Rattle.std.specs.{Ordering.ordering_then, Prelude.IfSome, Prelude.codes, Prelude.is_some}
+use Rattle.version_order.proofs.lemmas.{Codes.writes_on, Codes.writes_then, Codes.compares_by_keys, Codes.some_key, NumberBytes.number_writes, NumberBytes.some_bytes}
 use Rattle.version_rules.proofs.lemmas.Key.{release_writes}
-use Rattle.version_rules.specs.grammar.Chunk.{PlainChunk}
-use Rattle.version_rules.specs.grammar.SemVer.{PlainSemVer}
-use Rattle.version_order.specs.keys.Codes.{Writes}
-use Rattle.version_order.specs.keys.NumberBytes.{number_bytes}
-use Rattle.version_order.specs.keys.Lists.{bytes_cmp, none_last_cmp}
-use Rattle.version_rules.specs.order.Parts.{release_cmp}
-use Rattle.version_rules.specs.order.Kinds.{semver_cmp}
-use Rattle.std.specs.Prelude.{IfSome, codes, is_some}
-use Rattle.version_order.specs.Keyed.{by_key}
-use Rattle.version_order.specs.Rules.{ComparesByKeys}
-use Rattle.version_order.specs.Viable.{IsViable}
-use Rattle.scheme_semver.specs.Rules.{semver_facts, semver_rules}
-use Rattle.scheme_semver.specs.Texts.{semver_of}
-use Rattle.scheme_semver.specs.Order.{pre_release_bytes, semver_bytes}
+use Rattle.version_rules.specs.{grammar.Chunk.PlainChunk, grammar.SemVer.PlainSemVer, order.Kinds.semver_cmp, order.Parts.release_cmp}
+use Rattle.version_order.specs.{Keyed.by_key, Rules.ComparesByKeys, Viable.IsViable, keys.Codes.Writes, keys.Codes.number_bytes, keys.Lists.bytes_cmp, keys.Lists.none_last_cmp}
+use Rattle.scheme_semver.specs.{Order.pre_release_bytes, Order.semver_bytes, Rules.semver_facts, Rules.semver_rules, Texts.semver_of}
 
 pre_release_writes : Writes (none_last_cmp release_cmp) pre_release_bytes
 pre_release_writes = record { compares = go }

@@ -1,9 +1,7 @@
 -- The keys of versions of SemVer 2.0.0. Their order, item 11, is that of strict versions in `version_rules`.
 use Rattle.std.specs.Prelude.{ℕ, List, [], ◌∷◌, ◌++◌, Option, None, Some}
-use Rattle.version_rules.specs.grammar.Chunk.{PlainChunk}
-use Rattle.version_rules.specs.grammar.SemVer.{PlainSemVer}
-use Rattle.version_order.specs.keys.NumberBytes.{number_bytes}
-use Rattle.version_rules.specs.order.Parts.{release_bytes}
+use Rattle.version_rules.specs.{grammar.Chunk.PlainChunk, grammar.SemVer.PlainSemVer, order.Parts.release_bytes}
+use Rattle.version_order.specs.keys.Codes.{number_bytes}
 
 -- a pre-release comes before its release
 abbrev pub pre_release_bytes : Option (List PlainChunk) → List ℕ

@@ -1,13 +1,10 @@
 -- A version of SemVer, read from its beginning on.
 use Rattle.std.specs.Prelude.{◌==◌, ◌&&◌, ◌||◌, ℕ, suc, length, Bool, List, [], ◌∷◌, drop, if◌then◌else◌, not, Option, None, Some}
-use Rattle.std.specs.List.{list_all, prefix_len, take_while}
-use Rattle.std.specs.Option.{is_some}
-use Rattle.version_order.specs.texts.Bytes.{hyphen, plus}
+use Rattle.std.specs.{List.list_all, List.prefix_len, List.take_while, Option.is_some}
+use Rattle.version_order.specs.texts.{Bytes.hyphen, Bytes.plus, Cuts.pieces, Cuts.cut_first}
 use Rattle.version_rules.specs.grammar.Chunk.{PlainChunk}
 use Rattle.version_texts.specs.Key.{chunks_of}
-use Rattle.version_order.specs.texts.Cuts.{pieces, cut_first}
-use Rattle.scheme_semver.specs.declared.reader.Section.TheVariants.{PreRelease, Metadata}
-use Rattle.scheme_semver.specs.Texts.{is_number, is_section}
+use Rattle.scheme_semver.specs.{Texts.is_number, Texts.is_section, declared.reader.Section.TheVariants.PreRelease, declared.reader.Section.TheVariants.Metadata}
 
 -- a byte that begins no pre-release and no metadata
 abbrev pub is_of_core : ℕ → Bool

@@ -1,15 +1,8 @@
 -- SemVer 2.0.0 as a scheme.
 use Rattle.std.specs.Prelude.{[], ◌∷◌, None, codes}
-use Rattle.version_order.specs.Facts.{PlainFacts}
-use Rattle.version_order.specs.Keyed.{by_key}
-use Rattle.version_order.specs.Rules.{Rules, rules_of}
-use Rattle.version_order.specs.declared.facts.Operators.TheVariants.{Plain}
-use Rattle.version_order.specs.texts.DigitRun.{run_value}
-use Rattle.version_rules.specs.grammar.SemVer.{PlainSemVer}
-use Rattle.version_rules.specs.order.Kinds.{semver_cmp}
-use Rattle.scheme_semver.specs.declared.version.SemVer.{SemVer}
-use Rattle.scheme_semver.specs.Order.{semver_bytes}
-use Rattle.scheme_semver.specs.Texts.{identifiers_of, semver_of}
+use Rattle.version_order.specs.{Facts.PlainFacts, Keyed.by_key, Rules.Rules, Rules.rules_of, declared.facts.Operators.TheVariants.Plain, texts.Front.run_value}
+use Rattle.version_rules.specs.{grammar.SemVer.PlainSemVer, order.Kinds.semver_cmp}
+use Rattle.scheme_semver.specs.{Order.semver_bytes, Texts.identifiers_of, Texts.semver_of, declared.version.SemVer.SemVer}
 
 -- a number takes two bytes of a key for each of its digits
 abbrev pub semver_facts : PlainFacts

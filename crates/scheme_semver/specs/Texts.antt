@@ -1,22 +1,10 @@
 -- Which texts are versions of SemVer 2.0.0: items 2, 9 and 10.
 use Rattle.std.specs.Prelude.{◌==◌, ◌&&◌, ◌||◌, ℕ, Bool, false, List, [], ◌∷◌, if◌then◌else◌, map, not, Option, None, Some}
-use Rattle.std.specs.Borrow.{Bor}
-use Rattle.std.specs.Char.{is_ascii_digit}
-use Rattle.std.specs.List.{list_all}
-use Rattle.std.specs.Option.{option_map}
-use Rattle.std.specs.Str.Parse.{digits_value}
-use Rattle.std.specs.declared.cmp.Ordering.{Ordering}
-use Rattle.version_order.specs.texts.Bytes.{hyphen, is_identifier_byte, plus}
-use Rattle.version_rules.specs.grammar.Chunk.{PlainChunk}
-use Rattle.version_order.specs.texts.DigitRun.{is_digits}
-use Rattle.version_rules.specs.grammar.SemVer.{PlainSemVer}
-use Rattle.version_rules.specs.order.Kinds.{semver_cmp}
+use Rattle.std.specs.{Borrow.Bor, Char.is_ascii_digit, List.list_all, Option.option_map, Str.Parse.digits_value, declared.cmp.Ordering.Ordering}
+use Rattle.version_order.specs.{Rules.compared, texts.Bytes.hyphen, texts.Bytes.is_identifier_byte, texts.Bytes.plus, texts.Cuts.pieces, texts.Cuts.cut_first, texts.Front.is_digits, texts.Front.is_run}
+use Rattle.version_rules.specs.{grammar.Chunk.PlainChunk, grammar.SemVer.PlainSemVer, order.Kinds.semver_cmp}
 use Rattle.version_texts.specs.Key.{chunks_of}
-use Rattle.version_order.specs.texts.Cuts.{pieces, cut_first}
-use Rattle.version_order.specs.texts.Front.{is_run}
-use Rattle.version_order.specs.Rules.{compared}
-use Rattle.scheme_semver.specs.declared.reader.Section.{Section}
-use Rattle.scheme_semver.specs.declared.reader.Section.TheVariants.{PreRelease, Metadata}
+use Rattle.scheme_semver.specs.declared.reader.{Section.Section, Section.TheVariants.PreRelease, Section.TheVariants.Metadata}
 
 -- a zero before other digits
 abbrev pub has_leading_zero : List ℕ → Bool

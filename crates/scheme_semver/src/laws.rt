@@ -2,13 +2,9 @@
 
 ghost use Rattle.std.specs.Prelude.{◌≡◌, List, [], codes, is_some, IfSome, None, Some, ℕ};
 ghost use Rattle.std.specs.declared.cmp.Ordering.TheVariants.{Equal, Greater, Less};
-ghost use Rattle.version_order.specs.Rules.{ComparesByKeys};
-ghost use Rattle.version_order.specs.Viable.{IsViable};
-ghost use Rattle.version_order.specs.keys.Codes.{Writes};
+ghost use Rattle.version_order.specs.{Rules.ComparesByKeys, Viable.IsViable, keys.Codes.Writes};
 ghost use Rattle.version_rules.specs.order.Kinds.{semver_cmp};
-ghost use Rattle.scheme_semver.specs.Order.{semver_bytes};
-ghost use Rattle.scheme_semver.specs.Rules.{semver_rules};
-ghost use Rattle.scheme_semver.specs.Texts.{semver_of, texts_cmp};
+ghost use Rattle.scheme_semver.specs.{Order.semver_bytes, Rules.semver_rules, Texts.semver_of, Texts.texts_cmp};
 
 // Keys compare as the order does, whatever bytes follow them, and so do texts by their keys. No key is empty, and nothing
 // is a beginning of a version.

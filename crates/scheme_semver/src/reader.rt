@@ -1,11 +1,8 @@
 //! Which texts are versions of SemVer 2.0.0, and how far the others could become one.
 
 ghost use Rattle.std.specs.Prelude.{◌≡◌, ◌∷◌, false, suc, IfSome, MatchResult, Some, true, ℕ};
-ghost use Rattle.std.specs.Char.{is_ascii_digit};
-ghost use Rattle.std.specs.List.{list_all, take_while};
-ghost use Rattle.version_order.specs.Viable.{IsCut, Stops};
-ghost use Rattle.version_order.specs.texts.Bytes.{dot, is_identifier_byte, is_metadata_byte};
-ghost use Rattle.version_order.specs.texts.DigitRun.{behind_digits};
+ghost use Rattle.std.specs.{Char.is_ascii_digit, List.list_all, List.take_while};
+ghost use Rattle.version_order.specs.{Viable.IsCut, Viable.Stops, texts.Bytes.dot, texts.Bytes.is_identifier_byte, texts.Bytes.is_metadata_byte, texts.Front.behind_digits};
 ghost use Rattle.version_texts.specs.Key.{chunks_of};
 ghost use Rattle.scheme_semver.specs.Reading.{before_metadata, is_core, is_pre_release, is_tail, tail_of};
 ghost use Rattle.scheme_semver.specs.Texts.{allows, has_leading_zero, identifiers_of, is_number, is_section};

@@ -2,17 +2,10 @@
 
 ghost use Rattle.std.specs.Prelude.{◌≡◌, is_some, IfSome, length, MatchResult, None, Some, true};
 ghost use Rattle.std.proofs.Props.{props};
-ghost use Rattle.std.specs.List.{list_all};
-ghost use Rattle.std.specs.Ordering.{nat_cmp};
-ghost use Rattle.version_order.specs.texts.Bytes.{is_metadata_byte};
-ghost use Rattle.version_order.specs.texts.DigitRun.{run_value};
-ghost use Rattle.version_order.specs.Viable.{IsCut, IsLongestViable};
-ghost use Rattle.version_order.specs.keys.Lists.{bytes_cmp, none_last_cmp};
-ghost use Rattle.version_rules.specs.order.Parts.{release_cmp};
-ghost use Rattle.version_rules.specs.order.Kinds.{semver_cmp};
-ghost use Rattle.scheme_semver.specs.Order.{semver_bytes};
-ghost use Rattle.scheme_semver.specs.Reading.{is_core};
-ghost use Rattle.scheme_semver.specs.Texts.{identifiers_of, is_number, semver_of};
+ghost use Rattle.std.specs.{List.list_all, Ordering.nat_cmp};
+ghost use Rattle.version_order.specs.{Viable.IsCut, Viable.IsLongestViable, keys.Lists.bytes_cmp, keys.Lists.none_last_cmp, texts.Bytes.is_metadata_byte, texts.Front.run_value};
+ghost use Rattle.version_rules.specs.order.{Kinds.semver_cmp, Parts.release_cmp};
+ghost use Rattle.scheme_semver.specs.{Order.semver_bytes, Reading.is_core, Texts.identifiers_of, Texts.is_number, Texts.semver_of};
 
 use crate::reader::{split_last_number, split_number, split_tail};
 use std::cmp::Ordering;
@@ -132,10 +125,8 @@ fn compare_pre_releases(x: Option<&[u8]>, y: Option<&[u8]>) -> Ordering
 impl<'t> SchemeVersion<'t> for SemVer<'t> {
     ghost use Rattle.std.specs.Ordering.{on};
     ghost use Rattle.version_order.proofs.lemmas.Codes.{writes_on, plain_no_parts};
-    ghost use Rattle.version_order.specs.Facts.{key_room, plain_facts};
-    ghost use Rattle.version_order.specs.Keyed.{AreWithin, by_key};
-    ghost use Rattle.scheme_semver.specs.Laws.{semver_some, semver_writes};
-    ghost use Rattle.scheme_semver.specs.Rules.{plain_semver, semver_facts, semver_rules};
+    ghost use Rattle.version_order.specs.{Facts.key_room, Facts.plain_facts, Keyed.AreWithin, Keyed.by_key};
+    ghost use Rattle.scheme_semver.specs.{Laws.semver_some, Laws.semver_writes, Rules.plain_semver, Rules.semver_facts, Rules.semver_rules};
 
     ghost rules = { semver_rules };
 

@@ -1,9 +1,7 @@
 //! Calls that read an input, that append to a list of bytes, or of lines with the keys of their versions.
 ghost use Rattle.std.specs.Prelude.{◌≡◌, IfOk, Some};
-ghost use Rattle.version_lines.specs.KeyedLines.{AreRead};
-ghost use Rattle.version_schemes.specs.any.AnyVersion.{plain_any};
-ghost use Rattle.version_schemes.specs.any.Order.{any_of};
-ghost use Rattle.version_schemes.specs.declared.scheme.Scheme.TheVariants.{Mixed};
+ghost use Rattle.version_lines.specs.Entry.{AreRead};
+ghost use Rattle.version_schemes.specs.{any.AnyVersion.plain_any, any.Order.any_of, declared.scheme.Scheme.TheVariants.Mixed};
 
 use crate::answers::{Made, NOT_BEGUN, Written, lend, put};
 use crate::values;

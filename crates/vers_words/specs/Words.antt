@@ -1,22 +1,15 @@
 -- Which task the words of a run mean.
 use Rattle.std.specs.Prelude.{◌≡◌, ◌||◌, ⊤, ℕ, Bool, true, false, List, [], ◌∷◌, None, codes, map}
 use Rattle.std.specs.Str.{bytes_eq}
-use Rattle.vers_words.specs.declared.faults.Fault.{Fault}
-use Rattle.vers_words.specs.declared.faults.Fault.TheVariants.{Usage, Task}
-use Rattle.version_commands.specs.declared.faults.TaskFault.TheVariants.{Memory}
-use Rattle.version_commands.specs.declared.files.NoFiles.{NoFiles}
-use Rattle.version_commands.specs.declared.options.Arrangement.TheVariants.{Sort}
-use Rattle.version_commands.specs.declared.options.EachOptions.{EachOptions}
-use Rattle.version_commands.specs.declared.options.Invalid.TheVariants.{Fail}
-use Rattle.version_commands.specs.declared.options.Labels.TheVariants.{Every, Strict}
-use Rattle.version_commands.specs.declared.options.LineOptions.{LineOptions}
-use Rattle.version_answers.specs.declared.spelling.Naming.TheVariants.{Bare}
-use Rattle.version_commands.specs.declared.options.Question.TheVariants.{Key}
-use Rattle.version_commands.specs.declared.options.Task as options
+use Rattle.vers_words.specs.declared.faults.{Fault.Fault, Fault.TheVariants.Usage, Fault.TheVariants.Task}
 use Rattle.version_commands.specs.declared.options.Task.TheVariants.{Compare, Each, Label, Lines, Match}
+use Rattle.version_commands.specs.declared.{faults.TaskFault.TheVariants.Memory, files.NoFiles.NoFiles, options.Arrangement.TheVariants.Sort, options.EachOptions.EachOptions, options.Invalid.TheVariants.Fail}
+use Rattle.version_commands.specs.declared.options.{Labels.TheVariants.Every, Labels.TheVariants.Strict, LineOptions.LineOptions, Question.TheVariants.Key}
+use Rattle.version_answers.specs.declared.spelling.Naming.TheVariants.{Bare}
 use Rattle.version_lines.specs.Lines.{line_feed, plain_end}
 use Rattle.version_schemes.specs.declared.scheme.Scheme.TheVariants.{Mixed}
 use Rattle.version_tasks.specs.declared.stability.Stability.TheVariants.{Dev}
+use Rattle.version_commands.specs.declared.options.Task as options
 
 -- whether the words are a command: its name, and as many words as it takes; none are `ideal`
 abbrev pub are_command : List (List ℕ) → Bool

@@ -1,8 +1,7 @@
 //! A run of `vers` over any reader and writer.
 ghost use Rattle.std.specs.Prelude.{map, string_bytes};
 ghost use Rattle.version_commands.specs.Run.{RunsBy};
-ghost use Rattle.vers_words.specs.Words.{no_files, IsOfWords, Means};
-ghost use Rattle.vers_words.specs.declared.faults.Fault.TheVariants.{Task};
+ghost use Rattle.vers_words.specs.{Words.no_files, Words.IsOfWords, Words.Means, declared.faults.Fault.TheVariants.Task};
 
 use crate::faults::Fault;
 use crate::words::task_of;

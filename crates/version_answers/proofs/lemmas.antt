@@ -1,4 +1,2 @@
 pub mod Explain
-pub mod Fields
-pub mod Pieces
-pub mod Sets
+pub mod One

@@ -1,7 +1,6 @@
-pub mod Pieces
+pub mod Message
+pub mod One
 pub mod Sets
 pub mod Spelling
 pub mod Tags
-pub mod message
-pub mod one
-pub mod two
+pub mod Two

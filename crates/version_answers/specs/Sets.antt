@@ -1,17 +1,11 @@
 -- Sets that words are.
 use Rattle.std.specs.Prelude.{◌≡◌, ℕ, Bool, true, false, List, ◌∷◌, Option, None, Some, ◌+◌, ◌-◌, ◌^◌, ◌++◌, codes, min}
-use Rattle.std.specs.Option.{option_map}
-use Rattle.version_answers.specs.declared.set.WrongSet.{WrongSet}
-use Rattle.version_schemes.specs.Scheme.{rules}
-use Rattle.version_schemes.specs.declared.scheme.Scheme.{Scheme}
+use Rattle.std.specs.{Fmt.decimal, Option.option_map}
+use Rattle.version_answers.specs.{Message.quoted, declared.set.WrongSet.WrongSet}
+use Rattle.version_schemes.specs.{Scheme.rules, declared.scheme.Scheme.Scheme}
 use Rattle.version_order.specs.Rules.{Rules}
-use Rattle.version_sets.specs.Excluding.{leave_out, AreLeft}
-use Rattle.version_sets.specs.declared.read.excluding.Span.{Span}
-use Rattle.version_sets.specs.declared.read.pieces.Pieces.{Pieces}
 use Rattle.version_sets.specs.Reading.{Member, Reading, Right, Wrong, fault_of, read_set, set_has}
-use Rattle.std.specs.Fmt.{decimal}
-use Rattle.version_answers.specs.message.Quote.{quoted}
-use Rattle.version_sets.specs.Set.{reason_text}
+use Rattle.version_sets.specs.{Excluding.leave_out, Excluding.AreLeft, Set.reason_text, declared.read.excluding.Span.Span, declared.read.pieces.Pieces.Pieces}
 
 -- what a word is read as, by a scheme
 abbrev pub reading_of : Scheme → List ℕ → Reading

@@ -1,12 +1,9 @@
 -- How a text spells a version.
 use Rattle.std.specs.Prelude.{ℕ, ◌-◌, List, [], Option, Some, length, take}
 use Rattle.std.specs.Option.{unwrap_or}
-use Rattle.version_answers.specs.declared.spelling.Naming.{Naming}
-use Rattle.version_answers.specs.declared.spelling.Naming.TheVariants.{Bare, Tag, Prefix}
-use Rattle.version_answers.specs.declared.spelling.Spelling.{Spelling}
+use Rattle.version_answers.specs.declared.spelling.{Naming.Naming, Naming.TheVariants.Bare, Naming.TheVariants.Tag, Naming.TheVariants.Prefix, Spelling.Spelling}
 use Rattle.version_rules.specs.grammar.Versioning.{PlainVersioning, versioning_of}
-use Rattle.version_schemes.specs.any.Order.{PlainAny, any_of}
-use Rattle.version_schemes.specs.declared.scheme.Scheme.TheVariants.{Mixed}
+use Rattle.version_schemes.specs.{any.Order.PlainAny, any.Order.any_of, declared.scheme.Scheme.TheVariants.Mixed}
 use Rattle.version_tasks.specs.Tag.{text_after_prefix, text_in_tag}
 
 -- the text of the version in a text: all of it, or the rest of a tag from where its version begins; none where none

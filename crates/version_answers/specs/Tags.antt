@@ -1,21 +1,12 @@
 -- What the version in a tag is, and where it makes another answer than the whole text.
 use Rattle.version_order.specs.texts.Front.{◌>>=◌}
 use Rattle.std.specs.Prelude.{◌≡◌, ◌==◌, ◌&&◌, ◌||◌, ℕ, Bool, true, false, List, [], ◌∷◌, Option, Some, None, not, if◌then◌else◌}
-use Rattle.std.specs.Char.{is_ascii_digit}
-use Rattle.std.specs.Option.{option_map_or}
-use Rattle.std.specs.Ordering.{is_lt, is_eq, is_gt}
-use Rattle.std.specs.declared.cmp.Ordering.{Ordering}
+use Rattle.std.specs.{Char.is_ascii_digit, Option.option_map_or, Ordering.is_lt, Ordering.is_eq, Ordering.is_gt, declared.cmp.Ordering.Ordering}
 use Rattle.std.specs.declared.cmp.Ordering.TheVariants.{Less, Equal, Greater}
-use Rattle.version_answers.specs.one.Next.{IsNextBy, NoNextBy}
-use Rattle.version_answers.specs.Spelling.{spelled}
-use Rattle.version_answers.specs.two.Compare.{holds}
-use Rattle.version_answers.specs.declared.spelling.Naming.{Naming}
-use Rattle.version_answers.specs.declared.spelling.Naming.TheVariants.{Bare, Tag}
+use Rattle.version_answers.specs.{One.IsNextBy, One.NoNextBy, Spelling.spelled, Two.holds, declared.one.next.Step.Step, declared.spelling.Naming.Naming, declared.spelling.Naming.TheVariants.Bare, declared.spelling.Naming.TheVariants.Tag}
 use Rattle.version_answers.specs.declared.two.compare.Operator.{Operator}
-use Rattle.version_answers.specs.declared.one.next.Step.{Step}
 use Rattle.version_rules.specs.grammar.Versioning.{PlainVersioning, versioning_of}
-use Rattle.version_schemes.specs.any.Order.{PlainAny, any_of, any_precedence}
-use Rattle.version_schemes.specs.declared.scheme.Scheme.{Scheme}
+use Rattle.version_schemes.specs.{any.Order.PlainAny, any.Order.any_of, any.Order.any_precedence, declared.scheme.Scheme.Scheme}
 use Rattle.version_tasks.specs.Tag.{version_in_tag}
 
 -- whether a text is to be a version as a whole

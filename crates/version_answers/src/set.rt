@@ -2,15 +2,11 @@
 
 ghost use Rattle.std.specs.Prelude.{◌≡◌, ◌<◌, ◌∷◌, [], get_or, length, List, Some, IfErr, IfNone, IfOk, IfSome, ℕ};
 ghost use Rattle.version_answers.specs.Sets.{keys_of, reading_of, HasAny, IsWrongSet, LeavesOut};
-ghost use Rattle.version_schemes.specs.Scheme.{rules, scheme_number};
-ghost use Rattle.version_schemes.specs.any.AnyVersion.{plain_any};
+ghost use Rattle.version_schemes.specs.{Scheme.rules, Scheme.scheme_number, any.AnyVersion.plain_any};
 ghost use Rattle.version_sets.specs.Form.{has, IsPart, Meet, Rise, form_bytes, form_ends};
-ghost use Rattle.version_sets.specs.Excluding.{leave_out, steps_left, AreLeft};
-ghost use Rattle.version_sets.specs.Reader.{IsUnread, IsWrittenSet};
 ghost use Rattle.version_sets.specs.Reading.{read_set, set_has, set_room, Member, Right};
-ghost use Rattle.version_sets.specs.Set.{ends_of};
-ghost use Rattle.version_order.specs.Facts.{key_room};
-ghost use Rattle.version_order.specs.keys.Sinks.{saturated};
+ghost use Rattle.version_sets.specs.{Excluding.leave_out, Excluding.steps_left, Excluding.AreLeft, Reader.IsUnread, Reader.IsWrittenSet, Set.ends_of};
+ghost use Rattle.version_order.specs.{Facts.key_room, keys.Sinks.saturated};
 
 use crate::message::quote::Shown;
 use std::alloc::{AllocError, Global};
@@ -70,6 +66,7 @@ impl Set {
     }
 
     /// Returns whether it has any key.
+    #[tactic(auto, using(crate::proofs::lemmas::One::has_one))]
     pub fn has_any(&self) -> bool
         ensures { HasAny result (has self.now) }
     {

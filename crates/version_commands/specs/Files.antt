@@ -1,11 +1,7 @@
 -- The files of a run: its inputs, which are read in turn, and what it leaves of them.
 use Rattle.std.specs.Prelude.{◌≡◌, ℕ, Bool, true, false, List, [], ◌∷◌, ◌++◌, Option, None, Some, codes, length, map, IsSomeAnd, ◌⊎◌}
-use Rattle.std.specs.Io.KnownBytes.{Consumes, IsAtEnd}
-use Rattle.std.specs.List.{list_any}
-use Rattle.std.specs.Str.{bytes_eq}
-use Rattle.version_lines.specs.Inputs.{PlainInput}
-use Rattle.version_lines.specs.Lines.{ends_quoted, lines_of}
-use Rattle.version_lines.specs.declared.lines.LineEnd.{LineEnd}
+use Rattle.std.specs.{Io.KnownBytes.Consumes, Io.KnownBytes.IsAtEnd, List.list_any, Str.bytes_eq}
+use Rattle.version_lines.specs.{Inputs.PlainInput, Lines.ends_quoted, Lines.lines_of, declared.lines.LineEnd.LineEnd}
 
 -- what reading the file of a name may give, or that it may fail
 abbrev pub Reading : Type 1

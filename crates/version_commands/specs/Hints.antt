@@ -1,45 +1,18 @@
 -- What makes a hint so: of words and lines, and of a task.
 use Rattle.std.specs.Prelude.{◌≡◌, ◌&&◌, ◌||◌, ◌-◌, ◌<◌, ℕ, Bool, true, false, List, [], ◌∷◌, get_or, length, Option, Some, None, is_some, not, ◌⊎◌, map}
-use Rattle.std.specs.List.{list_any}
-use Rattle.std.specs.Option.{option_map_or}
-use Rattle.std.specs.Ordering.{is_lt}
-use Rattle.std.specs.Str.{bytes_eq}
-use Rattle.std.specs.declared.cmp.Ordering.{Ordering}
+use Rattle.std.specs.{List.list_any, Option.option_map_or, Ordering.is_lt, Str.bytes_eq, declared.cmp.Ordering.Ordering}
 use Rattle.std.specs.declared.cmp.Ordering.TheVariants.{Less, Equal, Greater}
-use Rattle.version_commands.specs.faults.Fault.{ends_in_return}
-use Rattle.version_commands.specs.lines.Ordered.{body_of, options_in, ordered_in}
-use Rattle.version_commands.specs.lines.Place.{group_text, text_of}
-use Rattle.version_commands.specs.declared.options.Arrangement.{Arrangement}
-use Rattle.version_commands.specs.declared.options.ColumnNames.{ColumnNames}
-use Rattle.version_commands.specs.declared.options.LineOptions.{LineOptions}
-use Rattle.version_commands.specs.declared.options.VersionPlace.{VersionPlace}
-use Rattle.version_lines.specs.Inputs.{lines_of_inputs, texts_of, PlainLine}
-use Rattle.version_lines.specs.declared.column.Column.{Column}
-use Rattle.version_lines.specs.declared.column.Separators.{Separators}
-use Rattle.version_lines.specs.declared.column.Separators.TheVariants.{Bytes}
-use Rattle.version_schemes.specs.any.Order.{PlainAny, any_of}
-use Rattle.version_schemes.specs.declared.scheme.Scheme.{Scheme}
-use Rattle.version_answers.specs.Tags.{is_bare, begins_with_v, tagged, differ, order_of_tags, begins_with_number, compare_otherwise, is_tested_otherwise, HasNextInTag}
-use Rattle.std.proofs.Common.{Bor}
-use Rattle.version_commands.specs.faults.Cause.{ComesOfArranging}
-use Rattle.version_commands.specs.lines.Choice.{is_of, keeps_of}
-use Rattle.version_commands.specs.words.Each.{spelling_of, version_asked}
-use Rattle.version_commands.specs.lines.FirstWord.{Finding, HoldsByWords}
-use Rattle.version_commands.specs.Files.{inputs_of, names_read, AreInputs, Reading}
-use Rattle.version_commands.specs.Lists.{first_rows, names_of, rows_of, Row}
-use Rattle.version_answers.specs.message.Remark.{IsRemark}
-use Rattle.version_answers.specs.Sets.{keys_of}
-use Rattle.version_commands.specs.words.Test.{answer_of_two}
-use Rattle.version_commands.specs.declared.files.Hint.{Hint}
 use Rattle.version_commands.specs.declared.files.Hint.TheVariants.{NotVersion, NoFile, Tags, WholeLines, Repeated, NothingKept}
-use Rattle.version_commands.specs.declared.options.Arrangement.TheVariants.{Sort, Newest, Filter}
-use Rattle.version_commands.specs.declared.options.EachOptions.{EachOptions}
-use Rattle.version_commands.specs.declared.options.Lists.{Lists}
-use Rattle.version_answers.specs.declared.spelling.Naming.{Naming}
-use Rattle.version_commands.specs.declared.options.Question.{Question}
-use Rattle.version_commands.specs.declared.options.Question.TheVariants.{Why, Next}
-use Rattle.version_commands.specs.declared.options.Task.{Task}
-use Rattle.version_schemes.specs.declared.scheme.Scheme.TheVariants.{Mixed}
+use Rattle.version_commands.specs.{Cause.ComesOfArranging, Each.spelling_of, Each.version_asked, Fault.ends_in_return, Files.inputs_of, Files.names_read, Files.AreInputs, Files.Reading}
+use Rattle.version_commands.specs.{Lists.first_rows, Lists.names_of, Lists.rows_of, Lists.Row, Output.answer_of_two, declared.files.Hint.Hint, declared.options.Arrangement.Arrangement}
+use Rattle.version_commands.specs.declared.options.{Arrangement.TheVariants.Sort, Arrangement.TheVariants.Newest, Arrangement.TheVariants.Filter, ColumnNames.ColumnNames, EachOptions.EachOptions, LineOptions.LineOptions, Lists.Lists}
+use Rattle.version_commands.specs.declared.options.{Question.Question, Question.TheVariants.Why, Question.TheVariants.Next, Task.Task, VersionPlace.VersionPlace}
+use Rattle.version_commands.specs.lines.{Choice.is_of, Choice.keeps_of, Choice.Finding, Choice.HoldsByWords, Ordered.body_of, Ordered.options_in, Ordered.ordered_in, Picked.group_text, Picked.text_of}
+use Rattle.version_lines.specs.{Inputs.lines_of_inputs, Inputs.texts_of, Inputs.PlainLine, declared.column.Column.Column, declared.column.Separators.Separators, declared.column.Separators.TheVariants.Bytes}
+use Rattle.version_schemes.specs.{any.Order.PlainAny, any.Order.any_of, declared.scheme.Scheme.Scheme, declared.scheme.Scheme.TheVariants.Mixed}
+use Rattle.version_answers.specs.Tags.{is_bare, begins_with_v, tagged, differ, order_of_tags, begins_with_number, compare_otherwise, is_tested_otherwise, HasNextInTag}
+use Rattle.version_answers.specs.{Message.IsRemark, Sets.keys_of, declared.spelling.Naming.Naming}
+use Rattle.std.proofs.Common.{Bor}
 use Rattle.version_commands.specs.declared.options.Arrangement.TheVariants as arrangement
 use Rattle.version_commands.specs.declared.faults.TaskFault.TheVariants as fault
 use Rattle.version_commands.specs.declared.options.Task.TheVariants as task

@@ -1,25 +1,11 @@
 -- What differs between two lists of names with versions.
 use Rattle.std.specs.Prelude.{◌≡◌, ℕ, List, [], ◌∷◌, ◌++◌, map, codes, Option, Some, None, is_some, if◌then◌else◌}
-use Rattle.std.specs.BTreeMap.{get_by}
-use Rattle.std.specs.Cmp.Lexicographic.{slice_cmp}
-use Rattle.std.specs.List.{flat_map}
-use Rattle.std.specs.Option.{option_map, option_map_or}
-use Rattle.std.specs.Ordering.{nat_cmp}
-use Rattle.std.specs.Str.{bytes_eq}
-use Rattle.std.specs.declared.cmp.Ordering.{Ordering}
+use Rattle.std.specs.{BTreeMap.get_by, Cmp.Lexicographic.slice_cmp, List.flat_map, Option.option_map, Option.option_map_or, Ordering.nat_cmp, Str.bytes_eq, declared.cmp.Ordering.Ordering}
 use Rattle.std.specs.declared.cmp.Ordering.TheVariants.{Less, Equal, Greater}
-use Rattle.version_commands.specs.lines.Picked.{bad_lines}
-use Rattle.version_commands.specs.lines.Place.{column_text, line_text, reads_of}
-use Rattle.version_commands.specs.declared.lists.Named.{Named}
-use Rattle.version_commands.specs.declared.lists.Names.{Names}
-use Rattle.version_commands.specs.declared.lists.WhichList.{WhichList}
-use Rattle.version_commands.specs.declared.lists.WhichList.TheVariants.{Old, New}
-use Rattle.version_commands.specs.declared.options.Lists.{Lists}
-use Rattle.version_lines.specs.Inputs.{lines_of_input, PlainLine}
-use Rattle.version_lines.specs.Lines.{lines_of, whole_line}
-use Rattle.version_lines.specs.Sort.{version_in}
-use Rattle.version_schemes.specs.any.AnyVersion.{plain_any}
-use Rattle.version_schemes.specs.any.Order.{PlainAny, any_precedence}
+use Rattle.version_commands.specs.declared.{lists.Named.Named, lists.Names.Names, lists.WhichList.WhichList, lists.WhichList.TheVariants.Old, lists.WhichList.TheVariants.New, options.Lists.Lists}
+use Rattle.version_commands.specs.lines.Picked.{bad_lines, column_text, line_text, reads_of}
+use Rattle.version_lines.specs.{Inputs.lines_of_input, Inputs.PlainLine, Lines.lines_of, Lines.whole_line, Sort.version_in}
+use Rattle.version_schemes.specs.any.{AnyVersion.plain_any, Order.PlainAny, Order.any_precedence}
 
 -- the inputs of two lists
 abbrev pub names_of : Lists → List (List ℕ)

@@ -1,25 +1,92 @@
 -- What a task writes.
-use Rattle.std.specs.Prelude.{◌≡◌, ◌==◌, ◌||◌, ℕ, Bool, false, true, List, [], ◌∷◌, length, map, Option, None, Some, string_bytes}
-use Rattle.std.specs.List.{list_any}
-use Rattle.version_answers.specs.two.Compare.{comparison_line}
-use Rattle.version_answers.specs.two.Difference.{difference_line}
-use Rattle.version_commands.specs.words.Each.{are_versions, IsAnswered, IsAsked}
-use Rattle.version_answers.specs.two.Explain.{explained_line}
-use Rattle.version_commands.specs.lines.FirstWord.{may_be_standard, Finding, HoldsByWords}
-use Rattle.version_commands.specs.Files.{names_read, reads_standard, AreInputs, Reading}
-use Rattle.version_commands.specs.lines.Label.{AreLabelled}
-use Rattle.version_commands.specs.Lists.{bad_lines_of, difference_text, names_of, rows_of}
-use Rattle.version_commands.specs.lines.Ordered.{bad_file, IsOrdered}
-use Rattle.version_commands.specs.lines.Matched.{AreMatched}
-use Rattle.version_answers.specs.Spelling.{spelled, spelled_mixed}
-use Rattle.version_commands.specs.words.Test.{answer_line, answer_of_set, answer_of_two, AreSetsSo}
-use Rattle.version_commands.specs.declared.options.Invalid.TheVariants.{Fail}
-use Rattle.version_commands.specs.declared.options.Lists.{Lists}
-use Rattle.version_commands.specs.declared.options.Task.{Task}
-use Rattle.version_commands.specs.declared.options.Task.TheVariants as task
-use Rattle.version_lines.specs.Lines.{ends_quoted, line_feed}
-use Rattle.version_schemes.specs.declared.scheme.Scheme.{Scheme}
+use Rattle.version_order.specs.texts.Front.{◌>>=◌}
+use Rattle.std.specs.Prelude.{◌≡◌, ℕ, List, ◌++◌, Option, None, Some, codes, ◌⊎◌, Bool, true, false, [], if◌then◌else◌, ◌∷◌, ◌==◌, ◌||◌, length, map, string_bytes}
+use Rattle.std.specs.{Io.KnownBytes.Consumes, Io.KnownBytes.IsAtEnd, List.list_any, Option.option_map, Option.option_map_or}
+use Rattle.version_answers.specs.{One.kind_name, Sets.keys_of, Spelling.spelled, Spelling.spelled_mixed, Two.holds, Two.comparison_line, Two.difference_line, Two.explained_line, declared.spelling.Spelling.Spelling}
+use Rattle.version_answers.specs.declared.two.compare.Operator.{Operator}
+use Rattle.version_commands.specs.{Each.are_versions, Each.IsAnswered, Each.IsAsked, Files.names_read, Files.reads_standard, Files.AreInputs, Files.Reading, Lists.bad_lines_of, Lists.difference_text, Lists.names_of, Lists.rows_of}
+use Rattle.version_commands.specs.declared.options.{Invalid.TheVariants.Fail, Labels.Labels, Labels.TheVariants.Strict, Labels.TheVariants.Every, Lists.Lists, Task.Task}
+use Rattle.version_commands.specs.lines.{Choice.may_be_standard, Choice.Finding, Choice.HoldsByWords, Ordered.bad_file, Ordered.IsOrdered}
+use Rattle.version_lines.specs.Lines.{labelled_line, line_feed, output_by, plain_end, whole_line, ends_quoted}
+use Rattle.version_rules.specs.{declared.kind.Kind.Kind, declared.kind.Kind.TheVariants.Ideal, grammar.SemVer.semver_of, grammar.Versioning.versioning_kind, grammar.Versioning.versioning_of, grammar.Versioning.PlainVersioning}
+use Rattle.version_rules.specs.{laws.Matching.matches_all_or_not, requirement.Requirement.PlainRequirement, requirement.Requirements.requirements_of}
+use Rattle.version_schemes.specs.{any.Order.any_precedence, declared.scheme.Scheme.Scheme}
 use Rattle.version_sets.specs.Form.{IsPart, Meet}
+use Rattle.std.proofs.Common.{inl, inr}
+use Rattle.version_commands.specs.declared.options.Task.TheVariants as task
+
+-- ---- the lines of an input with the kinds of their versions
+
+-- the kind that labels a line, if one does: strict where the line is a strict version, or that of the
+-- version that the line is
+abbrev pub label_of : Labels → List ℕ → Option Kind
+label_of Strict line = option_map (λ _. Ideal) (semver_of line)
+label_of Every line = option_map versioning_kind (versioning_of line)
+
+-- what is written for a line: the name of this kind, a space and the line, or `none`
+abbrev pub labelled : Option Kind → ℕ → List ℕ → List ℕ
+labelled None end line = whole_line end (codes "none")
+labelled (Some kind) end line = labelled_line end (kind_name kind ++ codes " ") line
+
+-- the same by what is labelled
+abbrev pub label_line : Labels → ℕ → List ℕ → List ℕ
+label_line labels end line = labelled (label_of labels line) end line
+
+-- what is written for the lines of standard input
+abbrev pub AreLabelled : Labels → Option (List ℕ) → Option (List ℕ) → List ℕ → Type 0
+AreLabelled labels old new output =
+    (input : List ℕ) × Consumes old new input × IsAtEnd new
+    × (output ≡ output_by (plain_end line_feed) (label_line labels line_feed) input)
+
+-- ---- the lines of an input that a list of requirements matches
+
+-- whether something holds
+abbrev pub is_so : {Holds : Type 0} → Holds ⊎ ¬ Holds → Bool
+is_so (inl it_holds) = true
+is_so (inr it_fails) = false
+
+-- whether each member of a list of requirements matches a version
+abbrev pub is_matched : List PlainRequirement → PlainVersioning → Bool
+is_matched wanted v = is_so (matches_all_or_not wanted v)
+
+-- what is written for a line: the line, if it is a version that the list matches
+abbrev pub matched_line : List PlainRequirement → ℕ → List ℕ → List ℕ
+matched_line wanted end line =
+    if option_map_or (is_matched wanted) (versioning_of line) false then whole_line end line else []
+
+-- what is written for the lines of standard input, by the list that a word is
+abbrev pub AreMatched : List ℕ → Option (List ℕ) → Option (List ℕ) → List ℕ → Type 0
+AreMatched word old new output =
+    (wanted : List PlainRequirement) × (requirements_of word ≡ Some wanted)
+    × (input : List ℕ) × Consumes old new input × IsAtEnd new
+    × (output ≡ output_by (plain_end line_feed) (matched_line wanted line_feed) input)
+
+-- ---- what `test`, `implies` and `meets` answer
+
+-- whether an operator holds between two versions, by their precedence; None if a word is none
+abbrev pub answer_of_two : Spelling → Operator → List ℕ → List ℕ → Option Bool
+answer_of_two spelling operator first second = do
+  v ← spelled spelling first
+  w ← spelled spelling second
+  Some (holds operator (any_precedence v w))
+
+-- whether a set has a version; None if a word is none
+abbrev pub answer_of_set : Spelling → List ℕ → List ℕ → Option Bool
+answer_of_set spelling version set = do
+  v ← spelled spelling version
+  keys ← keys_of spelling.scheme set
+  Some (keys v.key)
+
+-- two words are sets, of whose keys this holds
+abbrev pub AreSetsSo : Scheme → ((List ℕ → Bool) → (List ℕ → Bool) → Type 0) → List ℕ → List ℕ → Type 0
+AreSetsSo scheme Holds one other = (first second : List ℕ → Bool)
+    × (keys_of scheme one ≡ Some first) × (keys_of scheme other ≡ Some second) × Holds first second
+
+-- the line for an answer
+abbrev pub answer_line : Bool → List ℕ
+answer_line answer = (if answer then codes "yes" else codes "no") ++ line_feed ∷ []
+
+-- ---- what a task writes
 
 -- the words are versions, and this is the line for the two
 pub record IsLineOfTwo {V : Type 0} (read : List ℕ → Option V) (line : V → V → List ℕ) (a b : List ℕ)

@@ -1,11 +1,4 @@
 pub mod Arranged
-pub mod BySchemes
 pub mod Choice
-pub mod FirstWord
-pub mod Header
-pub mod Label
-pub mod LineRun
-pub mod Matched
 pub mod Ordered
 pub mod Picked
-pub mod Place

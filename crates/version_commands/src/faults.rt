@@ -1,7 +1,7 @@
 //! Why a task fails.
 ghost use Rattle.std.specs.Prelude.{◌++◌, Some};
 ghost use Rattle.std.specs.Fmt.{DisplaysOnOk};
-ghost use Rattle.version_answers.specs.message.Quote.{quoted};
+ghost use Rattle.version_answers.specs.Message.{quoted};
 
 pub(crate) mod bad;
 
@@ -45,7 +45,7 @@ pub enum TaskFault<'w> {
 
 impl TaskFault<'_> {
     ghost use Rattle.std.specs.Prelude.{◌≡◌};
-    ghost use Rattle.version_commands.specs.faults.Fault.{status_of};
+    ghost use Rattle.version_commands.specs.Fault.{status_of};
 
     /// Returns the exit status: 1 for an input that is not a version, a requirement or a set, has no such column, or doesn't close its quotes; 2 for such words of a task
     /// that answers by its status; 3 for a failure of the system.
@@ -68,7 +68,7 @@ impl TaskFault<'_> {
 
 impl fmt::Display for TaskFault<'_> {
     ghost use Rattle.std.specs.Prelude.{Some};
-    ghost use Rattle.version_commands.specs.faults.Fault.{fault_text};
+    ghost use Rattle.version_commands.specs.Fault.{fault_text};
 
     ghost output = { λ fault. Some (fault_text fault) };
 

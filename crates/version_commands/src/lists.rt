@@ -1,12 +1,9 @@
 //! What differs between two lists of names with versions.
 ghost use Rattle.std.specs.Prelude.{◌≡◌, ◌∷◌, ◌++◌, [], length, map, List, IfOk, OnOk};
 ghost use Rattle.std.specs.Option.{option_map};
-ghost use Rattle.version_commands.specs.Hints.{repeated};
 ghost use Rattle.version_commands.specs.Lists.{difference_text, first_rows, bad_lines_of, lines_against, name_line, plain_row, row_text, rows_of, version_of, AreNames, Row};
-ghost use Rattle.version_commands.specs.lines.Place.{reads_of};
-ghost use Rattle.version_lines.specs.Inputs.{plain_line};
-ghost use Rattle.version_lines.specs.Lines.{whole_line};
-ghost use Rattle.version_lines.specs.Sort.{version_in};
+ghost use Rattle.version_commands.specs.{Hints.repeated, lines.Picked.reads_of};
+ghost use Rattle.version_lines.specs.{Inputs.plain_line, Lines.whole_line, Sort.version_in};
 ghost use Rattle.version_schemes.specs.any.AnyVersion.{plain_any};
 
 use crate::files::inputs::count_lines;
@@ -129,8 +126,7 @@ struct NamedList<'l, 'w, 'a> {
 impl<'a> Takes<'a> for NamedList<'_, '_, 'a> {
     ghost use Rattle.std.specs.Prelude.{◌≡◌, ⊤};
     ghost use Rattle.std.specs.List.{flat_map};
-    ghost use Rattle.version_commands.specs.Lists.{rows_of_line, AreNames};
-    ghost use Rattle.version_commands.specs.lines.Place.{reads_of};
+    ghost use Rattle.version_commands.specs.{Lists.rows_of_line, Lists.AreNames, lines.Picked.reads_of};
     ghost use Rattle.version_lines.specs.Sort.{version_in};
 
     ghost versions = { λ list. version_in (reads_of list.lists.now.place) };

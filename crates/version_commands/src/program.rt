@@ -1,19 +1,10 @@
 //! What a task does over any files, reader and writer.
 ghost use Rattle.std.specs.Prelude.{◌≡◌, ◌∷◌, ◌++◌, [], map, None, false, true, IfErr, IfOk, OnOk};
-ghost use Rattle.version_commands.specs.faults.Cause.{ComesOf, ComesOfChanges};
-ghost use Rattle.version_answers.specs.two.Compare.{comparison_line, sign_text};
-ghost use Rattle.version_answers.specs.two.Explain.{explained_line};
-ghost use Rattle.version_answers.specs.two.Difference.{difference_line};
-ghost use Rattle.version_commands.specs.faults.Ends.{IfOfWord, UnlessLate, Ends};
-ghost use Rattle.version_commands.specs.faults.Fault.{first_wrong, ComesOfBad, ComesOfWords};
-ghost use Rattle.version_commands.specs.Files.{AltersAtMost, Leaves, reads_standard};
-ghost use Rattle.version_commands.specs.Hints.{IsHint, IsOfLists, MayTell};
-ghost use Rattle.version_commands.specs.Lists.{names_of};
-ghost use Rattle.version_commands.specs.Output.{asks_reader, file_of, Answers, AreChanges, IsLineOfTwo, IsOutput};
-ghost use Rattle.version_answers.specs.Spelling.{mixed_spelling, spelled, spelled_mixed};
-ghost use Rattle.version_commands.specs.words.Test.{answer_line};
-ghost use Rattle.version_lines.specs.Inputs.{plain_line};
-ghost use Rattle.version_lines.specs.Lines.{line_feed};
+ghost use Rattle.version_commands.specs.Output.{asks_reader, file_of, answer_line, Answers, AreChanges, IsLineOfTwo, IsOutput};
+ghost use Rattle.version_commands.specs.{Cause.ComesOf, Cause.ComesOfChanges, Fault.first_wrong, Fault.ComesOfBad, Fault.ComesOfWords, Files.AltersAtMost, Files.Leaves, Files.reads_standard, Hints.IsHint, Hints.IsOfLists, Hints.MayTell};
+ghost use Rattle.version_commands.specs.{Lists.names_of, Run.IfOfWord, Run.UnlessLate, Run.Ends};
+ghost use Rattle.version_answers.specs.{Spelling.mixed_spelling, Spelling.spelled, Spelling.spelled_mixed, Two.comparison_line, Two.sign_text, Two.explained_line, Two.difference_line};
+ghost use Rattle.version_lines.specs.{Inputs.plain_line, Lines.line_feed};
 
 use crate::faults::TaskFault;
 use crate::faults::bad::refuse_first;

@@ -1,12 +1,9 @@
 -- The columns of a line.
-use Rattle.std.specs.Prelude.{◌==◌, ◌||◌, ℕ, Bool, List, [], ◌∷◌, not, map, true, false, Option, option_map, if◌then◌else◌}
 use Rattle.std.specs.List.{filter, list_any, position, slice_get, slice_split}
+use Rattle.std.specs.Prelude.{◌==◌, ◌||◌, ℕ, Bool, List, [], ◌∷◌, not, map, true, false, Option, option_map, if◌then◌else◌}
 use Rattle.std.specs.Str.{bytes_eq}
-use Rattle.version_lines.specs.Csv.{field_text, is_whole, raw_fields}
-use Rattle.version_lines.specs.declared.column.Column.{Column}
-use Rattle.version_lines.specs.declared.column.Separators.{Separators}
-use Rattle.version_lines.specs.declared.column.Separators.TheVariants.{Blanks, Bytes, Csv}
-use Rattle.version_lines.specs.declared.csv.FieldState.TheVariants.{Start}
+use Rattle.version_lines.specs.{Csv.field_text, Csv.is_whole, Csv.raw_fields, declared.column.Column.Column, declared.column.Separators.Separators}
+use Rattle.version_lines.specs.declared.{column.Separators.TheVariants.Blanks, column.Separators.TheVariants.Bytes, column.Separators.TheVariants.Csv, csv.FieldState.TheVariants.Start}
 
 -- a space or a tab
 abbrev pub is_blank : ℕ → Bool

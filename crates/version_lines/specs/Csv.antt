@@ -1,8 +1,8 @@
 -- CSV as RFC 4180 writes it: which bytes of a record stand in quotes.
 use Rattle.std.specs.Prelude.{◌==◌, ◌&&◌, ◌||◌, ◌-◌, ℕ, Bool, List, [], ◌∷◌, not, true, false, zero, suc, length, take, if◌then◌else◌}
 use Rattle.std.specs.List.{onto_first}
-use Rattle.version_lines.specs.declared.csv.FieldState.{FieldState}
 use Rattle.version_lines.specs.declared.csv.FieldState.TheVariants.{Start, Plain, Quoted, Closed, Broken}
+use Rattle.version_lines.specs.declared.csv.FieldState.{FieldState}
 
 abbrev pub quote : ℕ
 quote = 34

@@ -1,15 +1,13 @@
 -- A line as it is sorted, and the place of its key.
-use Rattle.std.specs.Prelude.{◌≡◌, ◌<◌, ◌≤◌, ◌+◌, ℕ, List, Some, drop, length, slice_index, take}
-use Rattle.std.specs.Int.{from_be_bytes, w64}
-use Rattle.std.specs.List.{AllPairs}
-use Rattle.std.specs.Ordering.{nat_cmp, on, then_cmp}
-use Rattle.std.specs.declared.cmp.Ordering.{Ordering}
-use Rattle.version_lines.specs.Sort.{Reads, version_in}
-use Rattle.version_lines.specs.declared.sort.entry.Entry.{Entry}
+use Rattle.std.specs.Prelude.{◌≡◌, ◌<◌, ◌≤◌, ◌+◌, ℕ, List, Some, drop, length, slice_index, take, map}
+use Rattle.std.specs.{Int.from_be_bytes, Int.w64, List.AllPairs, List.All, Ordering.nat_cmp, Ordering.on, Ordering.then_cmp, declared.cmp.Ordering.Ordering}
+use Rattle.version_lines.specs.{Sort.Reads, Sort.version_in, declared.sort.entry.Entry.Entry, declared.sort.keyed_lines.KeyedLines.KeyedLines}
 use Rattle.version_schemes.specs.any.Order.{PlainAny}
 use Rattle.version_order.specs.keys.Lists.{bytes_cmp}
 use Rattle.version_rules.specs.declared.kind.Kind.{Kind}
 use Rattle.version_texts.specs.Order.{kind_on, marked_number, texts_tie}
+
+-- ---- a line as it is sorted, and the place of its key
 
 -- the line of an entry
 abbrev pub entry_line : Entry → List ℕ
@@ -71,3 +69,15 @@ turn_cmp = on (λ (entry : Entry). entry.start) nat_cmp
 -- the keys of lines that stand as in the input lie one after another
 abbrev pub AreInTurn : List Entry → Type 0
 AreInTurn = AllPairs (λ (a b : Entry). a.start < b.start)
+
+-- ---- lines with their keys
+
+-- the lines, in their present order
+abbrev pub lines_in : {B : Type 0} → KeyedLines B → List (List ℕ)
+lines_in lines = map entry_line lines.entries.items
+
+-- each text is a version, whose key is among the keys; and the lines stand as they were added
+pub record AreRead {B : Type 0} (reads : B → Reads)
+    (lines : KeyedLines B) : Type 0 where
+  pub read : All (IsRead (reads lines.by) lines.keys.items) lines.entries.items
+  pub in_turn : AreInTurn lines.entries.items

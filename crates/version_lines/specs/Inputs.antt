@@ -1,12 +1,7 @@
 -- The lines of inputs that were read in turn: each with the name of its file and its number there.
 use Rattle.std.specs.Prelude.{ℕ, suc, List, [], ◌∷◌, ◌++◌, Option, map}
-use Rattle.std.specs.List.{flat_map}
-use Rattle.std.specs.Option.{option_map}
-use Rattle.version_lines.specs.Lines.{lines_of}
-use Rattle.version_lines.specs.declared.inputs.InputText.{InputText}
-use Rattle.version_lines.specs.declared.inputs.Line.{Line}
-use Rattle.version_lines.specs.declared.inputs.Lines.{Lines}
-use Rattle.version_lines.specs.declared.lines.LineEnd.{LineEnd}
+use Rattle.std.specs.{List.flat_map, Option.option_map}
+use Rattle.version_lines.specs.{Lines.lines_of, declared.inputs.InputText.InputText, declared.inputs.Line.Line, declared.inputs.Lines.Lines, declared.lines.LineEnd.LineEnd}
 
 -- an input: the name of its file, if it has one, and its text
 abbrev pub PlainInput : Type 0

@@ -2,8 +2,6 @@ pub mod Column
 pub mod Csv
 pub mod Entry
 pub mod Inputs
-pub mod KeyedLines
 pub mod Lines
 pub mod Newest
-pub mod Placed
 pub mod Sort

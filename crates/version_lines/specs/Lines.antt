@@ -1,14 +1,8 @@
 -- The lines of an input, and an output that is made line by line.
 use Rattle.std.specs.Prelude.{ℕ, Bool, List, [], ◌∷◌, ◌++◌, None, length, if◌then◌else◌, ◌≡◌, ◌<◌, Option}
-use Rattle.std.specs.List.{flat_map}
-use Rattle.std.specs.Option.{option_map_or}
-use Rattle.version_lines.specs.Csv.{is_quoted, next, stops}
-use Rattle.version_lines.specs.declared.csv.FieldState.{FieldState}
-use Rattle.version_lines.specs.declared.csv.FieldState.TheVariants.{Start}
-use Rattle.version_lines.specs.declared.lines.Answer.{Answer}
-use Rattle.version_lines.specs.declared.lines.Answer.TheVariants.{Line, Text, Nothing}
-use Rattle.version_lines.specs.declared.lines.LineEnd.{LineEnd}
-use Rattle.std.specs.Io.KnownBytes.{Appends}
+use Rattle.std.specs.{Io.KnownBytes.Appends, List.flat_map, Option.option_map_or}
+use Rattle.version_lines.specs.{Csv.is_quoted, Csv.next, Csv.stops, declared.csv.FieldState.FieldState, declared.csv.FieldState.TheVariants.Start, declared.lines.Answer.Answer}
+use Rattle.version_lines.specs.declared.lines.{Answer.TheVariants.Line, Answer.TheVariants.Text, Answer.TheVariants.Nothing, LineEnd.LineEnd}
 
 -- the byte that ends a line where nothing else is asked for
 abbrev pub line_feed : ℕ

@@ -1,13 +1,12 @@
 -- The newest lines of each group, and the first of lines that tie.
-use Rattle.std.specs.Prelude.{ℕ, Bool, true, List, [], ◌∷◌, length, nat_lt, if◌then◌else◌, ◌≡◌, Option, None, Some}
-use Rattle.std.specs.List.{filter, position_or_len}
-use Rattle.std.specs.Ordering.{eq_by_cmp, nat_cmp, on, then_cmp}
-use Rattle.std.specs.Str.{bytes_eq}
-use Rattle.std.specs.declared.cmp.Ordering.{Ordering}
+use Rattle.std.specs.Prelude.{ℕ, Bool, true, List, [], ◌∷◌, length, nat_lt, if◌then◌else◌, ◌≡◌, Option, None, Some, ◌==◌}
+use Rattle.std.specs.{List.filter, List.position_or_len, Ordering.eq_by_cmp, Ordering.nat_cmp, Ordering.on, Ordering.then_cmp, Str.bytes_eq, declared.cmp.Ordering.Ordering}
 use Rattle.version_lines.specs.Sort.{Reads, lines_precedence, version_in, in_order, turned}
+use Rattle.version_lines.specs.{Entry.entry_cmp, Entry.entry_line, declared.sort.entry.Entry.Entry, declared.sort.newest.Placed.Placed}
+use Rattle.version_schemes.specs.{any.AnyVersion.plain_any, declared.any.AnyVersion.AnyVersion}
 use Rattle.std.proofs.Common.{Bor}
-use Rattle.version_schemes.specs.any.AnyVersion.{plain_any}
-use Rattle.version_schemes.specs.declared.any.AnyVersion.{AnyVersion}
+
+-- ---- the newest lines of each group, and the first of lines that tie
 
 -- of some elements after others, each that is the same as fewer than so many of those before it
 abbrev pub first_after : {X : Type 0} → ℕ → (X → X → Bool) → List X → List X → List X
@@ -64,3 +63,27 @@ IsNewestOf reads lines (Some best) = (newest_alone reads lines ≡ best.0.now �
 abbrev pub rows_in : Option (Bor (List ℕ)) → List (List ℕ)
 rows_in None = []
 rows_in (Some line) = line.now ∷ []
+
+-- ---- a line with the place of its group
+
+-- a line with the place of the first line of its group among some lines
+abbrev pub placed : (List ℕ → List ℕ) → List (List ℕ) → Entry → Placed
+placed group_of lines entry =
+    record { entry = entry; place = group_place group_of lines (entry_line entry) }
+
+abbrev pub placed_entry : Placed → Entry
+placed_entry line = line.entry
+
+-- the place of its key
+abbrev pub placed_start : Placed → ℕ
+placed_start line = line.entry.start
+
+-- by the places of the groups, and the newest of a group first
+abbrev pub placed_cmp : List ℕ → Placed → Placed → Ordering
+placed_cmp keys =
+    then_cmp (on (λ (line : Placed). line.place) nat_cmp)
+    (turned true (on placed_entry (entry_cmp keys)))
+
+-- whether two lines are of one group, by its place
+abbrev pub are_at_one_place : Placed → Placed → Bool
+are_at_one_place a b = a.place == b.place

@@ -1,10 +1,7 @@
 -- How lines compare by their versions.
 use Rattle.std.specs.Prelude.{ℕ, List, Option, Bool, [], ◌∷◌, if◌then◌else◌}
-use Rattle.std.specs.Option.{option_cmp}
-use Rattle.std.specs.Ordering.{on, is_lt, ordering_reverse}
-use Rattle.std.specs.declared.cmp.Ordering.{Ordering}
-use Rattle.version_schemes.specs.any.Order.{PlainAny, any_cmp, any_of, any_precedence}
-use Rattle.version_schemes.specs.declared.scheme.Scheme.{Scheme}
+use Rattle.std.specs.{Option.option_cmp, Ordering.on, Ordering.is_lt, Ordering.ordering_reverse, declared.cmp.Ordering.Ordering}
+use Rattle.version_schemes.specs.{any.Order.PlainAny, any.Order.any_cmp, any.Order.any_of, any.Order.any_precedence, declared.scheme.Scheme.Scheme}
 
 -- how lines are read: which text in a line is to be its version, and of which scheme. The text is empty where the
 -- line has none, since no version is empty.

@@ -1,7 +1,6 @@
 //! The columns of a line.
 ghost use Rattle.std.specs.Prelude.{◌≡◌, ◌==◌, ◌<◌, ◌≤◌, ◌+◌, [], ◌∷◌, drop, length, option_map, IfSome};
-ghost use Rattle.std.specs.List.{prefix_len, slice_split};
-ghost use Rattle.std.specs.Option.{option_map_or};
+ghost use Rattle.std.specs.{List.prefix_len, List.slice_split, Option.option_map_or};
 ghost use Rattle.memchr.specs.Find.{IsFirstByte};
 ghost use Rattle.version_lines.specs.Column.{column_named, column_of, has_columns, is_among, is_blank_or_not, raw_columns, raw_text, words_of};
 ghost use Rattle.version_lines.specs.Csv.{raw_fields};
@@ -48,6 +47,7 @@ impl Column<'_> {
 
     /// Returns the first column of a header whose text is this name, or None if it has none. The columns of a line are
     /// those of this column, whatever its number. Does not allocate.
+    #[tactic(auto, using(crate::proofs::lemmas::Column::found_from_zero))]
     pub fn named(&self, name: &[u8], header: &[u8]) -> Option<Self>
         ensures { result ≡ column_named self.now name.now header.now }
     {
@@ -107,6 +107,7 @@ impl Column<'_> {
 }
 
 // Cuts a text at its first byte that is among these. Returns what stands before it, and what follows it, if there is one.
+#[tactic(auto, using(crate::proofs::lemmas::Column::pieces_cut))]
 fn cut_piece<'a>(text: &'a [u8], bytes: &[u8]) -> (&'a [u8], Option<&'a [u8]>)
     ensures pieces { slice_split (is_among bytes.now) text.now ≡ result.0.now
         ∷ option_map_or (λ rest. slice_split (is_among bytes.now) rest.now) result.1 [] }
@@ -151,6 +152,7 @@ fn is_among(bytes: &[u8], byte: u8) -> bool
 
 // Cuts a text at its first separator that stands in no quotes. Returns what stands before it, and what follows it, if
 // there is one.
+#[tactic(auto, using(crate::proofs::lemmas::Column::fields_cut))]
 fn cut_field(text: &[u8], separator: u8) -> (&[u8], Option<&[u8]>)
     ensures fields { raw_fields separator FieldState.Start text.now ≡ result.0.now
         ∷ option_map_or (λ rest. raw_fields separator FieldState.Start rest.now) result.1 [] }
@@ -165,6 +167,7 @@ fn cut_field(text: &[u8], separator: u8) -> (&[u8], Option<&[u8]>)
 }
 
 // Returns the first piece between the runs of blanks of a text and what follows it, or None if the text is blank.
+#[tactic(auto, using(crate::proofs::lemmas::Column::words_cut))]
 fn cut_word(text: &[u8]) -> Option<(&[u8], &[u8])>
     ensures words { words_of text.now
         ≡ option_map_or (λ cut. cut.0.now ∷ words_of cut.1.now) result [] }

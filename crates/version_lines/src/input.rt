@@ -1,7 +1,6 @@
 //! Reading the whole input.
 ghost use Rattle.std.specs.Prelude.{◌≡◌, ℕ, Bool, true, List, Option, vec_len, IfErr, IfOk, OnErr, OnOk};
-ghost use Rattle.std.specs.Io.{ReadsAtMost};
-ghost use Rattle.std.specs.Io.KnownBytes.{Consumes, IsAtEnd, ReadConsumes};
+ghost use Rattle.std.specs.{Io.ReadsAtMost, Io.KnownBytes.Consumes, Io.KnownBytes.IsAtEnd, Io.KnownBytes.ReadConsumes};
 
 use std::alloc::{AllocError, Global};
 use std::io::Read;

@@ -1,5 +1,5 @@
 //! The lines of inputs that were read in turn.
-ghost use Rattle.std.specs.Prelude.{◌≡◌, ◌<◌, ◌+◌, ◌^◌, [], false, length, map, true};
+ghost use Rattle.std.specs.Prelude.{◌≡◌, ◌<◌, ◌+◌, ◌^◌, [], length, map, MatchOption};
 
 use crate::lines::{LineEnd, split_line};
 
@@ -37,8 +37,7 @@ pub struct Lines<'a, 'w> {
 
 impl<'a, 'w> Lines<'a, 'w> {
     ghost use Rattle.std.specs.Option.{option_map};
-    ghost use Rattle.version_lines.specs.Inputs.{lines_left, lines_of_inputs, numbered, plain_input};
-    ghost use Rattle.version_lines.specs.Lines.{lines_of};
+    ghost use Rattle.version_lines.specs.{Inputs.lines_left, Inputs.lines_of_inputs, Inputs.numbered, Inputs.plain_input, Lines.lines_of};
 
     /// Returns the lines of a text, which a file of this name holds, if it has one.
     pub fn of(end: LineEnd, file: Option<&'w str>, text: &'a [u8]) -> Lines<'a, 'w>
@@ -75,25 +74,31 @@ impl<'a, 'w> Lines<'a, 'w> {
         bytes
     }
 
-    // Goes on to the next input that has a line, and returns whether there is one.
-    fn goes_on(&mut self) -> bool
-        ensures same { lines_left self.new ≡ lines_left self.old }
-        ensures some { result ≡ true → 0 < length self.new.rest.now }
-        ensures none { result ≡ false → lines_left self.new ≡ [] }
+    // Returns the lines from the next input that has one, or None if none has. By value, so that what goes over lines can
+    // hold them in registers.
+    #[cold]
+    #[inline(never)]
+    fn behind(self) -> Option<Lines<'a, 'w>>
+        ensures { MatchOption result (lines_left self.entry ≡ [])
+            (λ lines. (lines_left lines ≡ lines_left self.entry) × (0 < length lines.rest.now)) }
     {
-        while self.rest.is_empty() {
-            let [input, others @ ..] = self.others else {
-                return false;
-            };
-            *self = Lines {
-                end: self.end,
-                file: input.file,
-                count: 0,
-                rest: input.text.as_slice(),
-                others,
-            };
+        if !self.rest.is_empty() {
+            return Some(self);
         }
-        true
+        let mut others = self.others;
+        while let [input, further @ ..] = others {
+            others = further;
+            if !input.text.is_empty() {
+                return Some(Lines {
+                    end: self.end,
+                    file: input.file,
+                    count: 0,
+                    rest: input.text.as_slice(),
+                    others,
+                });
+            }
+        }
+        None
     }
 }
 
@@ -109,8 +114,8 @@ impl<'a, 'w> Iterator for Lines<'a, 'w> {
 
     #[inline(always)]
     fn next(&mut self) -> Option<Line<'a, 'w>> {
-        if self.rest.is_empty() && !self.goes_on() {
-            return None;
+        if self.rest.is_empty() {
+            *self = self.behind()?;
         }
         let (text, rest) = split_line(self.end, self.rest);
         let count = self.count + 1;

@@ -83,6 +83,7 @@ pub fn split_line(end: LineEnd, text: &[u8]) -> (&[u8], &[u8])
 
 // Returns the length of the first line.
 #[inline(always)]
+#[tactic(auto, using(crate::proofs::lemmas::Lines::line_found))]
 fn line_length(end: LineEnd, text: &[u8]) -> usize
     requires { 0 < length text.now }
     ensures lines { lines_of end text.now ≡ take result text.now ∷ lines_of end (drop (result + 1) text.now) }
@@ -95,6 +96,7 @@ fn line_length(end: LineEnd, text: &[u8]) -> usize
 }
 
 /// Whether a text ends in quotes of CSV that never close.
+#[tactic(auto, using(crate::proofs::lemmas::Lines::never_open))]
 pub fn ends_quoted(end: LineEnd, text: &[u8]) -> bool
     ensures { result ≡ ends_quoted end text.now }
 {

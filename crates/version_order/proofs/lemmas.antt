@@ -4,9 +4,7 @@ pub mod Costs
 pub mod Cuts
 pub mod Front
 pub mod NumberBytes
-pub mod NumberOrder
 pub mod Orders
-pub mod Plain
 pub mod Runs
 pub mod Sinks
 pub mod Viable

@@ -1,8 +1,7 @@
 -- What is fixed for a scheme, in plain terms.
 use Rattle.std.specs.Prelude.{◌==◌, ◌+◌, ◌*◌, ℕ, Bool, List, map}
 use Rattle.std.specs.List.{list_any}
-use Rattle.version_order.specs.declared.facts.Facts.{Facts}
-use Rattle.version_order.specs.declared.facts.Operators.{Operators}
+use Rattle.version_order.specs.declared.facts.{Facts.Facts, Operators.Operators}
 
 pub record PlainFacts : Type 0 where
   pub number : ℕ

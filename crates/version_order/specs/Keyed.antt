@@ -1,7 +1,6 @@
 -- What sets of versions need to know of a version.
 use Rattle.std.specs.Prelude.{◌≡◌, ◌+◌, ◌<◌, ◌≤◌, ℕ, Bool, false, List, [], ◌∷◌, ◌++◌, length, Option, Some}
-use Rattle.version_order.specs.declared.ends.End.{End}
-use Rattle.version_order.specs.declared.ends.Kept.{Kept}
+use Rattle.version_order.specs.declared.ends.{End.End, Kept.Kept}
 use Rattle.version_order.specs.declared.ends.End.TheVariants as end
 
 -- a version by its key, the bytes of its epoch and of the parts that are kept, and whether it has these alone

@@ -1,11 +1,7 @@
 -- What a scheme is: which texts are versions, how these compare, and their keys.
 use Rattle.std.specs.Prelude.{◌≡◌, ℕ, List, Option, option_and_then}
-use Rattle.std.specs.Option.{option_map}
-use Rattle.std.specs.Ordering.{on}
-use Rattle.std.specs.declared.cmp.Ordering.{Ordering}
-use Rattle.version_order.specs.Facts.{PlainFacts}
-use Rattle.version_order.specs.Keyed.{PlainKeyed}
-use Rattle.version_order.specs.keys.Lists.{bytes_cmp}
+use Rattle.std.specs.{Option.option_map, Ordering.on, declared.cmp.Ordering.Ordering}
+use Rattle.version_order.specs.{Facts.PlainFacts, Keyed.PlainKeyed, keys.Lists.bytes_cmp}
 
 -- how two texts compare, if both are read
 abbrev pub compared : {A : Type 0} → (List ℕ → Option A) → (A → A → Ordering) → List ℕ → List ℕ → Option Ordering

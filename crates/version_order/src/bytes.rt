@@ -1,7 +1,7 @@
 //! Bytes as numbers, eight at a time.
 
-ghost use Rattle.std.specs.Int.{from_be_bytes, w64};
 ghost use Rattle.std.specs.Prelude.{◌≡◌, ℕ, ◌<◌, slice_index};
+ghost use Rattle.std.specs.Int.{from_be_bytes, w64};
 ghost use Rattle.version_order.specs.keys.Lists.{bytes_cmp};
 
 use std::cmp::Ordering;

@@ -2,10 +2,7 @@
 
 ghost use Rattle.std.specs.Prelude.{◌≡◌, ◌+◌, ◌≤◌, ◌∷◌, ℕ, IfNone, IfSome, List, drop, false, length, true};
 ghost use Rattle.std.specs.List.{prefix_len, take_while};
-ghost use Rattle.version_order.specs.texts.Bytes.{HasDigits};
-ghost use Rattle.version_order.specs.texts.Front.{begins};
-ghost use Rattle.version_order.specs.texts.Grammar.{is_sep};
-ghost use Rattle.version_order.specs.texts.Class.{byte_rank, contains, first_rank};
+ghost use Rattle.version_order.specs.texts.{Bytes.HasDigits, Class.byte_rank, Class.contains, Class.first_rank, Front.begins, Grammar.is_sep};
 
 /// A class of bytes.
 #[derive(Clone, Copy)]

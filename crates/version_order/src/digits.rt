@@ -1,11 +1,8 @@
 //! Numbers of any size, by their digits.
 
 ghost use Rattle.std.specs.Prelude.{◌≡◌, ◌≢◌, ◌==◌, ◌∷◌, drop, false, true, IfNone, IfSome};
-ghost use Rattle.std.specs.Char.{is_ascii_digit};
-ghost use Rattle.std.specs.List.{prefix_len};
-ghost use Rattle.std.specs.Ordering.{nat_cmp};
-ghost use Rattle.std.specs.declared.cmp.Ordering.TheVariants.{Equal};
-ghost use Rattle.version_order.specs.texts.DigitRun.{behind_digits, is_digits, run_value, starts_with_digit};
+ghost use Rattle.std.specs.{Char.is_ascii_digit, List.prefix_len, Ordering.nat_cmp, declared.cmp.Ordering.TheVariants.Equal};
+ghost use Rattle.version_order.specs.texts.Front.{behind_digits, is_digits, run_value, starts_with_digit};
 
 use crate::class::{Class, begins_with, split_run};
 use crate::compared::Compared;

@@ -1,11 +1,8 @@
 //! Numbers and runs of bytes, written into sinks.
 
 ghost use Rattle.std.specs.Prelude.{◌≡◌, drop};
-ghost use Rattle.std.specs.Char.{is_ascii_digit};
-ghost use Rattle.std.specs.List.{prefix_len, take_while};
-ghost use Rattle.version_order.specs.keys.NumberBytes.{length_bytes, number_bytes};
-ghost use Rattle.version_order.specs.texts.Class.{contains};
-ghost use Rattle.version_order.specs.texts.DigitRun.{run_value};
+ghost use Rattle.std.specs.{Char.is_ascii_digit, List.prefix_len, List.take_while};
+ghost use Rattle.version_order.specs.{keys.Codes.length_bytes, keys.Codes.number_bytes, texts.Class.contains, texts.Front.run_value};
 
 use crate::class::{Class, split_byte, split_run};
 use crate::digits::{one_digit, without_zeros};

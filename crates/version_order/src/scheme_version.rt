@@ -1,17 +1,9 @@
 //! What a version of a scheme gives, from which all else follows: keys, sets, sorts, indexes.
 
 ghost use Rattle.std.specs.Prelude.{◌≡◌, [], is_some};
-ghost use Rattle.std.specs.Option.{option_map};
-ghost use Rattle.std.specs.declared.cmp.Ordering.{Ordering as Compared};
-ghost use Rattle.version_order.specs.declared.ends.Kept.{Kept as PlainKept};
-ghost use Rattle.version_order.specs.declared.facts.Operators.TheVariants.{Parts};
-ghost use Rattle.version_order.specs.Facts.{key_room, plain_facts};
-ghost use Rattle.version_order.specs.Keyed.{end_of, AreWithin, BeginsKey, PlainKeyed};
-ghost use Rattle.version_order.specs.Rules.{Rules};
-ghost use Rattle.version_order.specs.Viable.{IsLongestViable};
-ghost use Rattle.version_order.specs.keys.Codes.{Writes};
-ghost use Rattle.version_order.specs.keys.Lists.{bytes_cmp};
-ghost use Rattle.version_order.specs.keys.Sinks.{saturated};
+ghost use Rattle.std.specs.{Option.option_map, declared.cmp.Ordering.Ordering as Compared};
+ghost use Rattle.version_order.specs.{Facts.key_room, Facts.plain_facts, Keyed.end_of, Keyed.AreWithin, Keyed.BeginsKey, Keyed.PlainKeyed, Rules.Rules, Viable.IsLongestViable, declared.ends.Kept.Kept as PlainKept};
+ghost use Rattle.version_order.specs.{declared.facts.Operators.TheVariants.Parts, keys.Codes.Writes, keys.Lists.bytes_cmp, keys.Sinks.saturated};
 
 use crate::ends::{End, Kept};
 use crate::facts::Facts;

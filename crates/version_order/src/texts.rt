@@ -1,12 +1,8 @@
 //! What texts of several schemes are made of.
 
 ghost use Rattle.std.specs.Prelude.{◌≡◌, ◌≢◌, ◌==◌, ◌∷◌, ◌<◌, ◌≤◌, ◌-◌, ◌++◌, drop, false, length, nat_lt, slice_index, take, true, MatchOption, ℕ};
-ghost use Rattle.std.specs.List.{list_all, prefix_len};
-ghost use Rattle.std.specs.Option.{option_map};
-ghost use Rattle.version_order.specs.texts.Class.{contains};
-ghost use Rattle.version_order.specs.texts.DigitRun.{run_value};
-ghost use Rattle.version_order.specs.texts.Front.{begins};
-ghost use Rattle.version_order.specs.texts.Cuts.{cut_first, cut_last, is_epoch, split_epoch};
+ghost use Rattle.std.specs.{List.list_all, List.prefix_len, Option.option_map};
+ghost use Rattle.version_order.specs.texts.{Class.contains, Cuts.cut_first, Cuts.cut_last, Cuts.is_epoch, Cuts.split_epoch, Front.run_value, Front.begins};
 
 use crate::class::Class;
 use crate::digits::{compare_numbers, is_digits};

@@ -1,3 +1,4 @@
+pub mod Cited
 pub mod Compare
 pub mod Keys
 pub mod Lists

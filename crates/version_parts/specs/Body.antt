@@ -1,16 +1,9 @@
 -- The body that owned chunks hold, and the body that a scanned list holds.
 use Rattle.std.specs.Prelude.{◌≡◌, ◌<◌, ◌-◌, List, length, map, take, Some, ℕ, Option, Result, Ok, Err, IsSomeAnd}
-use Rattle.version_parts.specs.declared.chunks.Chunks.{Chunks}
-use Rattle.version_parts.specs.declared.scan.Dotted.{Dotted}
-use Rattle.version_rules.specs.grammar.Chunk.{PlainChunk, part_front}
-use Rattle.version_parts.specs.Chunk.{plain_chunk, chunk_fed}
+use Rattle.std.specs.{Borrow.Bor, Hash.HashWrites, Option.option_map, declared.alloc.AllocError.AllocError}
+use Rattle.version_parts.specs.{Chunk.plain_chunk, Chunk.chunk_fed, declared.chunks.Chunks.Chunks, declared.release.Release.Release, declared.scan.Dotted.Dotted}
+use Rattle.version_rules.specs.grammar.{Body.PlainBody, Body.body_of, Body.last_at, Chunk.PlainChunk, Chunk.part_front}
 use Rattle.version_order.specs.texts.Front.{elements_at}
-use Rattle.version_rules.specs.grammar.Body.{PlainBody, body_of, last_at}
-use Rattle.std.specs.Option.{option_map}
-use Rattle.std.specs.declared.alloc.AllocError.{AllocError}
-use Rattle.std.specs.Borrow.{Bor}
-use Rattle.std.specs.Hash.{HashWrites}
-use Rattle.version_parts.specs.declared.release.Release.{Release}
 use Rattle.std.specs.Hash as fed
 
 -- the chunks of a list

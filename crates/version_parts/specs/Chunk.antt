@@ -1,13 +1,7 @@
 -- The chunk that an owned or a scanned value holds, and what a hash is fed of it.
-use Rattle.std.specs.Prelude.{⊤, ◌++◌}
-use Rattle.std.specs.Hash.{HashWrites}
-use Rattle.std.specs.Str.Parse.{digits_value}
-use Rattle.std.specs.String.{string_bytes}
-use Rattle.version_parts.specs.declared.chunk.Chunk.{Chunk}
-use Rattle.version_parts.specs.declared.chunk.ChunkRef.{ChunkRef}
-use Rattle.version_parts.specs.declared.chunk.ChunkText.{ChunkText}
-use Rattle.version_rules.specs.grammar.Numeral.{SpellsNumeral}
-use Rattle.version_rules.specs.grammar.Chunk.{Alphanum, Numeric, PlainChunk}
+use Rattle.std.specs.{Hash.HashWrites, Prelude.⊤, Prelude.◌++◌, Str.Parse.digits_value, String.string_bytes}
+use Rattle.version_parts.specs.declared.chunk.{Chunk.Chunk, ChunkRef.ChunkRef, ChunkText.ChunkText}
+use Rattle.version_rules.specs.grammar.Chunk.{SpellsNumeral, Alphanum, Numeric, PlainChunk}
 use Rattle.std.specs.Hash as fed
 use Rattle.version_parts.specs.declared.chunk.Chunk.TheVariants as owned
 use Rattle.version_parts.specs.declared.chunk.ChunkRef.TheVariants as lent

@@ -1,9 +1,7 @@
 -- How two streams of bytes compare: the bytes taken from them, and what these say of all their
 -- bytes.
 use Rattle.std.specs.Prelude.{◌≡◌, ℕ, List, ◌∷◌, ◌++◌, Option, Some, None}
-use Rattle.std.specs.Iterator.{YieldsThen}
-use Rattle.std.specs.declared.cmp.Ordering.{Ordering}
-use Rattle.std.specs.declared.cmp.Ordering.TheVariants.{Equal}
+use Rattle.std.specs.{Iterator.YieldsThen, declared.cmp.Ordering.Ordering, declared.cmp.Ordering.TheVariants.Equal}
 use Rattle.version_order.specs.keys.Lists.{bytes_cmp}
 
 -- a list has one more item after those taken, or ends there

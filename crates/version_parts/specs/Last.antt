@@ -1,9 +1,6 @@
 -- The last part that an owned or a scanned value holds, and what a hash is fed of it.
-use Rattle.std.specs.Prelude.{◌++◌}
-use Rattle.std.specs.Hash.{HashWrites}
-use Rattle.std.specs.String.{string_bytes}
-use Rattle.version_parts.specs.declared.last.Last.{Last}
-use Rattle.version_parts.specs.declared.last.LastRef.{LastRef}
+use Rattle.std.specs.{Hash.HashWrites, Prelude.◌++◌, String.string_bytes}
+use Rattle.version_parts.specs.declared.last.{Last.Last, LastRef.LastRef}
 use Rattle.version_rules.specs.grammar.Last.{Alphanum, Numeric, Rc, PlainLast, Post}
 use Rattle.std.specs.Hash as fed
 use Rattle.version_parts.specs.declared.last.Last.TheVariants as owned

@@ -1,9 +1,6 @@
 -- The messy chunk that an owned or a scanned value holds, and what a hash is fed of it.
-use Rattle.std.specs.Prelude.{◌++◌}
-use Rattle.std.specs.Hash.{HashWrites}
-use Rattle.std.specs.String.{string_bytes}
-use Rattle.version_parts.specs.declared.mchunk.MChunk.{MChunk}
-use Rattle.version_parts.specs.declared.mchunk.MChunkRef.{MChunkRef}
+use Rattle.std.specs.{Hash.HashWrites, Prelude.◌++◌, String.string_bytes}
+use Rattle.version_parts.specs.declared.mchunk.{MChunk.MChunk, MChunkRef.MChunkRef}
 use Rattle.version_rules.specs.grammar.MChunk.{Plain, PlainMChunk, Digits, Rev, mchunk_text, mchunk_rank, mchunk_value}
 use Rattle.std.specs.Hash as fed
 use Rattle.version_parts.specs.declared.mchunk.MChunk.TheVariants as owned

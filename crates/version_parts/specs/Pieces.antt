@@ -1,15 +1,9 @@
 -- The remaining bytes of a piece of a key, by the place of the stream and the remaining text.
 use Rattle.std.specs.Prelude.{◌≡◌, ℕ, Bool, true, false, List, [], ◌∷◌, ◌++◌, drop, Some}
-use Rattle.std.specs.Char.{is_ascii_digit}
-use Rattle.std.specs.List.{prefix_len, take_while}
-use Rattle.std.specs.Option.{option_to_list}
-use Rattle.version_parts.specs.declared.key.place.AfterNumber.{AfterNumber}
-use Rattle.version_parts.specs.declared.key.place.AfterNumber.TheVariants.{Suffix, Text, Nothing}
-use Rattle.version_parts.specs.declared.key.place.Place.{Place}
+use Rattle.std.specs.{Char.is_ascii_digit, List.prefix_len, List.take_while, Option.option_to_list}
 use Rattle.version_parts.specs.declared.key.place.Place.TheVariants.{Part, Split, Numbered, Number, Length, Digit, Rest}
-use Rattle.version_parts.specs.declared.key.place.Step.{Step}
-use Rattle.version_order.specs.texts.DigitRun.{number_front, run_value}
-use Rattle.version_order.specs.keys.NumberBytes.{length_bytes, number_bytes, text_bytes}
+use Rattle.version_parts.specs.declared.key.place.{AfterNumber.AfterNumber, AfterNumber.TheVariants.Suffix, AfterNumber.TheVariants.Text, AfterNumber.TheVariants.Nothing, Place.Place, Step.Step}
+use Rattle.version_order.specs.{keys.Codes.length_bytes, keys.Codes.number_bytes, keys.Codes.text_bytes, texts.Front.number_front, texts.Front.run_value}
 use Rattle.version_rules.specs.key.PartKey.{part_bytes, part_key, suffix_bytes, suffix_of, numbered_bytes, split_bytes, split_of}
 
 -- what follows a number: the suffix of a part, a text, or nothing that counts

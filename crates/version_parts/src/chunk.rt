@@ -1,21 +1,13 @@
 //! Chunks: the pieces between the dots of a release or of a general version.
 
 ghost use Rattle.std.specs.Prelude.{◌≡◌, refl, Some, IfOk, IfSome, OnErr};
-ghost use Rattle.std.specs.Char.{is_ascii_alphanumeric};
-ghost use Rattle.std.specs.Option.{option_map};
+ghost use Rattle.std.specs.{Char.is_ascii_alphanumeric, Cmp.eq_by_cmp_equiv, Cmp.on_equiv, Cmp.on_per, Cmp.partial_equiv_from_equiv, Option.option_map, Ordering.eq_by_cmp, Ordering.on};
 ghost use Rattle.std.proofs.Common.{ap};
-ghost use Rattle.std.specs.Cmp.{eq_by_cmp_equiv, on_equiv, on_per, partial_equiv_from_equiv};
-ghost use Rattle.std.specs.Ordering.{eq_by_cmp, on};
-ghost use Rattle.version_order.specs.texts.Bytes.{is_identifier_byte, HasDigits};
-ghost use Rattle.version_rules.specs.grammar.Chunk.{after_letter, chunk_front, chunk_front_of, chunk_text, digits_behind_letter, lenient_digits, number_of, part_front, ChunkOwns, PlainChunk};
+ghost use Rattle.version_order.specs.{keys.Codes.same_where_tied, texts.Bytes.is_identifier_byte, texts.Bytes.HasDigits, texts.Class.contains, texts.Class.IsAsciiClass};
+ghost use Rattle.version_rules.specs.grammar.Chunk.{after_letter, chunk_front, chunk_front_of, chunk_text, digits_behind_letter, lenient_digits, number_of, part_front, ChunkOwns, PlainChunk, unsigned_front};
+ghost use Rattle.version_rules.specs.{laws.Front.chunk_consumes, laws.Part.chunk_total, laws.Part.chunks_same, order.Parts.chunk_cmp};
 ghost use Rattle.version_parts.specs.Chunk.{chunk_fed, chunk_of_text, plain_chunk, plain_chunk_ref, IsChunkText};
-ghost use Rattle.version_order.specs.texts.Class.{contains, IsAsciiClass};
 ghost use Rattle.version_parts.specs.Body.{Reads};
-ghost use Rattle.version_rules.specs.laws.Front.{chunk_consumes};
-ghost use Rattle.version_rules.specs.grammar.Numeral.{unsigned_front};
-ghost use Rattle.version_order.specs.keys.Codes.{same_where_tied};
-ghost use Rattle.version_rules.specs.laws.Release.{chunk_total, chunks_same};
-ghost use Rattle.version_rules.specs.order.Parts.{chunk_cmp};
 
 use crate::key::PartText;
 use crate::lists::ListItem;
@@ -100,9 +92,7 @@ impl Chunk {
     {
         self.lent().build(alloc)
     }
-}
 
-impl Chunk {
     /// Returns the same chunk with its text borrowed.
     pub fn lent(&self) -> ChunkRef<'_>
         ensures { plain_chunk_ref result ≡ plain_chunk self.now }
@@ -139,7 +129,7 @@ impl PartialEq for Chunk {
     ghost laws = { on_per plain_chunk (partial_equiv_from_equiv (eq_by_cmp_equiv chunk_total)) };
 
     fn eq(&self, other: &Chunk) -> bool {
-        compare_chunks(self, other).is_eq()
+        self.compare(other).is_eq()
     }
 }
 
@@ -164,13 +154,6 @@ impl Hash for Chunk {
             }
         }
     }
-}
-
-// The order of chunks within a release.
-fn compare_chunks(a: &Chunk, b: &Chunk) -> Ordering
-    ensures { result ≡ chunk_cmp (plain_chunk a.now) (plain_chunk b.now) }
-{
-    a.lent().compare(b.lent())
 }
 
 // Parses the chunk at the start of a text, and returns it with the rest. A run has bytes of the class.
@@ -322,7 +305,7 @@ impl ListItem for Chunk {
     }
 
     fn compare(&self, other: &Chunk) -> Ordering {
-        compare_chunks(self, other)
+        self.lent().compare(other.lent())
     }
 }
 

@@ -3,16 +3,11 @@
 ghost use Rattle.std.specs.Prelude.{◌≡◌, [], refl, IfOk, OnErr, Some};
 ghost use Rattle.std.proofs.Common.{ap};
 ghost use Rattle.std.specs.Cmp.{eq_by_cmp_equiv, on_equiv, on_per, on_total, partial_equiv_from_equiv, po};
-ghost use Rattle.std.specs.Option.{option_map};
-ghost use Rattle.std.specs.Ordering.{as_partial_cmp, eq_by_cmp, on};
-ghost use Rattle.version_rules.specs.grammar.Body.{body_front, chunks_front, BodyOwns};
-ghost use Rattle.version_parts.specs.Body.{plain_chunks, Reads, release_fed};
-ghost use Rattle.version_parts.specs.Last.{plain_last, plain_last_ref};
+ghost use Rattle.std.specs.{Option.option_map, Ordering.as_partial_cmp, Ordering.eq_by_cmp, Ordering.on};
+ghost use Rattle.version_rules.specs.grammar.Body.{body_front, chunks_front, BodyOwns, release_text};
+ghost use Rattle.version_rules.specs.{laws.Part.chunks_cmp_ties, laws.Part.chunks_cmp_total, laws.Part.release_total, laws.Part.releases_same, order.Parts.chunks_cmp, order.Parts.release_cmp};
+ghost use Rattle.version_parts.specs.{Body.plain_chunks, Body.Reads, Body.release_fed, Last.plain_last, Last.plain_last_ref};
 ghost use Rattle.version_order.specs.keys.Codes.{same_where_tied};
-ghost use Rattle.version_rules.specs.order.Parts.{chunks_cmp, release_cmp};
-ghost use Rattle.version_rules.specs.laws.Part.{chunks_cmp_ties, chunks_cmp_total};
-ghost use Rattle.version_rules.specs.grammar.Release.{release_text};
-ghost use Rattle.version_rules.specs.laws.Release.{release_total, releases_same};
 
 use crate::chunk::{Chunk, Part};
 use crate::key::compare_part_lists;

@@ -1,22 +1,15 @@
 //! The last part of a general version, decomposed: `3`, `3rc1`, `3p` or any other text.
 
 ghost use Rattle.std.specs.Prelude.{◌≡◌, refl, IfErr, IfOk, IfSome, OnErr, Some};
+ghost use Rattle.version_rules.specs.grammar.Last as plain;
 ghost use Rattle.std.proofs.Common.{ap};
 ghost use Rattle.std.specs.Cmp.{eq_by_cmp_equiv, on_equiv, on_per, on_total, partial_equiv_from_equiv, po};
-ghost use Rattle.std.specs.Option.{option_map};
-ghost use Rattle.std.specs.Ordering.{as_partial_cmp, eq_by_cmp, on};
-ghost use Rattle.version_rules.specs.grammar.Chunk.{part_front};
-ghost use Rattle.version_parts.specs.Chunk.{plain_chunk};
-ghost use Rattle.version_order.specs.texts.Front.{map_value};
-ghost use Rattle.version_rules.specs.grammar.Last as plain;
+ghost use Rattle.std.specs.{Option.option_map, Ordering.as_partial_cmp, Ordering.eq_by_cmp, Ordering.on};
 ghost use Rattle.version_rules.specs.grammar.Last.{first_number, last_of, last_text, numbered_last, IsNumbered, LastOwns, PlainLast};
-ghost use Rattle.version_parts.specs.Last.{last_fed, plain_last, plain_last_ref};
-ghost use Rattle.version_rules.specs.laws.Last.{last_total, lasts_same};
-ghost use Rattle.version_rules.specs.order.LastOrder.{last_plain_cmp, last_rank};
-ghost use Rattle.version_order.specs.keys.Codes.{same_where_tied};
-ghost use Rattle.version_rules.specs.key.PartKey.{part_bytes, part_key};
-ghost use Rattle.version_rules.specs.order.Parts.{last_cmp};
-ghost use Rattle.version_rules.specs.laws.Part.{last_cmp_ties, last_cmp_total};
+ghost use Rattle.version_rules.specs.{grammar.Chunk.part_front, key.PartKey.part_bytes, key.PartKey.part_key, laws.Last.last_total, laws.Last.lasts_same, laws.Part.last_cmp_ties, laws.Part.last_cmp_total};
+ghost use Rattle.version_rules.specs.order.Parts.{last_plain_cmp, last_rank, last_cmp};
+ghost use Rattle.version_parts.specs.{Chunk.plain_chunk, Last.last_fed, Last.plain_last, Last.plain_last_ref};
+ghost use Rattle.version_order.specs.{keys.Codes.same_where_tied, texts.Front.map_value};
 
 use crate::chunk::{Chunk, ChunkRef};
 use crate::key::{PartText, PieceBytes, compare_parts};

@@ -1,10 +1,7 @@
 //! Lists of items of any kind: printed with dots between, copied and compared.
 
 ghost use Rattle.std.specs.Prelude.{◌≡◌, ℕ, List, map, IfOk, Some};
-ghost use Rattle.std.specs.Cmp.Lexicographic.{slice_cmp};
-ghost use Rattle.std.specs.Fmt.{WritesOnOk};
-ghost use Rattle.std.specs.List.{join_with_byte};
-ghost use Rattle.std.specs.declared.cmp.Ordering.{Ordering};
+ghost use Rattle.std.specs.{Cmp.Lexicographic.slice_cmp, Fmt.WritesOnOk, List.join_with_byte, declared.cmp.Ordering.Ordering};
 ghost use Rattle.version_order.specs.texts.Bytes.{dot};
 
 use std::alloc::{AllocError, Global};

@@ -1,20 +1,13 @@
 //! Chunks of a messy version: the pieces between its dots and signs.
 
 ghost use Rattle.std.specs.Prelude.{◌≡◌, refl, map, IfOk, Some};
-ghost use Rattle.std.specs.Option.{option_map};
-ghost use Rattle.std.proofs.Common.{ap};
 ghost use Rattle.std.specs.Cmp.{eq_by_cmp_equiv, on_equiv, on_per, on_total, partial_equiv_from_equiv, po};
-ghost use Rattle.std.specs.Ordering.{as_partial_cmp, eq_by_cmp, on};
-ghost use Rattle.version_order.specs.texts.DigitRun.{is_digits};
-ghost use Rattle.version_order.specs.texts.Front.{dotted_front};
-ghost use Rattle.version_parts.specs.Body.{Reads};
-ghost use Rattle.version_rules.specs.laws.Front.{mchunk_consumes};
-ghost use Rattle.version_rules.specs.grammar.MChunk.{chunk_before, digits_number, ends_chunk, mchunk_front, mchunk_plain_cmp, mchunk_rank, mchunk_text, mchunk_value, value_of_digits, value_of_revision, variant_of, PlainMChunk};
-ghost use Rattle.version_parts.specs.MChunk.{mchunk_fed, plain_mchunk, plain_mchunk_ref};
-ghost use Rattle.version_rules.specs.laws.Last.{mchunk_total, mchunks_same};
-ghost use Rattle.version_order.specs.keys.Codes.{same_where_tied};
-ghost use Rattle.version_rules.specs.order.Parts.{mchunk_cmp};
-ghost use Rattle.version_rules.specs.laws.Part.{mchunk_cmp_ties, mchunk_cmp_total};
+ghost use Rattle.std.specs.{Option.option_map, Ordering.as_partial_cmp, Ordering.eq_by_cmp, Ordering.on};
+ghost use Rattle.std.proofs.Common.{ap};
+ghost use Rattle.version_order.specs.{keys.Codes.same_where_tied, texts.Front.is_digits, texts.Front.dotted_front};
+ghost use Rattle.version_parts.specs.{Body.Reads, MChunk.mchunk_fed, MChunk.plain_mchunk, MChunk.plain_mchunk_ref};
+ghost use Rattle.version_rules.specs.grammar.MChunk.{digits_number, ends_chunk, mchunk_front, mchunk_plain_cmp, mchunk_rank, mchunk_text, mchunk_value, value_of_digits, value_of_revision, variant_of, PlainMChunk};
+ghost use Rattle.version_rules.specs.{laws.Front.mchunk_consumes, laws.Last.mchunk_total, laws.Last.mchunks_same, laws.Part.mchunk_cmp_ties, laws.Part.mchunk_cmp_total, order.Parts.mchunk_cmp};
 
 use crate::key::{PartText, compare_parts};
 use crate::lists::ListItem;
@@ -56,11 +49,7 @@ impl MChunk {
     pub fn text(&self) -> &str
         ensures { result.now ≡ mchunk_text (plain_mchunk self.now) }
     {
-        match self {
-            MChunk::Digits(_, text) => text.as_str(),
-            MChunk::Rev(_, text) => text.as_str(),
-            MChunk::Plain(text) => text.as_str(),
-        }
+        self.lent().text()
     }
 
     /// Returns the number of a `Digits`, or None.
@@ -97,13 +86,6 @@ impl MChunk {
             MChunk::Rev(value, text) => MChunkRef::Rev(*value, text.as_str()),
             MChunk::Plain(text) => MChunkRef::Plain(text.as_str()),
         }
-    }
-
-    // How two chunks compare, field by field.
-    fn compare_plain(&self, other: &MChunk) -> Ordering
-        ensures { result ≡ mchunk_plain_cmp (plain_mchunk self.now) (plain_mchunk other.now) }
-    {
-        self.lent().compare(other.lent())
     }
 }
 
@@ -148,7 +130,7 @@ impl PartialEq for MChunk {
     ghost laws = { on_per plain_mchunk (partial_equiv_from_equiv (eq_by_cmp_equiv mchunk_total)) };
 
     fn eq(&self, other: &MChunk) -> bool {
-        self.compare_plain(other).is_eq()
+        self.compare(other).is_eq()
     }
 }
 
@@ -181,7 +163,7 @@ impl Ord for MChunk {
 
     fn cmp(&self, other: &MChunk) -> Ordering {
         let (a, b) = (PartText::text(self.text()), PartText::text(other.text()));
-        compare_parts(a, b).then_with(|| self.compare_plain(other))
+        compare_parts(a, b).then_with(|| self.compare(other))
     }
 }
 
@@ -212,7 +194,7 @@ impl ListItem for MChunk {
     }
 
     fn compare(&self, other: &MChunk) -> Ordering {
-        self.compare_plain(other)
+        self.lent().compare(other.lent())
     }
 }
 
@@ -297,18 +279,12 @@ impl<'a> MChunkRef<'a> {
         ensures { option_map (λ r. (plain_mchunk_ref r.0, r.1.now)) result ≡ mchunk_front i.now }
     {
         let (run, rest) = nonempty_run(i, Class::Alphanumeric)?;
-        Some((MChunkRef::before(rest, run), rest))
-    }
-
-    // The chunk of a run, by what follows it.
-    fn before(rest: &str, run: &'a str) -> MChunkRef<'a>
-        ensures { plain_mchunk_ref result ≡ chunk_before (run.now, rest.now) }
-    {
-        if ends_chunk(rest) {
+        let chunk = if ends_chunk(rest) {
             MChunkRef::of(run)
         } else {
             MChunkRef::Plain(run)
-        }
+        };
+        Some((chunk, rest))
     }
 
     // The chunk of a run of letters and digits.
@@ -342,9 +318,7 @@ impl<'a> MChunkRef<'a> {
         ensures { result.now ≡ mchunk_text (plain_mchunk_ref self.entry) }
     {
         match self {
-            MChunkRef::Digits(_, text) => text,
-            MChunkRef::Rev(_, text) => text,
-            MChunkRef::Plain(text) => text,
+            MChunkRef::Digits(_, text) | MChunkRef::Rev(_, text) | MChunkRef::Plain(text) => text,
         }
     }
 
@@ -364,8 +338,7 @@ impl<'a> MChunkRef<'a> {
         ensures { result ≡ mchunk_value (plain_mchunk_ref self.entry) }
     {
         match self {
-            MChunkRef::Digits(value, _) => value,
-            MChunkRef::Rev(value, _) => value,
+            MChunkRef::Digits(value, _) | MChunkRef::Rev(value, _) => value,
             MChunkRef::Plain(_) => 0,
         }
     }

@@ -2,7 +2,7 @@
 
 ghost use Rattle.std.specs.Prelude.{string_bytes};
 ghost use Rattle.version_parts.specs.Body.{Reads};
-ghost use Rattle.version_rules.specs.grammar.Release.{meta_front};
+ghost use Rattle.version_rules.specs.grammar.Body.{meta_front};
 
 use crate::scan;
 pub use crate::scan::{alphanums, hyphenated_alphanums, unsigned};

@@ -3,15 +3,11 @@
 ghost use Rattle.std.specs.Prelude.{◌≡◌, refl, length, IfOk, List, Some};
 ghost use Rattle.std.proofs.Common.{ap};
 ghost use Rattle.std.specs.Cmp.{eq_by_cmp_equiv, on_equiv, on_per, on_total, partial_equiv_from_equiv, po};
-ghost use Rattle.std.specs.Option.{option_map};
-ghost use Rattle.std.specs.Ordering.{as_partial_cmp, eq_by_cmp, on};
-ghost use Rattle.version_rules.specs.grammar.Chunk.{chunk_front, PlainChunk};
-ghost use Rattle.version_order.specs.texts.Front.{elements_at};
-ghost use Rattle.version_parts.specs.Body.{Reads, plain_release, release_fed};
-ghost use Rattle.version_order.specs.keys.Codes.{same_where_tied};
-ghost use Rattle.version_rules.specs.grammar.Release.{release_front, release_text};
-ghost use Rattle.version_rules.specs.laws.Release.{release_total, releases_same};
+ghost use Rattle.std.specs.{Option.option_map, Ordering.as_partial_cmp, Ordering.eq_by_cmp, Ordering.on};
+ghost use Rattle.version_rules.specs.{grammar.Body.release_front, grammar.Body.release_text, grammar.Chunk.chunk_front, grammar.Chunk.PlainChunk, laws.Part.release_total, laws.Part.releases_same};
 ghost use Rattle.version_rules.specs.order.Parts.{release_bytes, release_cmp};
+ghost use Rattle.version_order.specs.{keys.Codes.same_where_tied, texts.Front.elements_at};
+ghost use Rattle.version_parts.specs.Body.{Reads, plain_release, release_fed};
 
 use crate::chunk::{Chunk, ReleaseChunk};
 use crate::key::{ItemsLeft, ListLeft};

@@ -1,25 +1,18 @@
 //! Scans: parsers that return pieces of their input, and do not allocate. The crate `versions` is built on them.
 
 ghost use Rattle.std.specs.Prelude.{◌≡◌, ◌<◌, ◌^◌, List, drop, length, map, nat_lt, take, true, IfOk, IfSome, OnErr, Some, SomeIff};
-ghost use Rattle.std.specs.Option.{option_map};
-ghost use Rattle.std.specs.Char.{is_ascii_alphanumeric, is_ascii_digit};
-ghost use Rattle.std.specs.List.{list_all, prefix_len, take_while};
-ghost use Rattle.std.specs.Str.Parse.{digits_value};
-ghost use Rattle.version_order.specs.texts.Bytes.{dot, is_identifier_byte};
-ghost use Rattle.version_order.specs.texts.Class.{contains, IsAsciiClass};
+ghost use Rattle.std.specs.{Char.is_ascii_alphanumeric, Char.is_ascii_digit, List.list_all, List.prefix_len, List.take_while, Option.option_map, Str.Parse.digits_value};
 ghost use Rattle.version_order.specs.texts.Front.{after_mark, behind, dotted_front, elements_at, run_front, Consumes, Front};
-ghost use Rattle.version_parts.specs.Body.{Reads};
-ghost use Rattle.version_order.specs.keys.Lists.{split_last};
-ghost use Rattle.version_rules.specs.grammar.Release.{meta_front};
-ghost use Rattle.version_rules.specs.grammar.Numeral.{unsigned_front, SpellsNumeral};
-ghost use Rattle.version_parts.specs.Sep.{plain_sep};
-ghost use Rattle.version_order.specs.texts.Grammar.{sep_front};
+ghost use Rattle.version_order.specs.{keys.Lists.split_last, texts.Bytes.dot, texts.Bytes.is_identifier_byte, texts.Class.contains, texts.Class.IsAsciiClass, texts.Grammar.sep_front};
+ghost use Rattle.version_parts.specs.{Body.Reads, Sep.plain_sep};
+ghost use Rattle.version_rules.specs.grammar.{Body.meta_front, Chunk.unsigned_front, Chunk.SpellsNumeral};
 
 use crate::sep::Sep;
 use std::alloc::{AllocError, Global};
 use version_order::{Class, run_length};
 
 // The longest run of a class at the start of a text, which may be empty, and the rest.
+#[tactic(auto, using(crate::proofs::lemmas::Scans::run_boundary))]
 #[inline(always)]
 pub(crate) fn split_run(i: &str, class: Class) -> (&str, &str)
     requires { IsAsciiClass class }
@@ -87,7 +80,7 @@ pub fn numeral(i: &str) -> Option<(&str, &str)>
 }
 
 // The same, given the longest run of digits at the start of the text, and what follows it.
-#[tactic(auto, using(version_rules::proofs::lemmas::Numeral::numerals_read))]
+#[tactic(auto, using(version_rules::proofs::lemmas::Numeral::numerals_read, version_rules::proofs::lemmas::Numeral::numeral_large, version_rules::proofs::lemmas::Numeral::numeral_none, version_rules::proofs::lemmas::Numeral::numeral_run, version_rules::proofs::lemmas::Numeral::run_spelled, crate::proofs::lemmas::Cited::numeral_of_run_cites))]
 #[inline(always)]
 pub(crate) fn numeral_of_run<'a>(
     i: &'a str,

@@ -1,14 +1,11 @@
 //! The signs between the sections of a messy version.
 
 ghost use Rattle.std.specs.Prelude.{◌≡◌, ◌∷◌, [], Some};
-ghost use Rattle.std.specs.Option.{option_map};
+ghost use Rattle.std.specs.{Cmp.eq_by_cmp_equiv, Cmp.on_equiv, Cmp.on_per, Cmp.partial_equiv_from_equiv, Option.option_map, Ordering.eq_by_cmp, Ordering.on};
 ghost use Rattle.std.proofs.Common.{ap};
-ghost use Rattle.std.specs.Cmp.{eq_by_cmp_equiv, on_equiv, on_per, partial_equiv_from_equiv};
-ghost use Rattle.std.specs.Ordering.{eq_by_cmp, on};
 ghost use Rattle.version_rules.specs.laws.Last.{sep_total, seps_same};
-ghost use Rattle.version_order.specs.keys.Codes.{same_where_tied};
+ghost use Rattle.version_order.specs.{keys.Codes.same_where_tied, texts.Grammar.sep_byte, texts.Grammar.sep_of, texts.Grammar.sep_plain_cmp, texts.Grammar.sep_rank};
 ghost use Rattle.version_parts.specs.Sep.{plain_sep, sep_fed};
-ghost use Rattle.version_order.specs.texts.Grammar.{sep_byte, sep_of, sep_plain_cmp, sep_rank};
 
 use serde::{Deserialize, Serialize};
 use std::cmp::Ordering;

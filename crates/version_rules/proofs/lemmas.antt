@@ -8,7 +8,6 @@ pub mod MChunk
 pub mod Matching
 pub mod Mess
 pub mod Numeral
-pub mod Op
 pub mod Order
 pub mod Range
 pub mod Requirement

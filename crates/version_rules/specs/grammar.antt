@@ -4,8 +4,6 @@ pub mod Conversions
 pub mod Last
 pub mod MChunk
 pub mod Mess
-pub mod Numeral
-pub mod Release
 pub mod SemVer
 pub mod Version
 pub mod Versioning

@@ -1,4 +1,3 @@
 pub mod Key
 pub mod PartKey
-pub mod Tail
 pub mod Texts

@@ -3,5 +3,4 @@ pub mod Key
 pub mod Last
 pub mod Matching
 pub mod Part
-pub mod Release
 pub mod Versioning

@@ -1,4 +1,3 @@
 pub mod Kinds
-pub mod LastOrder
 pub mod Orders
 pub mod Parts

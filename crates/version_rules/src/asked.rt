@@ -2,9 +2,8 @@
 
 ghost use Rattle.std.specs.Prelude.{◌≡◌, ◌↔◌, IsTrue};
 ghost use Rattle.std.specs.Ordering.{eq_by_cmp};
-ghost use Rattle.version_rules.specs.key.Key.{key_of, precedence};
+ghost use Rattle.version_rules.specs.{grammar.Versioning.versioning_plain_cmp, grammar.Versioning.PlainVersioning, key.Key.key_of, key.Key.precedence};
 ghost use Rattle.version_rules.specs.requirement.Matching.{MatchesCaret, MatchesOp, MatchesTilde};
-ghost use Rattle.version_rules.specs.grammar.Versioning.{versioning_plain_cmp, PlainVersioning};
 
 use crate::op::Op;
 use std::cmp::Ordering;

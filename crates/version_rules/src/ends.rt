@@ -2,9 +2,7 @@
 
 ghost use Rattle.std.specs.Prelude.{◌≡◌, Some, true};
 ghost use Rattle.version_rules.specs.requirement.Range.{kept_parts, range_from, AreWhole, all_kinds, is_strict, kind_alone, no_kinds, op_range, range_without_version, series_range};
-ghost use Rattle.version_rules.specs.key.Key.{key_of, Key};
-ghost use Rattle.version_rules.specs.grammar.Versioning.{versioning_kind, PlainVersioning};
-ghost use Rattle.version_rules.specs.declared.kind.Kind.TheVariants.{Complex};
+ghost use Rattle.version_rules.specs.{declared.kind.Kind.TheVariants.Complex, grammar.Versioning.versioning_kind, grammar.Versioning.PlainVersioning, key.Key.key_of, key.Key.Key};
 ghost use Rattle.version_order.specs.declared.ends.End.TheVariants.{Zero};
 
 use crate::kind::Kind;

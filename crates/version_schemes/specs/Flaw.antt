@@ -1,17 +1,11 @@
 -- Why a text is no version: what stands where it could become one no more.
 use Rattle.std.specs.Prelude.{◌≡◌, ◌==◌, ◌&&◌, ◌||◌, ◌-◌, ℕ, Bool, true, false, List, [], ◌∷◌, codes, if◌then◌else◌, nat_le, nat_lt, not, take, Option, None}
-use Rattle.std.specs.Char.{is_ascii_digit}
-use Rattle.std.specs.List.{list_any, slice_get}
-use Rattle.std.specs.Option.{is_some, option_map_or}
+use Rattle.std.specs.{Char.is_ascii_digit, List.list_any, List.slice_get, Option.is_some, Option.option_map_or}
 use Rattle.version_order.specs.texts.Bytes.{colon, dot, hyphen, plus, tilde, underscore}
-use Rattle.version_order.specs.texts.DigitRun.{is_digits}
-use Rattle.version_schemes.specs.Scheme.{rules}
-use Rattle.version_schemes.specs.declared.scheme.Scheme.{Scheme}
-use Rattle.version_order.specs.Facts.{is_mark as is_mark_of}
-use Rattle.version_order.specs.Viable.{IsLongestViable}
+use Rattle.version_order.specs.{Facts.is_mark as is_mark_of, Viable.IsLongestViable, texts.Front.is_digits}
 use Rattle.version_schemes.specs.declared.flaw.Mark.TheVariants.{Colon, Dot, Exclamation, Hyphen, Plus, Tilde, Underscore}
-use Rattle.version_schemes.specs.declared.flaw.Reason.{Reason}
 use Rattle.version_schemes.specs.declared.flaw.Reason.TheVariants.{Blank, Control, Empty, EmptyPart, LateColon, LeadingZero, NotAscii, NothingAfter, Other, Unfinished}
+use Rattle.version_schemes.specs.{Scheme.rules, declared.flaw.Reason.Reason, declared.scheme.Scheme.Scheme}
 
 -- whether a text is a version
 abbrev pub is_version : Scheme → List ℕ → Bool

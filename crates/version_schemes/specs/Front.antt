@@ -1,8 +1,8 @@
 -- What a buffer that keeps what fits becomes as bytes are written.
 use Rattle.std.specs.Prelude.{◌≡◌, ℕ, Bool, List, [], ◌++◌, ◌+◌, ◌≤◌, ◌||◌, length, min, nat_lt, refl}
-use Rattle.std.proofs.Common.{◌∙◌}
 use Rattle.version_order.specs.keys.Sinks.{Leads, leads_both, leads_none, put_at}
-use Rattle.version_schemes.specs.declared.front.Front.{Front}
+use Rattle.version_schemes.specs.declared.key.Front.{Front}
+use Rattle.std.proofs.Common.{◌∙◌}
 
 -- the buffer after more bytes, the place after those that fit, and whether some didn't
 abbrev pub front_with : Front → List ℕ → List ℕ × (ℕ × Bool)

@@ -1,15 +1,14 @@
 -- The schemes: their rules, numbers and names.
 use Rattle.std.specs.Prelude.{ℕ, zero, suc, Bool, true, false, List, [], ◌∷◌, find, Option, None}
-use Rattle.std.specs.List.{list_any, slice_get}
-use Rattle.std.specs.Str.{str_eq_ignore_ascii_case}
+use Rattle.std.specs.{List.list_any, List.slice_get, Str.str_eq_ignore_ascii_case}
 use Rattle.scheme_deb.specs.Deb.{deb_rules}
 use Rattle.scheme_gem.specs.Rules.{gem_rules}
 use Rattle.scheme_pypi.specs.Texts.{pypi_rules}
 use Rattle.scheme_rpm.specs.Rpm.{rpm_rules}
 use Rattle.scheme_semver.specs.Rules.{semver_rules}
 use Rattle.version_order.specs.Rules.{Rules}
-use Rattle.version_schemes.specs.declared.scheme.Scheme.{Scheme}
 use Rattle.version_schemes.specs.declared.scheme.Scheme.TheVariants.{Deb, Gem, Mixed, Pypi, Rpm, SemVer}
+use Rattle.version_schemes.specs.declared.scheme.Scheme.{Scheme}
 use Rattle.version_texts.specs.Mixed.{mixed_rules}
 
 -- the rules of each

@@ -4,8 +4,7 @@ ghost use Rattle.std.specs.Prelude.{◌≡◌, ◌≢◌, ◌++◌, MatchOption,
 ghost use Rattle.std.specs.Option.{option_map};
 ghost use Rattle.version_rules.specs.grammar.Versioning.{versioning_of};
 ghost use Rattle.version_order.specs.keys.Lists.{bytes_cmp};
-ghost use Rattle.version_schemes.specs.any.Order.{any_of, any_precedence};
-ghost use Rattle.version_schemes.specs.declared.scheme.Scheme.TheVariants.{Mixed};
+ghost use Rattle.version_schemes.specs.{any.Order.any_of, any.Order.any_precedence, declared.scheme.Scheme.TheVariants.Mixed};
 ghost use Rattle.version_texts.specs.VersioningRef.{plain_versioning_ref};
 
 use crate::key::append_key;
@@ -51,6 +50,7 @@ impl<'t> AnyVersion<'t> {
     ghost use Rattle.version_schemes.specs.any.AnyVersion.{plain_any};
 
     /// Reads a whole text as a version of a scheme, or returns None if it is none.
+    #[tactic(auto, using(crate::proofs::lemmas::Any::mixed_is))]
     #[inline(always)]
     pub fn read(scheme: Scheme, text: &'t [u8]) -> Option<AnyVersion<'t>>
         ensures { option_map plain_any result ≡ any_of scheme text.now }

@@ -1,11 +1,9 @@
 //! Why a text is no version: what stands where it could become one no more.
 
 ghost use Rattle.std.specs.Prelude.{◌≡◌, ◌≤◌, false, length, true, IfNone, IfSome, is_some};
-ghost use Rattle.std.specs.Option.{option_map_or};
-ghost use Rattle.version_schemes.specs.declared.flaw.Reason.TheVariants.{Empty, NothingAfter};
+ghost use Rattle.version_schemes.specs.Flaw.{IsFlaw, byte_before, ends_in_zero_led, has_byte, has_late_colon, has_wrong_number, is_mark, is_version, reason_after, reason_at, reason_of_byte, reason_text};
+ghost use Rattle.version_schemes.specs.{Scheme.rules, declared.flaw.Reason.TheVariants.Empty, declared.flaw.Reason.TheVariants.NothingAfter};
 ghost use Rattle.version_order.specs.Viable.{IsLongestViable};
-ghost use Rattle.version_schemes.specs.Scheme.{rules};
-ghost use Rattle.version_schemes.specs.Flaw.{IsFlaw, byte_before, ends_in_zero_led, has_byte, has_late_colon, has_wrong_number, is_blank, is_control, is_mark, is_version, is_zero, reason_after, reason_at, reason_of_byte, reason_of_mark, reason_text, reason_unfinished};
 
 use crate::by_scheme;
 use crate::scheme::Scheme;
@@ -90,9 +88,10 @@ fn reason_at(scheme: Scheme, text: &[u8], place: usize) -> Reason
     ensures { result ≡ reason_at scheme text.now place }
 {
     let last = byte_before(text, place);
-    match text.get(place) {
-        Some(byte) => reason_of_byte(scheme, &text[..place], last, *byte),
-        None => reason_of_end(scheme, text, last),
+    match (text.get(place), last) {
+        (Some(byte), last) => reason_of_byte(scheme, &text[..place], last, *byte),
+        (None, Some(last)) => reason_after(scheme, text, last),
+        (None, None) => Reason::Empty,
     }
 }
 
@@ -110,35 +109,25 @@ fn byte_before(text: &[u8], place: usize) -> Option<u8>
 fn reason_of_byte(scheme: Scheme, begun: &[u8], last: Option<u8>, byte: u8) -> Reason
     ensures { result ≡ reason_of_byte scheme begun.now last byte }
 {
-    if is_blank(byte) {
+    if byte == b' ' || byte == b'\t' {
         return Reason::Blank;
     }
-    if is_control(byte) {
+    if byte < 32 || byte == 127 {
         return Reason::Control;
     }
     if byte >= 128 {
         return Reason::NotAscii;
     }
-    if is_mark(scheme, byte) && ends_part(scheme, last) {
+    if is_mark(scheme, byte) && last.is_none_or(|last| is_mark(scheme, last)) {
         return Reason::EmptyPart;
     }
-    if byte.is_ascii_digit() && ends_in_zero(last) {
+    if byte.is_ascii_digit() && last == Some(b'0') {
         return Reason::LeadingZero;
     }
-    if is_mark(scheme, byte) {
-        return reason_of_mark(scheme, begun, byte);
-    }
-    Reason::Other
-}
-
-// Returns the reason by a mark that a text can't go on with after what it begins with.
-fn reason_of_mark(scheme: Scheme, begun: &[u8], byte: u8) -> Reason
-    ensures { result ≡ reason_of_mark scheme begun.now byte }
-{
-    if has_wrong_number(scheme, begun) {
+    if is_mark(scheme, byte) && has_wrong_number(scheme, begun) {
         return Reason::LeadingZero;
     }
-    if byte == b':' && has_byte(begun, b'-') {
+    if is_mark(scheme, byte) && byte == b':' && has_byte(begun, b'-') {
         return Reason::LateColon;
     }
     Reason::Other
@@ -188,55 +177,11 @@ fn has_late_colon(text: &[u8]) -> bool
     false
 }
 
-// Whether there is no byte, or it is a mark.
-fn ends_part(scheme: Scheme, last: Option<u8>) -> bool
-    ensures { result ≡ option_map_or (is_mark scheme) last true }
-{
-    match last {
-        Some(last) => is_mark(scheme, last),
-        None => true,
-    }
-}
-
-// Whether there is a byte, and it is the digit 0.
-fn ends_in_zero(last: Option<u8>) -> bool
-    ensures { result ≡ option_map_or is_zero last false }
-{
-    match last {
-        Some(last) => last == b'0',
-        None => false,
-    }
-}
-
 // Whether a byte is a mark of a scheme.
 fn is_mark(scheme: Scheme, byte: u8) -> bool
     ensures { result ≡ is_mark scheme byte }
 {
     scheme.facts().marks.iter().any(|mark| *mark == byte)
-}
-
-// Whether a byte is a space or a tab.
-fn is_blank(byte: u8) -> bool
-    ensures { result ≡ is_blank byte }
-{
-    matches!(byte, b' ' | b'\t')
-}
-
-// Whether a byte is a control character.
-fn is_control(byte: u8) -> bool
-    ensures { result ≡ is_control byte }
-{
-    byte < 32 || byte == 127
-}
-
-// Returns the reason by a text that has to go on, and its last byte.
-fn reason_of_end(scheme: Scheme, text: &[u8], last: Option<u8>) -> Reason
-    ensures { result ≡ option_map_or (reason_after scheme text.now) last Empty }
-{
-    match last {
-        None => Reason::Empty,
-        Some(last) => reason_after(scheme, text, last),
-    }
 }
 
 // Returns the reason by a text that has to go on, and its last byte.
@@ -251,21 +196,10 @@ fn reason_after(scheme: Scheme, text: &[u8], last: u8) -> Reason
         b'_' => Reason::NothingAfter(Mark::Underscore),
         b'~' => Reason::NothingAfter(Mark::Tilde),
         b'!' => Reason::NothingAfter(Mark::Exclamation),
-        _ => reason_unfinished(scheme, text),
+        _ if has_wrong_number(scheme, text) => Reason::LeadingZero,
+        _ if has_late_colon(text) => Reason::LateColon,
+        _ => Reason::Unfinished,
     }
-}
-
-// Returns the reason by a text that ends in no mark, and has to go on.
-fn reason_unfinished(scheme: Scheme, text: &[u8]) -> Reason
-    ensures { result ≡ reason_unfinished scheme text.now }
-{
-    if has_wrong_number(scheme, text) {
-        return Reason::LeadingZero;
-    }
-    if has_late_colon(text) {
-        return Reason::LateColon;
-    }
-    Reason::Unfinished
 }
 
 impl Reason {
@@ -275,7 +209,13 @@ impl Reason {
     {
         match self {
             Reason::Empty => "nothing",
-            Reason::NothingAfter(mark) => nothing_after(mark),
+            Reason::NothingAfter(Mark::Hyphen) => "nothing after the hyphen",
+            Reason::NothingAfter(Mark::Plus) => "nothing after the plus",
+            Reason::NothingAfter(Mark::Dot) => "nothing after the dot",
+            Reason::NothingAfter(Mark::Colon) => "nothing after the colon",
+            Reason::NothingAfter(Mark::Underscore) => "nothing after the underscore",
+            Reason::NothingAfter(Mark::Tilde) => "nothing after the tilde",
+            Reason::NothingAfter(Mark::Exclamation) => "nothing after the exclamation mark",
             Reason::Unfinished => "an end too early",
             Reason::Blank => "a blank",
             Reason::Control => "a control character",
@@ -285,21 +225,6 @@ impl Reason {
             Reason::LateColon => "a colon after the hyphen",
             Reason::Other => "a character that can't stand there",
         }
-    }
-}
-
-// Returns what is said of a text that ends after a mark.
-fn nothing_after(mark: Mark) -> &'static str
-    ensures { result.now ≡ reason_text (NothingAfter mark) }
-{
-    match mark {
-        Mark::Hyphen => "nothing after the hyphen",
-        Mark::Plus => "nothing after the plus",
-        Mark::Dot => "nothing after the dot",
-        Mark::Colon => "nothing after the colon",
-        Mark::Underscore => "nothing after the underscore",
-        Mark::Tilde => "nothing after the tilde",
-        Mark::Exclamation => "nothing after the exclamation mark",
     }
 }
 

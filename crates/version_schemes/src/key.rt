@@ -1,12 +1,11 @@
 //! Keys in a buffer, and in a list.
 
-ghost use Rattle.std.specs.Prelude.{◌≡◌, ◌+◌, ◌≤◌, ◌++◌, None, length, IfSome, OnErr, OnOk};
+ghost use Rattle.std.specs.Prelude.{⊤, ◌≡◌, ◌+◌, ◌≤◌, ◌++◌, None, length, IfSome, OnErr, OnOk};
 ghost use Rattle.std.specs.Option.{option_map};
 ghost use Rattle.version_order.specs.keys.Sinks.{put_at, saturated, IsWritten};
 
-use crate::front::Front;
 use std::alloc::AllocError;
-use version_order::{Count, Room, SchemeVersion, most_key_bytes};
+use version_order::{Count, Room, SchemeVersion, Sink, most_key_bytes};
 
 /// Writes the key of the version that a text is into a buffer from a place on, if it fits there, and returns the place
 /// after it, or None if the text is no version of the order.
@@ -125,4 +124,44 @@ fn append_counted<'t, V: SchemeVersion<'t>>(
     list.resize(end, 0)?;
     write_whole(version, list.as_mut_slice(), start);
     Ok(())
+}
+
+// A sink that keeps what fits: a buffer, the place after the bytes written as far as they fit, and whether there were
+// more.
+#[derive(Drop)]
+struct Front<'a> {
+    room: &'a mut [u8],
+    end: usize,
+    is_over: bool,
+}
+
+impl<'a> Sink for Front<'a> {
+    ghost use Rattle.version_schemes.specs.Front.{front_both, front_none, TakesFront};
+
+    ghost takes = { TakesFront };
+
+    ghost fits = { λ _ _. ⊤ };
+
+    #[inline(always)]
+    fn put(&mut self, byte: u8) {
+        if self.end < self.room.len() {
+            self.room[self.end] = byte;
+            self.end += 1;
+        } else {
+            self.is_over = true;
+        }
+    }
+
+    #[inline(always)]
+    fn is_decided(&self) -> bool {
+        false
+    }
+
+    ghost fits_first = { λ _ _ _ _. tt };
+
+    ghost fits_then = { λ _ _ _ _ _ _. tt };
+
+    ghost takes_none = { front_none };
+
+    ghost takes_both = { front_both };
 }

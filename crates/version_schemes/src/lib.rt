@@ -4,7 +4,6 @@
 
 mod any;
 mod flaw;
-mod front;
 mod key;
 mod laws;
 mod scheme;

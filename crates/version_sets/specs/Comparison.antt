@@ -1,15 +1,10 @@
 -- The comparisons of members: the words for them, and the ends of what they hold.
 use Rattle.std.specs.Prelude.{◌-◌, ℕ, Bool, true, false, List, [], ◌∷◌, codes, drop, if◌then◌else◌, length, map, take, Option, Some, None}
-use Rattle.std.specs.Option.{option_map, option_or}
-use Rattle.std.specs.Str.{bytes_eq}
-use Rattle.version_order.specs.declared.ends.End.{End}
+use Rattle.std.specs.{Option.option_map, Option.option_or, Str.bytes_eq}
 use Rattle.version_order.specs.declared.ends.End.TheVariants.{AboveBegun, AfterKey, Begun, Key, Lowest}
-use Rattle.version_order.specs.declared.ends.Kept.TheVariants.{All, ButLastOrOnly, ThroughOther}
-use Rattle.version_order.specs.texts.Front.{Front}
+use Rattle.version_order.specs.{Keyed.PlainKeyed, Keyed.end_of, declared.ends.End.End, declared.ends.Kept.TheVariants.All, declared.ends.Kept.TheVariants.ButLastOrOnly, declared.ends.Kept.TheVariants.ThroughOther}
+use Rattle.version_order.specs.{declared.facts.Operators.Operators, declared.facts.Operators.TheVariants.Doubled, declared.facts.Operators.TheVariants.Parts, texts.Front.Front}
 use Rattle.version_rules.specs.requirement.Requirement.{after_word}
-use Rattle.version_order.specs.declared.facts.Operators.{Operators}
-use Rattle.version_order.specs.declared.facts.Operators.TheVariants.{Doubled, Parts}
-use Rattle.version_order.specs.Keyed.{PlainKeyed, end_of}
 use Rattle.version_sets.specs.declared.read.comparison.Comparison.{Comparison}
 use Rattle.version_sets.specs.declared.read.comparison.Comparison.TheVariants as comparison
 

@@ -1,14 +1,8 @@
 -- Which members of a set leave a key out.
 use Rattle.std.specs.Prelude.{◌≡◌, ◌+◌, ◌≤◌, ⊤, ℕ, suc, List, [], ◌∷◌, if◌then◌else◌, length, Option, Some, None}
-use Rattle.version_order.specs.declared.facts.Operators.{Operators}
-use Rattle.version_order.specs.Keyed.{PlainKeyed}
-use Rattle.version_sets.specs.Form.{has}
-use Rattle.version_sets.specs.Pieces.{pieces}
+use Rattle.version_order.specs.{Keyed.PlainKeyed, declared.facts.Operators.Operators}
 use Rattle.version_sets.specs.Reading.{Member, Reading, Right, pieces_room, read_pieces}
-use Rattle.version_sets.specs.declared.read.excluding.Span.{Span}
-use Rattle.version_sets.specs.declared.read.pieces.Pieces.{Pieces}
-use Rattle.version_sets.specs.declared.read.steps.State.{State}
-use Rattle.version_sets.specs.declared.read.steps.State.TheVariants.{Wanted}
+use Rattle.version_sets.specs.{Form.has, Pieces.pieces, declared.read.excluding.Span.Span, declared.read.pieces.Pieces.Pieces, declared.read.steps.State.State, declared.read.steps.State.TheVariants.Wanted}
 
 abbrev pub span_of : Member → Span
 span_of member = record { start = member.start; end = member.end }

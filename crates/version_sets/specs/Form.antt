@@ -1,9 +1,6 @@
 -- A set as bytes.
 use Rattle.std.specs.Prelude.{◌+◌, ◌-◌, ◌*◌, ◌||◌, ℕ, zero, suc, Bool, List, [], ◌∷◌, ◌++◌, drop, if◌then◌else◌, length, map, nat_lt, take, ◌≡◌, false, true, not, ◌/◌, ◌≤◌, Option, Some, None}
-use Rattle.std.specs.Int.{from_le_bytes, to_le_bytes, w64}
-use Rattle.std.specs.List.{concat, flat_map, range_with_len}
-use Rattle.std.specs.List.Sorted.{IsStrictlySortedBy}
-use Rattle.std.specs.Ordering.{is_lt}
+use Rattle.std.specs.{Int.from_le_bytes, Int.to_le_bytes, Int.w64, List.concat, List.flat_map, List.range_with_len, List.Sorted.IsStrictlySortedBy, Ordering.is_lt}
 use Rattle.version_order.specs.keys.Lists.{bytes_cmp}
 
 -- a number in eight bytes, the lowest first

@@ -1,8 +1,7 @@
 -- The pieces of a text: commas, bars, and the words between these and blanks.
 use Rattle.std.specs.Prelude.{◌+◌, ℕ, List, length, ◌==◌, ◌&&◌, ◌||◌, suc, Bool, true, false, not, [], ◌∷◌, if◌then◌else◌}
 use Rattle.version_order.specs.keys.Sinks.{put_at, saturated}
-use Rattle.version_sets.specs.declared.start.Start.{Start}
-use Rattle.version_sets.specs.declared.read.pieces.Piece.{Piece as Borrowed}
+use Rattle.version_sets.specs.declared.{read.pieces.Piece.Piece as Borrowed, start.Start.Start}
 use Rattle.version_sets.specs.declared.read.pieces.Piece.TheVariants as borrowed
 
 -- ---- the first bytes of what is written

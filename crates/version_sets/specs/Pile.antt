@@ -1,17 +1,11 @@
 -- Sets one behind another in a room, the last one first.
-use Rattle.std.specs.Prelude.{◌≡◌, ℕ, suc, Bool, List, [], ◌∷◌, ◌++◌, get_or, length, take, true, false, not}
-use Rattle.std.specs.List.{AllByRecursion, list_all, list_any}
-use Rattle.version_sets.specs.Form.{Rise, has, form_bytes}
-use Rattle.version_sets.specs.declared.merge.Rule.{Rule}
-use Rattle.version_sets.specs.declared.merge.Rule.TheVariants.{Both, Either, FirstAlone}
-use Rattle.version_sets.specs.declared.read.pile.Pile.{Pile}
-use Rattle.std.specs.declared.cmp.Ordering.{Ordering}
-use Rattle.std.specs.declared.cmp.Ordering.TheVariants.{Less, Equal, Greater}
-use Rattle.version_order.specs.keys.Lists.{bytes_cmp}
 use Rattle.std.specs.Ordering.{is_eq, is_ge, is_gt, is_le, is_lt}
-use Rattle.version_rules.specs.key.Key.{Key}
-use Rattle.version_rules.specs.key.PartKey.{PartKey}
-use Rattle.version_sets.specs.declared.read.comparison.Comparison.{Comparison}
+use Rattle.std.specs.Prelude.{◌≡◌, ℕ, suc, Bool, List, [], ◌∷◌, ◌++◌, get_or, length, take, true, false, not}
+use Rattle.std.specs.{List.AllByRecursion, List.list_all, List.list_any, declared.cmp.Ordering.Ordering, declared.cmp.Ordering.TheVariants.Less, declared.cmp.Ordering.TheVariants.Equal, declared.cmp.Ordering.TheVariants.Greater}
+use Rattle.version_sets.specs.{Form.Rise, Form.has, Form.form_bytes, declared.merge.Rule.Rule, declared.merge.Rule.TheVariants.Both, declared.merge.Rule.TheVariants.Either, declared.merge.Rule.TheVariants.FirstAlone}
+use Rattle.version_sets.specs.declared.read.{comparison.Comparison.Comparison, pile.Pile.Pile}
+use Rattle.version_order.specs.keys.Lists.{bytes_cmp}
+use Rattle.version_rules.specs.key.{Key.Key, PartKey.PartKey}
 use Rattle.version_sets.specs.declared.read.comparison.Comparison.TheVariants as comparison
 
 -- the bytes of a room through some sets, behind others

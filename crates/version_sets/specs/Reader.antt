@@ -1,13 +1,10 @@
 -- A set while it is read: what has come of it, and what is to come.
 use Rattle.std.specs.Prelude.{◌≡◌, ◌<◌, ◌&&◌, ◌||◌, ℕ, Bool, List, [], ◌∷◌, length, take}
 use Rattle.std.specs.List.{list_all}
-use Rattle.version_sets.specs.Form.{Rise, has, form_bytes}
-use Rattle.version_sets.specs.Pile.{IsPile, all_have, through}
 use Rattle.version_sets.specs.Reading.{Member, Reading, Right, Wrong, set_has}
-use Rattle.version_sets.specs.declared.merge.Rule.TheVariants.{Both, Either}
-use Rattle.version_sets.specs.declared.read.Unread.{Unread}
-use Rattle.version_sets.specs.declared.read.Unread.TheVariants as unread
+use Rattle.version_sets.specs.{Form.Rise, Form.has, Form.form_bytes, Pile.IsPile, Pile.all_have, Pile.through, declared.merge.Rule.TheVariants.Both, declared.merge.Rule.TheVariants.Either, declared.read.Unread.Unread}
 use Rattle.version_sets.specs.declared.read.reader.Reader.{Reader}
+use Rattle.version_sets.specs.declared.read.Unread.TheVariants as unread
 
 -- What is read has a key where one of the alternatives that are done has it, or each member of the one that
 -- is not over. Both lie in the room, the members behind.

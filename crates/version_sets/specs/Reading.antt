@@ -1,21 +1,12 @@
 -- What a text is read as: a set by its alternatives, each by its members, or where it is wrong, and why.
 use Rattle.std.specs.Prelude.{◌+◌, ◌*◌, ◌≤◌, ◌&&◌, ℕ, suc, Bool, not, List, [], ◌∷◌, if◌then◌else◌, length, Option, Some, None}
-use Rattle.std.specs.List.{list_all, list_any}
-use Rattle.std.specs.declared.result.Result.{Result}
-use Rattle.std.specs.declared.result.Result.TheVariants.{Err, Ok}
-use Rattle.version_sets.specs.declared.read.slip.Slip.{Slip as Slips}
-use Rattle.version_order.specs.declared.facts.Operators.{Operators}
-use Rattle.version_order.specs.Keyed.{PlainKeyed}
+use Rattle.std.specs.{List.list_all, List.list_any, declared.result.Result.Result, declared.result.Result.TheVariants.Err, declared.result.Result.TheVariants.Ok}
 use Rattle.version_sets.specs.Comparison.{asks_bare, asks_doubled, asks_parts, before_star, ends_with, has_doubled, has_parts, starred}
-use Rattle.version_sets.specs.Form.{form_bytes, has}
-use Rattle.version_sets.specs.Pieces.{PlainPiece, Word, pieces}
-use Rattle.version_sets.specs.Slips.{slip_of}
 use Rattle.version_sets.specs.Steps.{PlainStep, All, Asks, Closes, Fault, Goes, step, unfinished}
-use Rattle.version_sets.specs.declared.read.comparison.Comparison.{Comparison}
-use Rattle.version_sets.specs.declared.read.fault.Reason.{Reason}
 use Rattle.version_sets.specs.declared.read.fault.Reason.TheVariants.{NoParts, NotBare, NotDoubled, NotVersion, Slip, StarBehind}
-use Rattle.version_sets.specs.declared.read.steps.State.{State}
-use Rattle.version_sets.specs.declared.read.steps.State.TheVariants.{Come, Wanted}
+use Rattle.version_sets.specs.{Form.form_bytes, Form.has, Pieces.PlainPiece, Pieces.Word, Pieces.pieces, Slips.slip_of, declared.read.comparison.Comparison.Comparison, declared.read.fault.Reason.Reason}
+use Rattle.version_sets.specs.declared.read.{slip.Slip.Slip as Slips, steps.State.State, steps.State.TheVariants.Come, steps.State.TheVariants.Wanted}
+use Rattle.version_order.specs.{Keyed.PlainKeyed, declared.facts.Operators.Operators}
 
 -- ---- members
 

@@ -1,17 +1,10 @@
 -- The ends that the bytes of a set hold, and those of what a rule makes of two sets.
 use Rattle.std.specs.Prelude.{ℕ, List, codes, ◌+◌, ◌-◌, ◌&&◌, ◌||◌, Bool, drop, length, not, ◌≡◌, true, ◌∷◌, Option, Some, None}
-use Rattle.version_sets.specs.declared.read.slip.Slip.TheVariants.{LetterV, NoDigit, PartX}
-use Rattle.version_sets.specs.declared.read.fault.Reason.{Reason}
+use Rattle.std.specs.{List.concat, List.flat_map, Ordering.is_lt}
 use Rattle.version_sets.specs.declared.read.fault.Reason.TheVariants.{NoMember, NoOperator, NoParts, NoVersion, NotBare, NotDoubled, NotVersion, OneBar, Slip, StarBehind}
-use Rattle.version_sets.specs.Form.{ends_in, number, places, Rise}
-use Rattle.version_sets.specs.Pile.{merged}
-use Rattle.version_sets.specs.declared.form.Form.{Form}
-use Rattle.version_sets.specs.declared.merge.Merge.{Merge}
-use Rattle.version_sets.specs.declared.merge.Rule.{Rule}
-use Rattle.version_sets.specs.declared.merge.Rule.TheVariants.{Both, Either, FirstAlone}
-use Rattle.version_sets.specs.declared.merge.Side.{Side}
-use Rattle.std.specs.List.{concat, flat_map}
-use Rattle.std.specs.Ordering.{is_lt}
+use Rattle.version_sets.specs.{Form.ends_in, Form.number, Form.places, Form.Rise, Pile.merged, declared.form.Form.Form, declared.merge.Merge.Merge, declared.merge.Rule.Rule}
+use Rattle.version_sets.specs.declared.{merge.Rule.TheVariants.Both, merge.Rule.TheVariants.Either, merge.Rule.TheVariants.FirstAlone, merge.Side.Side, read.fault.Reason.Reason}
+use Rattle.version_sets.specs.declared.read.slip.Slip.TheVariants.{LetterV, NoDigit, PartX}
 use Rattle.version_order.specs.keys.Lists.{bytes_cmp}
 
 -- ---- what is said of a text that is no set

@@ -1,12 +1,8 @@
 -- Versions that people write for something else, by their texts alike in each order.
 use Rattle.std.specs.Prelude.{◌&&◌, ◌==◌, ◌||◌, ℕ, Bool, false, true, not, List, [], ◌∷◌, drop, if◌then◌else◌, Option, Some, None}
-use Rattle.std.specs.Char.{is_ascii_alphanumeric, is_ascii_digit}
-use Rattle.std.specs.List.{list_any, prefix_len}
-use Rattle.std.specs.Ordering.{is_eq}
-use Rattle.version_order.specs.keys.Lists.{bytes_cmp}
-use Rattle.version_sets.specs.declared.read.slip.Slip.{Slip}
-use Rattle.version_sets.specs.declared.read.slip.Slip.TheVariants.{LetterV, NoDigit, PartX}
-use Rattle.version_order.specs.Keyed.{PlainKeyed}
+use Rattle.std.specs.{Char.is_ascii_alphanumeric, Char.is_ascii_digit, List.list_any, List.prefix_len, Ordering.is_eq}
+use Rattle.version_order.specs.{Keyed.PlainKeyed, keys.Lists.bytes_cmp}
+use Rattle.version_sets.specs.declared.read.slip.{Slip.Slip, Slip.TheVariants.LetterV, Slip.TheVariants.NoDigit, Slip.TheVariants.PartX}
 
 -- whether a text begins with v or V and a digit
 abbrev pub begins_with_v : List ℕ → Bool

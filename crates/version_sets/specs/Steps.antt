@@ -1,13 +1,9 @@
 -- What a piece of a text does, by what has come before it.
 use Rattle.std.specs.Prelude.{◌+◌, ◌-◌, ◌==◌, ℕ, Bool, false, List, [], ◌∷◌, if◌then◌else◌, length, Option, Some, None}
-use Rattle.version_sets.specs.Comparison.{comparison_front}
 use Rattle.version_sets.specs.Pieces.{PlainPiece, Bar, Bars, Comma, Word}
-use Rattle.version_sets.specs.declared.read.comparison.Comparison.{Comparison}
-use Rattle.version_sets.specs.declared.read.fault.Reason.{Reason}
-use Rattle.version_sets.specs.declared.read.fault.Reason.TheVariants.{NoMember, NoOperator, NoVersion, OneBar}
-use Rattle.version_sets.specs.declared.read.steps.State.{State}
-use Rattle.version_sets.specs.declared.read.steps.State.TheVariants.{Come, Opened, Wanted}
-use Rattle.version_sets.specs.declared.read.steps.Step.{Step}
+use Rattle.version_sets.specs.{Comparison.comparison_front, declared.read.comparison.Comparison.Comparison, declared.read.fault.Reason.Reason}
+use Rattle.version_sets.specs.declared.read.{fault.Reason.TheVariants.NoMember, fault.Reason.TheVariants.NoOperator, fault.Reason.TheVariants.NoVersion, fault.Reason.TheVariants.OneBar, steps.State.State}
+use Rattle.version_sets.specs.declared.read.steps.{State.TheVariants.Come, State.TheVariants.Opened, State.TheVariants.Wanted, Step.Step}
 use Rattle.version_sets.specs.declared.read.steps.Step.TheVariants as borrowed
 
 -- what a piece does: it is wrong at a place, leads to another state, begins an alternative, is a member at a

@@ -2,14 +2,8 @@
 
 ghost use Rattle.std.specs.Prelude.{◌≡◌, ◌↔◌, Bool, List, false, length, not, true, ℕ};
 ghost use Rattle.std.specs.declared.cmp.Ordering.TheVariants.{Less};
-ghost use Rattle.version_rules.specs.grammar.Versioning.{PlainVersioning};
-ghost use Rattle.version_rules.specs.key.Key.{key_of, precedence};
-ghost use Rattle.version_rules.specs.requirement.Range.{but_last_or_only, through_other};
-ghost use Rattle.version_sets.specs.Comparison.{ends_with};
-ghost use Rattle.version_sets.specs.Form.{has, AreMerged, Rise};
-ghost use Rattle.version_sets.specs.Excluding.{leave_out};
-ghost use Rattle.version_sets.specs.Reading.{set_has, Member};
-ghost use Rattle.version_sets.specs.Pile.{AreByOrder, BeginsWith, merged};
+ghost use Rattle.version_rules.specs.{grammar.Versioning.PlainVersioning, key.Key.key_of, key.Key.precedence, requirement.Range.but_last_or_only, requirement.Range.through_other};
+ghost use Rattle.version_sets.specs.{Comparison.ends_with, Excluding.leave_out, Form.has, Form.AreMerged, Form.Rise, Pile.AreByOrder, Pile.BeginsWith, Pile.merged, Reading.set_has, Reading.Member};
 ghost use Rattle.version_sets.specs.declared.read.comparison.Comparison.TheVariants.{Caret, NotPrefix, Prefix, Tilde};
 ghost use Rattle.version_texts.specs.Mixed.{mixed};
 

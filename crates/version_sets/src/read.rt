@@ -2,10 +2,8 @@
 
 ghost use Rattle.std.specs.Prelude.{◌≡◌, ◌∷◌, ◌<◌, length, IfErr, IfOk, List, ℕ};
 ghost use Rattle.version_sets.specs.Reading.{piece_room, read_set, set_has, set_room, Member, Right};
-ghost use Rattle.version_sets.specs.Pieces.{plain_piece};
-ghost use Rattle.version_sets.specs.Reader.{IsUnread, IsWrittenSet};
-ghost use Rattle.version_order.specs.Facts.{key_room};
-ghost use Rattle.version_order.specs.keys.Sinks.{saturated};
+ghost use Rattle.version_sets.specs.{Pieces.plain_piece, Reader.IsUnread, Reader.IsWrittenSet};
+ghost use Rattle.version_order.specs.{Facts.key_room, keys.Sinks.saturated};
 
 pub(crate) mod comparison;
 pub(crate) mod excluding;

@@ -2,8 +2,7 @@
 
 ghost use Rattle.std.specs.Prelude.{◌≡◌, ◌∷◌, ◌++◌, ◌*◌, ◌+◌, ◌^◌, ◌<◌, ◌≤◌, IfSome, IsSome, false, length, true, ℕ};
 ghost use Rattle.std.specs.List.{concat, flat_map};
-ghost use Rattle.version_sets.specs.Form.{form_bytes, number, places};
-ghost use Rattle.version_sets.specs.Set.{left};
+ghost use Rattle.version_sets.specs.{Form.form_bytes, Form.number, Form.places, Set.left};
 ghost use Rattle.version_order.specs.keys.Sinks.{put_at, saturated, IsWritten};
 
 use crate::merge::Merge;

@@ -1,13 +1,8 @@
 -- Which of several versions is the newest.
 use Rattle.std.specs.Prelude.{◌≡◌, ℕ, ◌<◌, ◌≤◌, zero, suc, Bool, true, false, IfSome, List, [], ◌∷◌, Option, Some}
-use Rattle.std.specs.Borrow.{Bor}
-use Rattle.std.specs.declared.cmp.Ordering.TheVariants.{Less, Greater}
-use Rattle.version_rules.specs.key.Key.{key_of, precedence}
-use Rattle.version_rules.specs.requirement.Matching.{MatchesAll}
-use Rattle.version_rules.specs.grammar.Versioning.{PlainVersioning, versioning_of}
-use Rattle.version_tasks.specs.Stability.{rank, stability_of}
-use Rattle.version_tasks.specs.Tag.{version_in_tag}
-use Rattle.version_tasks.specs.declared.newest.Wanted.{Wanted}
+use Rattle.std.specs.{Borrow.Bor, declared.cmp.Ordering.TheVariants.Less, declared.cmp.Ordering.TheVariants.Greater}
+use Rattle.version_rules.specs.{grammar.Versioning.PlainVersioning, grammar.Versioning.versioning_of, key.Key.key_of, key.Key.precedence, requirement.Matching.MatchesAll}
+use Rattle.version_tasks.specs.{Stability.rank, Stability.stability_of, Tag.version_in_tag, declared.newest.Wanted.Wanted}
 
 -- The version at a place is the first of the newest of so many candidates: none of them is after it
 -- in the order, and each that stands before it among them is before it in the order too.

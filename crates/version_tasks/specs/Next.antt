@@ -1,16 +1,11 @@
 -- What comes next after a version at a place.
 use Rattle.std.specs.Prelude.{◌≡◌, ◌==◌, ◌^◌, ◌<◌, ℕ, suc, List, [], ◌∷◌, ◌++◌, drop, length, map, nat_lt, take, true, Option, Some, None, if◌then◌else◌}
-use Rattle.std.specs.List.{list_all}
-use Rattle.std.specs.Option.{option_map}
-use Rattle.std.specs.declared.cmp.Ordering.TheVariants.{Less, Greater}
-use Rattle.version_rules.specs.grammar.Chunk.{number_of}
-use Rattle.version_rules.specs.key.Key.{key_of, precedence, versioning_epoch}
-use Rattle.version_rules.specs.grammar.Versioning.{versioning_kind, PlainVersioning, Ideal, General, Complex}
+use Rattle.std.specs.{List.list_all, Option.option_map, declared.cmp.Ordering.TheVariants.Less, declared.cmp.Ordering.TheVariants.Greater}
 use Rattle.version_rules.specs.grammar.Last.{PlainLast, Numeric, Rc, Post, Alphanum}
-use Rattle.version_tasks.specs.NextText.{next_text}
-use Rattle.version_tasks.specs.declared.next.text.Next.{Next}
+use Rattle.version_rules.specs.grammar.Versioning.{versioning_kind, PlainVersioning, Ideal, General, Complex}
+use Rattle.version_rules.specs.{grammar.Chunk.number_of, key.Key.key_of, key.Key.precedence, key.Key.versioning_epoch}
+use Rattle.version_tasks.specs.{NextText.next_text, Tag.is_point, Tag.is_separator, declared.next.text.Next.Next}
 use Rattle.version_texts.specs.VersioningRef.{version_in}
-use Rattle.version_tasks.specs.Tag.{is_point, is_separator}
 
 -- all of these numbers, if none is missing
 abbrev pub all_of : List (Option ℕ) → Option (List ℕ)

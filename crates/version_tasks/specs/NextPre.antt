@@ -1,12 +1,7 @@
 -- What comes next after a strict version among the pre-releases of one word.
 use Rattle.std.specs.Prelude.{◌≡◌, ◌^◌, ◌<◌, ◌≤◌, ℕ, List, [], ◌∷◌, ◌++◌, Option, Some, None}
-use Rattle.version_rules.specs.grammar.Chunk.{PlainChunk, Numeric}
-use Rattle.version_rules.specs.grammar.Release.{SpellsRelease}
-use Rattle.version_rules.specs.grammar.SemVer.{PlainSemVer}
-use Rattle.version_rules.specs.grammar.Versioning.{PlainVersioning, Ideal}
-use Rattle.version_tasks.specs.Next.{IsLeastAfter, NoneAfter}
-use Rattle.version_tasks.specs.NextPreText.{pre_version}
-use Rattle.version_tasks.specs.declared.pre.text.NextPre.{NextPre}
+use Rattle.version_rules.specs.grammar.{Body.SpellsRelease, Chunk.PlainChunk, Chunk.Numeric, SemVer.PlainSemVer, Versioning.PlainVersioning, Versioning.Ideal}
+use Rattle.version_tasks.specs.{Next.IsLeastAfter, Next.NoneAfter, NextPreText.pre_version, declared.pre.text.NextPre.NextPre}
 
 -- the chunks of a word; without a word, those of a pre-release before its last one, a number
 abbrev pub AreNamed : Option (List ℕ) → Option (List PlainChunk) → List PlainChunk → Type 0

@@ -1,16 +1,9 @@
 -- A version that comes next among pre-releases, and its text.
 use Rattle.std.specs.Prelude.{◌≡◌, ◌<◌, ◌≤◌, ◌^◌, ◌⊎◌, ℕ, suc, Bool, true, List, [], ◌∷◌, ◌++◌, Option, Some, None}
-use Rattle.std.specs.Fmt.{decimal}
-use Rattle.std.specs.List.{list_all}
-use Rattle.std.specs.Option.{option_map, option_map_or}
-use Rattle.std.specs.declared.cmp.Ordering.TheVariants.{Greater}
-use Rattle.version_order.specs.texts.Bytes.{dot, hyphen, is_identifier_byte}
-use Rattle.version_rules.specs.grammar.Chunk.{PlainChunk, Numeric}
-use Rattle.version_rules.specs.grammar.SemVer.{PlainSemVer}
-use Rattle.version_rules.specs.order.Parts.{release_cmp}
-use Rattle.version_texts.specs.Key.{chunks_of}
-use Rattle.version_order.specs.texts.Cuts.{pieces}
-use Rattle.version_texts.specs.Scan.{is_chunk}
+use Rattle.std.specs.{Fmt.decimal, List.list_all, Option.option_map, Option.option_map_or, declared.cmp.Ordering.TheVariants.Greater}
+use Rattle.version_order.specs.texts.{Bytes.dot, Bytes.hyphen, Bytes.is_identifier_byte, Cuts.pieces}
+use Rattle.version_rules.specs.{grammar.Chunk.PlainChunk, grammar.Chunk.Numeric, grammar.SemVer.PlainSemVer, order.Parts.release_cmp}
+use Rattle.version_texts.specs.{Key.chunks_of, Scan.is_chunk}
 
 -- whether a text is the chunks of a release
 abbrev pub is_release : List ℕ → Bool

@@ -1,20 +1,12 @@
 -- How stable a version is, by the words that stand in it. The rule is one of habit, as Composer has
 -- it, and not of SemVer.
 use Rattle.std.specs.Prelude.{◌==◌, ◌&&◌, ◌||◌, ℕ, Bool, false, List, [], ◌∷◌, drop, fold, length, map, nat_le, nat_lt, not, codes, if◌then◌else◌}
-use Rattle.std.specs.Char.{is_ascii_alphabetic, is_ascii_alphanumeric, is_ascii_digit, to_ascii_lowercase}
-use Rattle.std.specs.List.{list_any, prefix_len, slice_split, take_while}
-use Rattle.std.specs.Option.{unwrap_or}
-use Rattle.std.specs.Str.{str_eq_ignore_ascii_case}
-use Rattle.version_order.specs.texts.DigitRun.{is_digits}
-use Rattle.version_order.specs.texts.Front.{begins}
-use Rattle.version_rules.specs.grammar.Mess.{mess_text}
-use Rattle.version_rules.specs.grammar.SemVer.{semver_text}
-use Rattle.version_rules.specs.grammar.Version.{version_text}
-use Rattle.version_rules.specs.grammar.Versioning.{PlainVersioning, Ideal, General, Complex}
-use Rattle.version_tasks.specs.declared.stability.Stability.{Stability}
+use Rattle.std.specs.{Char.is_ascii_alphabetic, Char.is_ascii_alphanumeric, Char.is_ascii_digit, Char.to_ascii_lowercase, List.list_any, List.prefix_len, List.slice_split, List.take_while, Option.unwrap_or, Str.str_eq_ignore_ascii_case}
+use Rattle.version_order.specs.texts.{Cuts.first_piece, Front.is_digits, Front.begins}
+use Rattle.version_rules.specs.grammar.{Mess.mess_text, SemVer.semver_text, Version.version_text, Versioning.PlainVersioning, Versioning.Ideal, Versioning.General, Versioning.Complex}
 use Rattle.version_tasks.specs.declared.stability.Stability.TheVariants.{Dev, Alpha, Beta, Rc, Stable}
+use Rattle.version_tasks.specs.declared.stability.Stability.{Stability}
 use Rattle.version_texts.specs.VersioningRef.{bare_semver, bare_version, field_text}
-use Rattle.version_order.specs.texts.Cuts.{first_piece}
 use Rattle.version_texts.specs.declared.versioning_ref.field.Field.TheVariants as field
 
 -- the place of a stability in the order, from the least stable on

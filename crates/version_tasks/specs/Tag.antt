@@ -1,13 +1,8 @@
 -- The version in a tag of git, or in another name of a release.
 use Rattle.std.specs.Prelude.{◌==◌, ◌&&◌, ◌||◌, ℕ, zero, suc, Bool, true, List, [], ◌∷◌, drop, length, not, take, Option, Some, None, is_some, if◌then◌else◌}
-use Rattle.std.specs.Char.{is_ascii_digit}
-use Rattle.std.specs.Option.{option_or}
-use Rattle.std.specs.Str.{bytes_eq}
-use Rattle.version_order.specs.texts.Bytes.{dot}
-use Rattle.version_order.specs.texts.DigitRun.{starts_with_digit}
-use Rattle.version_order.specs.texts.Front.{◌>>=◌, begins}
+use Rattle.std.specs.{Char.is_ascii_digit, Option.option_or, Str.bytes_eq}
+use Rattle.version_order.specs.texts.{Bytes.dot, Bytes.is_section_byte, Front.starts_with_digit, Front.◌>>=◌, Front.begins}
 use Rattle.version_rules.specs.grammar.Versioning.{PlainVersioning, versioning_of}
-use Rattle.version_order.specs.texts.Bytes.{is_section_byte}
 
 -- a separator: any byte that is neither a letter, a digit nor a dot
 abbrev pub is_separator : ℕ → Bool

@@ -2,11 +2,8 @@
 use Rattle.std.specs.Prelude.{◌≡◌, ℕ, List, [], ◌∷◌, map, Option, Some, None, codes}
 use Rattle.std.specs.Option.{option_map}
 use Rattle.version_rules.specs.grammar.Versioning.{versioning_of, versioning_text}
-use Rattle.version_tasks.specs.Next.{IsNext, NoNext}
-use Rattle.version_tasks.specs.Stability.{stability_of}
-use Rattle.version_tasks.specs.Tag.{version_after_prefix, version_in_tag}
-use Rattle.version_tasks.specs.declared.stability.Stability.{Stability}
 use Rattle.version_tasks.specs.declared.stability.Stability.TheVariants.{Dev, Alpha, Beta, Rc, Stable}
+use Rattle.version_tasks.specs.{Next.IsNext, Next.NoNext, Stability.stability_of, Tag.version_after_prefix, Tag.version_in_tag, declared.stability.Stability.Stability}
 use Rattle.version_texts.specs.VersioningRef.{version_in}
 
 -- tags, and the texts of the versions in them

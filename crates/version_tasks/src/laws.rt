@@ -2,9 +2,7 @@
 
 ghost use Rattle.std.specs.Prelude.{◌≡◌, ℕ, List, Option};
 ghost use Rattle.version_rules.specs.grammar.Versioning.{PlainVersioning};
-ghost use Rattle.version_tasks.specs.Next.{IsNext};
-ghost use Rattle.version_tasks.specs.NextPre.{IsNextPre};
-ghost use Rattle.version_tasks.specs.Worked.{WorkedRows};
+ghost use Rattle.version_tasks.specs.{Next.IsNext, NextPre.IsNextPre, Worked.WorkedRows};
 
 /// The tables of tags, of tags with prefixes, of stabilities, and of what comes next.
 #[tactic(auto, using(crate::proofs::lemmas::Worked::worked_rows))]

@@ -1,13 +1,9 @@
 //! The newest of several versions.
 
 ghost use Rattle.std.specs.Prelude.{◌≡◌, ◌<◌, ◌≤◌, ℕ, ◌↔◌, IfNone, IfSome, IsTrue, Option};
-ghost use Rattle.std.specs.Option.{option_map};
-ghost use Rattle.std.specs.declared.cmp.Ordering.TheVariants.{Greater};
-ghost use Rattle.version_rules.specs.key.Key.{key_of, precedence};
-ghost use Rattle.version_rules.specs.grammar.Versioning.{PlainVersioning};
-ghost use Rattle.version_rules.specs.requirement.Matching.{MatchesAll};
-ghost use Rattle.version_tasks.specs.Newest.{given_version, IsNewest, IsWanted, NoVersion};
-ghost use Rattle.version_tasks.specs.Stability.{rank, stability_of};
+ghost use Rattle.std.specs.{Option.option_map, declared.cmp.Ordering.TheVariants.Greater};
+ghost use Rattle.version_rules.specs.{grammar.Versioning.PlainVersioning, key.Key.key_of, key.Key.precedence, requirement.Matching.MatchesAll};
+ghost use Rattle.version_tasks.specs.{Newest.given_version, Newest.IsNewest, Newest.IsWanted, Newest.NoVersion, Stability.rank, Stability.stability_of};
 ghost use Rattle.version_texts.specs.VersioningRef.{plain_versioning_ref};
 
 use crate::stability::{Stability, stability_of};

@@ -3,11 +3,9 @@
 ghost use Rattle.std.specs.Prelude.{◌≡◌, ◌≤◌, ◌&&◌, ◌^◌, if◌then◌else◌, length, suc, IfNone, IfSome, Some};
 ghost use Rattle.std.specs.List.{list_all};
 ghost use Rattle.version_rules.specs.grammar.Versioning.{is_prerelease, versioning_of, versioning_text};
-ghost use Rattle.version_tasks.specs.Next.{IsNext, NoNext, last_place, plain_next};
-ghost use Rattle.version_tasks.specs.NextText.{is_zero};
+ghost use Rattle.version_tasks.specs.{Next.IsNext, Next.NoNext, Next.last_place, Next.plain_next, NextText.is_zero};
 ghost use Rattle.version_order.specs.texts.Cuts.{further_pieces, is_dot, pieces};
-ghost use Rattle.version_texts.specs.Scan.{is_numeral};
-ghost use Rattle.version_texts.specs.VersioningRef.{plain_versioning_ref};
+ghost use Rattle.version_texts.specs.{Scan.is_numeral, VersioningRef.plain_versioning_ref};
 
 mod text;
 

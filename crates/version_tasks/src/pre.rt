@@ -1,21 +1,12 @@
 //! The pre-release that comes next after a strict version. Nothing here allocates.
 
 ghost use Rattle.std.specs.Prelude.{◌≡◌, ◌≤◌, ◌<◌, ◌^◌, ◌∷◌, ◌++◌, ◌⊎◌, [], ℕ, List, suc, not, true, false, IfNone, IfSome, Some};
-ghost use Rattle.std.specs.List.{list_all};
-ghost use Rattle.std.specs.Option.{option_map};
-ghost use Rattle.std.specs.declared.cmp.Ordering.TheVariants.{Less};
-ghost use Rattle.version_order.specs.texts.Bytes.{dot, is_identifier_byte};
-ghost use Rattle.version_rules.specs.grammar.Chunk.{Numeric, PlainChunk};
-ghost use Rattle.version_order.specs.texts.Front.{is_run};
-ghost use Rattle.version_rules.specs.grammar.Versioning.{is_prerelease, versioning_of, versioning_text};
-ghost use Rattle.version_rules.specs.order.Parts.{release_cmp};
-ghost use Rattle.version_tasks.specs.NextPre.{AreNamed, IsNextPre, NoNextPre, plain_next_pre};
+ghost use Rattle.std.specs.{List.list_all, Option.option_map, declared.cmp.Ordering.TheVariants.Less};
+ghost use Rattle.version_order.specs.texts.{Bytes.dot, Bytes.is_identifier_byte, Cuts.is_dot, Front.is_run};
+ghost use Rattle.version_rules.specs.{grammar.Chunk.Numeric, grammar.Chunk.PlainChunk, grammar.Versioning.is_prerelease, grammar.Versioning.versioning_of, grammar.Versioning.versioning_text, order.Parts.release_cmp};
 ghost use Rattle.version_tasks.specs.NextPreText.{is_own, is_release, is_word, own_chunks, word_chunks, word_text, IsLeastNumber, IsPlace, NonePass};
-ghost use Rattle.version_texts.specs.Key.{chunks_of};
-ghost use Rattle.version_order.specs.texts.Cuts.{is_dot};
-ghost use Rattle.version_texts.specs.Scan.{is_chunk};
-ghost use Rattle.version_texts.specs.VersioningRef.{field_text, plain_versioning_ref};
-ghost use Rattle.version_texts.specs.declared.versioning_ref.field.Field.TheVariants.{PreRelease};
+ghost use Rattle.version_tasks.specs.NextPre.{AreNamed, IsNextPre, NoNextPre, plain_next_pre};
+ghost use Rattle.version_texts.specs.{Key.chunks_of, Scan.is_chunk, VersioningRef.field_text, VersioningRef.plain_versioning_ref, declared.versioning_ref.field.Field.TheVariants.PreRelease};
 
 mod text;
 

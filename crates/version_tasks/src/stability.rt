@@ -2,12 +2,9 @@
 //! Nothing here allocates.
 
 ghost use Rattle.std.specs.Prelude.{◌≡◌, ◌≤◌, length, map};
-ghost use Rattle.std.specs.Char.{is_ascii_alphabetic, is_ascii_alphanumeric, is_ascii_digit};
-ghost use Rattle.std.specs.List.{list_any, prefix_len};
-ghost use Rattle.std.specs.Str.{str_eq_ignore_ascii_case};
-ghost use Rattle.version_order.specs.texts.DigitRun.{is_digits};
+ghost use Rattle.std.specs.{Char.is_ascii_alphabetic, Char.is_ascii_alphanumeric, Char.is_ascii_digit, List.list_any, List.prefix_len, Str.str_eq_ignore_ascii_case};
+ghost use Rattle.version_order.specs.texts.{Cuts.first_piece, Front.is_digits};
 ghost use Rattle.version_tasks.specs.Stability.{counted_text, is_early, is_early_access, is_milestone, is_revision, is_short, lower, lowest, of_letter, of_lettered, of_run, of_text, of_word, pre_release_text, runs, stability_of};
-ghost use Rattle.version_order.specs.texts.Cuts.{first_piece};
 ghost use Rattle.version_texts.specs.VersioningRef.{plain_versioning_ref};
 
 use version_order::{Class, is_digits, split_piece, split_run};

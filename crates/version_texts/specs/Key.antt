@@ -1,26 +1,13 @@
 -- The parts of texts, and the key of a version, read off its text by its shape.
 use Rattle.std.specs.Prelude.{◌&&◌, ℕ, Bool, false, not, List, [], ◌∷◌, ◌++◌, map, if◌then◌else◌, Option, Some, None, ◌+◌, ◌*◌}
-use Rattle.std.specs.Char.{is_ascii_digit}
-use Rattle.version_order.specs.texts.Grammar.{is_sep}
-use Rattle.version_order.specs.texts.Class.{is_mark}
-use Rattle.version_texts.specs.declared.order.delimiters.Delimiters.{Delimiters}
-use Rattle.version_texts.specs.declared.order.delimiters.Delimiters.TheVariants.{Dots, Marks}
-use Rattle.version_texts.specs.declared.order.delimiters.Run.{Run}
-use Rattle.version_texts.specs.declared.order.delimiters.Run.TheVariants.{Part, Word}
+use Rattle.std.specs.{Borrow.Bor, Char.is_ascii_digit, List.list_all, List.slice_split, Str.Parse.digits_value}
 use Rattle.version_order.specs.texts.Cuts.{is_dot, pieces, behind_piece, first_piece, further_pieces}
-use Rattle.std.specs.List.{list_all, slice_split}
-use Rattle.std.specs.Str.Parse.{digits_value}
-use Rattle.version_rules.specs.grammar.Chunk.{PlainChunk, Numeric, Alphanum}
-use Rattle.version_order.specs.keys.NumberBytes.{number_bytes}
-use Rattle.version_rules.specs.key.PartKey.{PartKey, part_key, parts_bytes}
-use Rattle.version_rules.specs.key.Key.{Key}
-use Rattle.version_rules.specs.key.Tail.{Tail}
-use Rattle.version_texts.specs.declared.scan.shape.Shape.{Shape}
-use Rattle.version_texts.specs.declared.scan.shape.TailKind.{TailKind}
+use Rattle.version_order.specs.{keys.Codes.number_bytes, texts.Class.is_mark, texts.Grammar.is_sep}
+use Rattle.version_texts.specs.{Scan.body_in, Scan.epoch_in, Scan.tail_in, declared.order.delimiters.Delimiters.Delimiters, declared.order.delimiters.Delimiters.TheVariants.Dots, declared.order.delimiters.Delimiters.TheVariants.Marks}
+use Rattle.version_texts.specs.declared.{order.delimiters.Run.Run, order.delimiters.Run.TheVariants.Part, order.delimiters.Run.TheVariants.Word, scan.shape.Shape.Shape, scan.shape.TailKind.TailKind}
 use Rattle.version_texts.specs.declared.scan.shape.TailKind.TheVariants.{PreRelease, Nothing, Release, Sections}
-use Rattle.version_texts.specs.Scan.{body_in, epoch_in, tail_in}
-use Rattle.version_rules.specs.key.Tail as tail
-use Rattle.std.specs.Borrow.{Bor}
+use Rattle.version_rules.specs.{grammar.Chunk.PlainChunk, grammar.Chunk.Numeric, grammar.Chunk.Alphanum, key.Key.Key, key.Key.Tail, key.PartKey.PartKey, key.PartKey.part_key, key.PartKey.parts_bytes}
+use Rattle.version_rules.specs.key.Key as tail
 
 -- ---- the first piece of a text that dots divide, and what follows it
 

@@ -1,28 +1,17 @@
 -- Versions as this project orders them, and the laws of their keys.
 use Rattle.std.proofs.Common.{◌≡◌, ◌∙◌, ◌&&◌, ◌<◌, ℕ, Bool, true, false, List, [], ◌∷◌, ◌++◌, Some, append-nil, append_assoc, ap, codes, arith, if◌then◌else◌, map, refl, sym}
-use Rattle.std.proofs.lemmas.Grind.{flat_map-append}
-use Rattle.std.proofs.lemmas.List.{map-append}
-use Rattle.std.specs.List.{flat_map}
-use Rattle.std.specs.Option.{is_none}
-use Rattle.std.specs.Ordering.{on}
-use Rattle.version_order.proofs.lemmas.Codes.{ended, writes_on}
+use Rattle.std.proofs.lemmas.{Grind.flat_map-append, List.map-append}
+use Rattle.std.specs.{List.flat_map, Option.is_none, Ordering.on}
+use Rattle.version_order.proofs.lemmas.{Codes.ended, Codes.writes_on, NumberBytes.some_bytes}
 use Rattle.version_rules.proofs.lemmas.Order.{key_writes}
-use Rattle.version_order.specs.declared.ends.Kept.{Kept}
-use Rattle.version_order.specs.declared.ends.Kept.TheVariants.{All, ButLast, ButLastOrOnly, ThroughOther}
-use Rattle.version_order.specs.Facts.{PlainFacts}
-use Rattle.version_order.specs.Rules.{Rules, rules_of}
-use Rattle.version_order.specs.declared.facts.Operators.TheVariants.{Parts}
 use Rattle.version_order.specs.texts.Bytes.{colon, dot, hyphen, plus, tilde, underscore}
+use Rattle.version_order.specs.{Facts.PlainFacts, Keyed.BeginsKey, Keyed.PlainKeyed, Rules.Rules, Rules.rules_of, declared.ends.Kept.Kept}
+use Rattle.version_order.specs.declared.{ends.Kept.TheVariants.All, ends.Kept.TheVariants.ButLast, ends.Kept.TheVariants.ButLastOrOnly, ends.Kept.TheVariants.ThroughOther, facts.Operators.TheVariants.Parts}
+use Rattle.version_order.specs.keys.Codes.{Writes, items_bytes, number_bytes}
 use Rattle.version_rules.specs.grammar.Versioning.{PlainVersioning, Ideal, General, Complex, versioning_of}
-use Rattle.version_order.specs.keys.Codes.{Writes, items_bytes}
-use Rattle.version_rules.specs.key.Key.{key_of, precedence, key_bytes}
-use Rattle.version_order.specs.keys.NumberBytes.{number_bytes}
 use Rattle.version_rules.specs.key.PartKey.{PartKey, Number, Word, part_bytes, parts_bytes}
-use Rattle.version_rules.specs.key.Tail.{tail_bytes}
 use Rattle.version_rules.specs.requirement.Range.{kept_parts, begun, but_last, or_others, through_other}
-use Rattle.version_rules.specs.requirement.VersionMatch.{is_plain_zero}
-use Rattle.version_order.specs.Keyed.{BeginsKey, PlainKeyed}
-use Rattle.version_order.proofs.lemmas.NumberBytes.{some_bytes}
+use Rattle.version_rules.specs.{key.Key.key_of, key.Key.precedence, key.Key.key_bytes, key.Key.tail_bytes, requirement.VersionMatch.is_plain_zero}
 
 -- whether a version has an epoch and parts alone: no pre-release, release or metadata, and no
 -- sections

@@ -1,27 +1,13 @@
 -- What breaks the ties of keys, and where two versions differ first.
-use Rattle.std.specs.Prelude.{◌==◌, ◌&&◌, ◌||◌, ℕ, Bool, List, drop, length, if◌then◌else◌, ◌/◌, ◌%◌, suc, [], ◌∷◌, Option, Some, None}
-use Rattle.std.specs.Char.{is_ascii_alphabetic, is_ascii_digit}
-use Rattle.std.specs.Cmp.Lexicographic.{slice_cmp}
-use Rattle.std.specs.List.{prefix_len, take_while}
 use Rattle.std.specs.Option.{option_cmp, option_map_or, option_map, option_or, unwrap_or}
-use Rattle.std.specs.Ordering.{nat_cmp, on, then_cmp, is_eq}
-use Rattle.std.specs.declared.cmp.Ordering.{Ordering}
+use Rattle.std.specs.Prelude.{◌==◌, ◌&&◌, ◌||◌, ℕ, Bool, List, drop, length, if◌then◌else◌, ◌/◌, ◌%◌, suc, [], ◌∷◌, Option, Some, None}
+use Rattle.std.specs.{Char.is_ascii_alphabetic, Char.is_ascii_digit, Cmp.Lexicographic.slice_cmp, List.prefix_len, List.take_while, Ordering.nat_cmp, Ordering.on, Ordering.then_cmp, Ordering.is_eq, declared.cmp.Ordering.Ordering}
 use Rattle.std.specs.declared.cmp.Ordering.TheVariants.{Less, Equal, Greater}
-use Rattle.version_order.specs.texts.Bytes.{dot, is_section_byte}
-use Rattle.version_order.specs.texts.Front.{begins}
-use Rattle.version_order.specs.keys.Lists.{bytes_cmp, split_last}
-use Rattle.version_order.specs.texts.Grammar.{sep_of, sep_rank}
-use Rattle.version_order.specs.texts.DigitRun.{behind_digits}
-use Rattle.version_texts.specs.Scan.{body_start, from_body, is_numeral}
-use Rattle.version_order.specs.texts.Cuts.{pieces}
-use Rattle.version_rules.specs.declared.kind.Kind.{Kind}
-use Rattle.version_rules.specs.declared.kind.Kind.TheVariants.{Ideal, General, Complex}
-use Rattle.version_rules.specs.key.Key.{Key, key_of}
-use Rattle.version_rules.specs.key.PartKey.{PartKey, part_cmp}
-use Rattle.version_rules.specs.key.Tail.{tail_cmp}
-use Rattle.version_rules.specs.grammar.Versioning.{PlainVersioning, versioning_plain_cmp}
-use Rattle.version_texts.specs.declared.order.difference.Difference.{Difference}
+use Rattle.version_order.specs.{keys.Lists.bytes_cmp, keys.Lists.split_last, texts.Bytes.dot, texts.Bytes.is_section_byte, texts.Cuts.pieces, texts.Front.begins, texts.Front.behind_digits, texts.Grammar.sep_of, texts.Grammar.sep_rank}
 use Rattle.version_texts.specs.declared.order.difference.Difference.TheVariants.{Same, Tie, Epoch, Part, Tail}
+use Rattle.version_texts.specs.{Scan.body_start, Scan.from_body, Scan.is_numeral, declared.order.difference.Difference.Difference}
+use Rattle.version_rules.specs.declared.kind.{Kind.Kind, Kind.TheVariants.Ideal, Kind.TheVariants.General, Kind.TheVariants.Complex}
+use Rattle.version_rules.specs.{grammar.Versioning.PlainVersioning, grammar.Versioning.versioning_plain_cmp, key.Key.Key, key.Key.key_of, key.Key.tail_cmp, key.PartKey.PartKey, key.PartKey.part_cmp}
 
 -- ---- how two versions of one key compare field by field, by their texts
 

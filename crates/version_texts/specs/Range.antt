@@ -1,21 +1,11 @@
 -- The ranges of lists of requirements, and their ends.
 use Rattle.std.specs.Prelude.{◌≡◌, ℕ, List, [], Option, None, length, ◌⊎◌, Bool, true, false, ◌∷◌, ◌++◌, Some, IsSomeAnd}
-use Rattle.std.specs.Option.{option_map, option_map_or}
-use Rattle.version_texts.specs.declared.requirement.range_ref.Bound.{Bound}
-use Rattle.version_texts.specs.declared.requirement.range_ref.RangeRef.{RangeRef}
-use Rattle.version_texts.specs.VersioningRef.{plain_versioning_ref}
-use Rattle.version_rules.specs.declared.op.Op.TheVariants.{Wildcard}
-use Rattle.version_rules.specs.requirement.Range.{end_bytes, PlainRange, no_kinds}
-use Rattle.version_rules.specs.key.Key.{key_of, Key}
-use Rattle.version_rules.specs.requirement.Requirement.{PlainRequirement}
-use Rattle.version_rules.specs.key.Tail.{tail_bytes}
-use Rattle.version_order.specs.declared.ends.End.{End}
-use Rattle.version_order.specs.declared.ends.Kept.{Kept}
-use Rattle.version_order.specs.declared.ends.Kept.TheVariants.{All}
+use Rattle.std.specs.{Option.option_map, Option.option_map_or, declared.cmp.Ordering.TheVariants.Less}
+use Rattle.version_texts.specs.{VersioningRef.plain_versioning_ref, declared.requirement.range_ref.Bound.Bound, declared.requirement.range_ref.RangeRef.RangeRef}
+use Rattle.version_rules.specs.{declared.op.Op.TheVariants.Wildcard, key.Key.key_of, key.Key.Key, key.Key.tail_bytes, requirement.Range.end_bytes, requirement.Range.PlainRange, requirement.Range.no_kinds}
+use Rattle.version_rules.specs.requirement.{Requirement.PlainRequirement, VersionMatch.EpochAndParts}
+use Rattle.version_order.specs.{declared.ends.End.End, declared.ends.Kept.Kept, declared.ends.Kept.TheVariants.All, keys.Lists.bytes_cmp}
 use Rattle.version_order.specs.declared.ends.End.TheVariants as end
-use Rattle.std.specs.declared.cmp.Ordering.TheVariants.{Less}
-use Rattle.version_order.specs.keys.Lists.{bytes_cmp}
-use Rattle.version_rules.specs.requirement.VersionMatch.{EpochAndParts}
 
 -- ---- the range of a list of requirements that is borrowed from its text
 

@@ -1,26 +1,14 @@
 -- Requirements and lists of them, by the pieces of their texts: which members leave a range open, fail, or exclude each other.
-use Rattle.std.specs.Prelude.{ℕ, eqb, List, [], map, Option, Some, None, ◌≡◌, ◌+◌, ◌-◌, ◌∷◌, ◌++◌, drop, length, take, IsSomeAnd, Bool, false, not, if◌then◌else◌, is_some, IsTrue, IfSome, codes, ◌⊎◌}
-use Rattle.std.specs.Borrow.{Bor}
 use Rattle.std.specs.List.{slice_split, All, sum_by, filter, join_with_byte}
-use Rattle.version_rules.specs.requirement.Requirement.{PlainRequirement, requirement_of}
-use Rattle.version_rules.specs.requirement.Requirements.{comma, every, requirements_of}
-use Rattle.std.specs.Option.{option_map_or, option_map, unwrap_or}
+use Rattle.std.specs.Prelude.{ℕ, eqb, List, [], map, Option, Some, None, ◌≡◌, ◌+◌, ◌-◌, ◌∷◌, ◌++◌, drop, length, take, IsSomeAnd, Bool, false, not, if◌then◌else◌, is_some, IsTrue, IfSome, codes, ◌⊎◌}
+use Rattle.std.specs.{Borrow.Bor, Option.option_map_or, Option.option_map, Option.unwrap_or, declared.cmp.Ordering.TheVariants.Less}
 use Rattle.version_rules.specs.requirement.Range.{requirement_range, PlainRange, IsIn, bytes_of, has_kind, common, kind_alone, no_kinds}
-use Rattle.version_texts.specs.declared.requirement.requirement_ref.RequirementRef.{RequirementRef}
-use Rattle.version_texts.specs.VersioningRef.{plain_versioning_ref}
-use Rattle.version_texts.specs.declared.requirement.others.Others.{Others}
-use Rattle.version_rules.specs.requirement.Matching.{Matches}
-use Rattle.version_rules.specs.grammar.Versioning.{PlainVersioning, versioning_of, versioning_text, versioning_kind}
-use Rattle.std.specs.declared.cmp.Ordering.TheVariants.{Less}
+use Rattle.version_rules.specs.{declared.kind.Kind.Kind, declared.kinds.Kinds.Kinds, grammar.Versioning.PlainVersioning, grammar.Versioning.versioning_of, grammar.Versioning.versioning_text, grammar.Versioning.versioning_kind}
+use Rattle.version_rules.specs.requirement.{Matching.Matches, Requirement.PlainRequirement, Requirement.requirement_of, Requirements.comma, Requirements.every, Requirements.requirements_of}
+use Rattle.version_texts.specs.{Range.IsEmpty, VersioningRef.plain_versioning_ref, declared.requirement.conflict.Conflict.Conflict, declared.requirement.conflict.Span.Span, declared.requirement.others.Others.Others}
+use Rattle.version_texts.specs.declared.requirement.{requirement_ref.RequirementRef.RequirementRef, why.Excluded.Excluded, why.Why.Why}
 use Rattle.version_order.specs.keys.Lists.{bytes_cmp}
-use Rattle.version_texts.specs.declared.requirement.why.Excluded.{Excluded}
-use Rattle.version_texts.specs.declared.requirement.why.Why.{Why}
 use Rattle.version_texts.specs.declared.requirement.why.Why.TheVariants as reason
-use Rattle.version_rules.specs.declared.kind.Kind.{Kind}
-use Rattle.version_rules.specs.declared.kinds.Kinds.{Kinds}
-use Rattle.version_texts.specs.Range.{IsEmpty}
-use Rattle.version_texts.specs.declared.requirement.conflict.Conflict.{Conflict}
-use Rattle.version_texts.specs.declared.requirement.conflict.Span.{Span}
 
 -- ---- the pieces of a text between its commas, and the list of requirements that they are read as
 

@@ -1,21 +1,11 @@
 -- The kind and the shape of a text, by its pieces.
 use Rattle.std.specs.Prelude.{◌≡◌, ◌==◌, ◌&&◌, ◌||◌, ◌+◌, ◌-◌, ◌<◌, ◌≤◌, ℕ, Bool, true, List, drop, length, not, slice_range, take, Option, if◌then◌else◌, ◌^◌, [], ◌∷◌, nat_lt, Some, None}
-use Rattle.std.specs.Char.{is_ascii_digit, is_ascii_alphanumeric}
-use Rattle.std.specs.List.{list_all, prefix_len, slice_split, take_while}
-use Rattle.std.specs.Option.{option_map}
+use Rattle.std.specs.{Char.is_ascii_digit, Char.is_ascii_alphanumeric, List.list_all, List.prefix_len, List.slice_split, List.take_while, Option.option_map, Str.Parse.digits_value}
 use Rattle.version_order.specs.texts.Bytes.{colon, hyphen, is_metadata_byte, plus, is_section_byte, is_identifier_byte}
-use Rattle.version_order.specs.texts.DigitRun.{starts_with_digit, is_digits}
-use Rattle.version_order.specs.texts.Front.{begins, is_run}
-use Rattle.version_order.specs.texts.Grammar.{is_sep}
-use Rattle.version_rules.specs.declared.kind.Kind.{Kind}
-use Rattle.version_rules.specs.grammar.Versioning.{versioning_kind, versioning_of}
-use Rattle.version_texts.specs.declared.scan.shape.Shape.{Shape}
-use Rattle.version_texts.specs.declared.scan.shape.TailKind.{TailKind}
-use Rattle.version_texts.specs.declared.scan.shape.TailKind.TheVariants.{PreRelease, Nothing, Release, Sections}
+use Rattle.version_order.specs.texts.{Class.is_mark, Cuts.pieces, Front.starts_with_digit, Front.is_digits, Front.begins, Front.is_run, Grammar.is_sep}
+use Rattle.version_rules.specs.{declared.kind.Kind.Kind, grammar.Versioning.versioning_kind, grammar.Versioning.versioning_of}
+use Rattle.version_texts.specs.declared.scan.shape.{Shape.Shape, TailKind.TailKind, TailKind.TheVariants.PreRelease, TailKind.TheVariants.Nothing, TailKind.TheVariants.Release, TailKind.TheVariants.Sections}
 use Rattle.version_rules.specs.declared.kind.Kind.TheVariants as kind
-use Rattle.std.specs.Str.Parse.{digits_value}
-use Rattle.version_order.specs.texts.Class.{is_mark}
-use Rattle.version_order.specs.texts.Cuts.{pieces}
 
 -- ---- where the pieces of a version lie in its text
 

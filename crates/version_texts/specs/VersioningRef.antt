@@ -1,28 +1,12 @@
 -- The version that a borrowed one holds, and where its fields and its numbers lie.
-use Rattle.version_texts.specs.Order.{is_numbered}
-use Rattle.std.specs.Prelude.{ℕ, List, [], ◌∷◌, ◌++◌, ◌+◌, length, Option, Some, None, ◌==◌, ◌&&◌, ◌-◌, ◌^◌, Bool, not, if◌then◌else◌}
-use Rattle.std.specs.Fmt.{decimal}
-use Rattle.std.specs.Option.{unwrap_or, option_map}
-use Rattle.version_order.specs.texts.Bytes.{dot, hyphen, plus, colon}
-use Rattle.version_rules.specs.grammar.Versioning.{PlainVersioning, Ideal, General, Complex, versioning_of}
-use Rattle.version_texts.specs.declared.versioning_ref.VersioningRef.{VersioningRef}
-use Rattle.version_rules.specs.grammar.Body.{body_text}
-use Rattle.version_rules.specs.grammar.Release.{release_text}
-use Rattle.version_rules.specs.key.Key.{mess_epoch}
-use Rattle.version_rules.specs.grammar.Mess.{joined_section}
-use Rattle.version_rules.specs.grammar.SemVer.{PlainSemVer, semver_text}
-use Rattle.version_rules.specs.grammar.Version.{PlainVersion, epoch_text, version_text}
-use Rattle.version_texts.specs.declared.versioning_ref.field.Field.{Field}
+use Rattle.version_texts.specs.{Order.is_numbered, Scan.is_numeral, declared.versioning_ref.VersioningRef.VersioningRef, declared.versioning_ref.field.Field.Field}
 use Rattle.version_texts.specs.declared.versioning_ref.field.Field.TheVariants.{Epoch, PreRelease, Release, Metadata}
-use Rattle.std.specs.Borrow.{Bor}
-use Rattle.std.specs.Char.{is_ascii_digit}
-use Rattle.std.specs.List.{before_first, slice_split, take_while}
-use Rattle.std.specs.Str.Parse.{digits_value}
-use Rattle.version_rules.specs.grammar.MChunk.{value_of_digits}
-use Rattle.version_order.specs.texts.Grammar.{is_sep}
-use Rattle.version_order.specs.texts.DigitRun.{is_digits}
-use Rattle.version_order.specs.texts.Cuts.{pieces}
-use Rattle.version_texts.specs.Scan.{is_numeral}
+use Rattle.std.specs.Prelude.{ℕ, List, [], ◌∷◌, ◌++◌, ◌+◌, length, Option, Some, None, ◌==◌, ◌&&◌, ◌-◌, ◌^◌, Bool, not, if◌then◌else◌}
+use Rattle.std.specs.{Borrow.Bor, Char.is_ascii_digit, Fmt.decimal, List.before_first, List.slice_split, List.take_while, Option.unwrap_or, Option.option_map, Str.Parse.digits_value}
+use Rattle.version_order.specs.texts.{Bytes.dot, Bytes.hyphen, Bytes.plus, Bytes.colon, Cuts.pieces, Front.is_digits, Grammar.is_sep}
+use Rattle.version_rules.specs.grammar.Versioning.{PlainVersioning, Ideal, General, Complex, versioning_of}
+use Rattle.version_rules.specs.grammar.{Body.body_text, Body.release_text, MChunk.value_of_digits, Mess.joined_section, SemVer.PlainSemVer, SemVer.semver_text, Version.PlainVersion, Version.epoch_text, Version.version_text}
+use Rattle.version_rules.specs.key.Key.{mess_epoch}
 
 -- ---- the version of any kind that a borrowed text spells
 

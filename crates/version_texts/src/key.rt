@@ -1,20 +1,11 @@
 //! The one writer of keys: it reads a text by its shape, and writes into any sink.
 
 ghost use Rattle.std.specs.Prelude.{◌≡◌, ◌==◌, false, ◌∷◌, ◌-◌, [], List, ℕ, IfNone, IfSome, MatchOption, Some, None, drop, length, true};
-ghost use Rattle.std.specs.Char.{is_ascii_alphanumeric, is_ascii_digit};
-ghost use Rattle.std.specs.List.{list_all, prefix_len, take_while};
-ghost use Rattle.std.specs.Str.Parse.{digits_value};
-ghost use Rattle.version_order.specs.texts.Bytes.{dot, is_identifier_byte, is_metadata_byte, is_section_byte};
-ghost use Rattle.version_order.specs.keys.Codes.{items_bytes, list_bytes};
-ghost use Rattle.version_order.specs.texts.DigitRun.{run_value};
-ghost use Rattle.version_order.specs.texts.Front.{begins};
-ghost use Rattle.version_order.specs.keys.NumberBytes.{length_bytes, number_bytes};
+ghost use Rattle.std.specs.{Char.is_ascii_alphanumeric, Char.is_ascii_digit, List.list_all, List.prefix_len, List.take_while, Str.Parse.digits_value};
+ghost use Rattle.version_order.specs.keys.Codes.{items_bytes, list_bytes, length_bytes, number_bytes};
+ghost use Rattle.version_order.specs.texts.{Bytes.dot, Bytes.is_identifier_byte, Bytes.is_metadata_byte, Bytes.is_section_byte, Class.contains, Front.run_value, Front.begins};
 ghost use Rattle.version_rules.specs.key.PartKey.{part_bytes, part_key, parts_bytes, split_bytes, split_of};
-ghost use Rattle.version_rules.specs.order.Parts.{chunk_bytes, release_bytes};
-ghost use Rattle.version_rules.specs.key.Key.{key_bytes};
-ghost use Rattle.version_rules.specs.requirement.Range.{begun};
-ghost use Rattle.version_rules.specs.key.Tail.{section_bytes, tail_bytes};
-ghost use Rattle.version_order.specs.texts.Class.{contains};
+ghost use Rattle.version_rules.specs.{key.Key.key_bytes, key.Key.section_bytes, key.Key.tail_bytes, order.Parts.chunk_bytes, order.Parts.release_bytes, requirement.Range.begun};
 ghost use Rattle.version_texts.specs.Key.{parts_behind, chunk_of, chunks_of, front_bytes, parts_of, sections_of, tail_of, text_key};
 ghost use Rattle.version_texts.specs.Scan.{body_in, epoch_in, is_tail_byte, tail_in, Fits};
 

@@ -1,9 +1,7 @@
 //! The scheme mixed: all versions, in one order.
 
 ghost use Rattle.std.specs.Prelude.{◌≡◌, is_some};
-ghost use Rattle.version_order.specs.Facts.{key_room, plain_facts};
-ghost use Rattle.version_order.specs.Keyed.{AreWithin};
-ghost use Rattle.version_order.specs.Viable.{IsLongestViable};
+ghost use Rattle.version_order.specs.{Facts.key_room, Facts.plain_facts, Keyed.AreWithin, Viable.IsLongestViable};
 
 use crate::versioning_ref::VersioningRef;
 use crate::viable::mixed_length;

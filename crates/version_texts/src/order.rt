@@ -1,12 +1,9 @@
 //! The order of versions, read off their texts up to the first difference. Nothing here allocates.
 
 ghost use Rattle.std.specs.Prelude.{◌≡◌, ◌<◌};
-ghost use Rattle.std.specs.Ordering.{nat_cmp};
-ghost use Rattle.std.specs.Str.Parse.{digits_value};
-ghost use Rattle.version_rules.specs.key.Key.{precedence};
-ghost use Rattle.version_rules.specs.key.Tail.{tail_cmp};
-ghost use Rattle.version_texts.specs.Scan.{Fits, epoch_in, tail_in};
-ghost use Rattle.version_texts.specs.Key.{tail_of, text_key};
+ghost use Rattle.std.specs.{Ordering.nat_cmp, Str.Parse.digits_value};
+ghost use Rattle.version_rules.specs.key.Key.{precedence, tail_cmp};
+ghost use Rattle.version_texts.specs.{Key.tail_of, Key.text_key, Scan.Fits, Scan.epoch_in, Scan.tail_in};
 
 pub(crate) mod delimiters;
 pub(crate) mod difference;

@@ -1,15 +1,9 @@
 //! One scan of a text, for the three kinds.
 
 ghost use Rattle.std.specs.Prelude.{◌≡◌, ◌==◌, ◌+◌, ◌<◌, ◌≤◌, ◌&&◌, drop, false, if◌then◌else◌, is_some, length, true, IfNone, IfSome};
-ghost use Rattle.std.specs.Char.{is_ascii_alphanumeric};
-ghost use Rattle.std.specs.List.{list_all, prefix_len, take_while};
-ghost use Rattle.std.specs.Option.{option_map};
-ghost use Rattle.version_order.specs.texts.Bytes.{HasDigits};
-ghost use Rattle.version_order.specs.texts.DigitRun.{is_digits};
-ghost use Rattle.version_order.specs.texts.Class.{contains, first_rank};
+ghost use Rattle.std.specs.{Char.is_ascii_alphanumeric, List.list_all, List.prefix_len, List.take_while, Option.option_map};
+ghost use Rattle.version_order.specs.texts.{Bytes.HasDigits, Class.contains, Class.first_rank, Cuts.pieces, Front.is_digits, Front.is_run};
 ghost use Rattle.version_texts.specs.Scan.{behind_body, body_end, body_start, shape_at, shape_of, are_marked_runs, body_of, epoch_is_numeral, has_three_numbers, is_chunk, is_general, is_metadata_tail, is_not_plus, is_numeral, is_released, is_tail, kind_in, section_end, section_pieces};
-ghost use Rattle.version_order.specs.texts.Cuts.{pieces};
-ghost use Rattle.version_order.specs.texts.Front.{is_run};
 
 pub(crate) mod numeral;
 pub(crate) mod shape;

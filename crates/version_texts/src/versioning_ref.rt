@@ -1,9 +1,7 @@
 //! Versions of any kind, borrowed from their texts.
 
 ghost use Rattle.std.specs.Prelude.{◌≡◌, Some, true};
-ghost use Rattle.std.specs.Char.{is_ascii_digit};
-ghost use Rattle.std.specs.List.{list_all};
-ghost use Rattle.std.specs.Str.Parse.{digits_value};
+ghost use Rattle.std.specs.{Char.is_ascii_digit, List.list_all, Str.Parse.digits_value};
 ghost use Rattle.version_texts.specs.Scan.{shape_of};
 ghost use Rattle.version_order.specs.keys.Sinks.{saturated};
 ghost use Rattle.version_rules.specs.grammar.Versioning.{versioning_kind};
@@ -39,16 +37,12 @@ pub struct VersioningRef<'a> {
 
 impl<'a> VersioningRef<'a> {
     ghost use Rattle.std.specs.Prelude.{◌+◌, ◌-◌, ◌++◌, ◌&&◌, ◌↔◌, ◌<◌, ◌≤◌, ◌^◌, length, IfNone, IfSome, IsTrue, OnErr, OnOk};
-    ghost use Rattle.std.specs.Option.{is_none, option_map};
-    ghost use Rattle.std.specs.declared.cmp.Ordering.TheVariants.{Equal};
-    ghost use Rattle.version_order.specs.keys.Lists.{bytes_cmp};
+    ghost use Rattle.std.specs.{Option.is_none, Option.option_map, declared.cmp.Ordering.TheVariants.Equal};
+    ghost use Rattle.version_order.specs.keys.{Lists.bytes_cmp, Sinks.saturated, Sinks.IsWritten};
+    ghost use Rattle.version_rules.specs.grammar.Versioning.{is_prerelease, versioning_nth, versioning_of, versioning_plain_cmp, versioning_text};
     ghost use Rattle.version_rules.specs.requirement.Range.{end_bytes, kept_parts, begun, has_kind, AreBetween};
     ghost use Rattle.version_rules.specs.key.Key.{key_of, precedence, versioning_epoch, key_bytes};
-    ghost use Rattle.version_rules.specs.grammar.Versioning.{is_prerelease, versioning_nth, versioning_of, versioning_plain_cmp, versioning_text};
-    ghost use Rattle.version_texts.specs.Order.{difference_of};
-    ghost use Rattle.version_texts.specs.VersioningRef.{epoch_and_parts, field_span, major_text, plain_versioning_ref};
-    ghost use Rattle.version_order.specs.keys.Sinks.{saturated, IsWritten};
-    ghost use Rattle.version_texts.specs.Mixed.{is_bare};
+    ghost use Rattle.version_texts.specs.{Mixed.is_bare, Order.difference_of, VersioningRef.epoch_and_parts, VersioningRef.field_span, VersioningRef.major_text, VersioningRef.plain_versioning_ref};
 
     /// Parses the whole text as a strict version, else as a general, else as a messy one; returns None if it does not
     /// parse. Does not allocate.
@@ -481,10 +475,8 @@ impl<'a> fmt::Display for VersioningRef<'a> {
 
 /// Compares the kinds and every field, except metadata of strict versions. Does not allocate.
 impl<'a> PartialEq for VersioningRef<'a> {
-    ghost use Rattle.std.specs.Cmp.{eq_by_cmp_equiv, on_per, partial_equiv_from_equiv};
-    ghost use Rattle.std.specs.Ordering.{eq_by_cmp, on};
-    ghost use Rattle.version_rules.specs.grammar.Versioning.{versioning_plain_cmp};
-    ghost use Rattle.version_rules.specs.laws.Versioning.{versioning_plain_total};
+    ghost use Rattle.std.specs.{Cmp.eq_by_cmp_equiv, Cmp.on_per, Cmp.partial_equiv_from_equiv, Ordering.eq_by_cmp, Ordering.on};
+    ghost use Rattle.version_rules.specs.{grammar.Versioning.versioning_plain_cmp, laws.Versioning.versioning_plain_total};
     ghost use Rattle.version_texts.specs.VersioningRef.{plain_versioning_ref};
 
     ghost eq = { on plain_versioning_ref (eq_by_cmp versioning_plain_cmp) };
@@ -510,10 +502,8 @@ impl<'a> Eq for VersioningRef<'a> {
 /// metadata of strict versions. Does not allocate.
 impl<'a> Ord for VersioningRef<'a> {
     ghost use Rattle.std.specs.Prelude.{refl};
-    ghost use Rattle.std.specs.Cmp.{on_total};
-    ghost use Rattle.std.specs.Ordering.{on};
-    ghost use Rattle.version_rules.specs.order.Orders.{versioning_cmp};
-    ghost use Rattle.version_rules.specs.laws.Key.{versioning_cmp_ties, versioning_cmp_total};
+    ghost use Rattle.std.specs.{Cmp.on_total, Ordering.on};
+    ghost use Rattle.version_rules.specs.{laws.Key.versioning_cmp_ties, laws.Key.versioning_cmp_total, order.Orders.versioning_cmp};
     ghost use Rattle.version_texts.specs.VersioningRef.{plain_versioning_ref};
 
     ghost cmp = { on plain_versioning_ref versioning_cmp };
@@ -535,10 +525,8 @@ impl<'a> Ord for VersioningRef<'a> {
 }
 
 impl<'a> PartialOrd for VersioningRef<'a> {
-    ghost use Rattle.std.specs.Cmp.{on_total, po};
-    ghost use Rattle.std.specs.Ordering.{as_partial_cmp, on};
-    ghost use Rattle.version_rules.specs.order.Orders.{versioning_cmp};
-    ghost use Rattle.version_rules.specs.laws.Key.{versioning_cmp_ties, versioning_cmp_total};
+    ghost use Rattle.std.specs.{Cmp.on_total, Cmp.po, Ordering.as_partial_cmp, Ordering.on};
+    ghost use Rattle.version_rules.specs.{laws.Key.versioning_cmp_ties, laws.Key.versioning_cmp_total, order.Orders.versioning_cmp};
     ghost use Rattle.version_texts.specs.VersioningRef.{plain_versioning_ref};
 
     ghost partial_cmp = { as_partial_cmp (on plain_versioning_ref versioning_cmp) };

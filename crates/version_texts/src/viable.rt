@@ -2,13 +2,9 @@
 
 ghost use Rattle.std.specs.Prelude.{◌≡◌, ◌==◌, ◌&&◌, ◌∷◌, false, is_some, true, MatchOption};
 ghost use Rattle.std.specs.List.{list_all};
-ghost use Rattle.version_order.specs.texts.Bytes.{colon};
-ghost use Rattle.version_order.specs.texts.Class.{contains};
-ghost use Rattle.version_order.specs.texts.DigitRun.{is_digits};
-ghost use Rattle.version_order.specs.texts.Front.{begins};
+ghost use Rattle.version_order.specs.{Viable.IsLeft, Viable.IsLongestViable, texts.Bytes.colon, texts.Class.contains, texts.Front.is_digits, texts.Front.begins};
 ghost use Rattle.version_rules.specs.grammar.Versioning.{versioning_of};
 ghost use Rattle.version_texts.specs.Scan.{is_chunk, is_general, is_messy, is_metadata_tail, is_released, is_tail, is_parts};
-ghost use Rattle.version_order.specs.Viable.{IsLeft, IsLongestViable};
 
 use crate::scan::numeral::spells_numeral;
 use version_order::{Class, after_byte, is_digits, split_byte, split_run};

@@ -1,4 +1,1 @@
-pub mod Grammar
-pub mod Named
 pub mod Words
-pub mod Wrong

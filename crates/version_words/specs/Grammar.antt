@@ -1,20 +1,12 @@
 -- The grammar of the words: the commands of the table, and the arguments that each takes.
 use Rattle.std.specs.Prelude.{◌≡◌, ◌^◌, ◌-◌, ℕ, true, false, List, [], ◌++◌, Option, Some, codes, map}
-use Rattle.clap.specs.Lexer.{usize_max}
-use Rattle.clap.specs.Simple.{new_shape, on_top, App, Shape}
-use Rattle.clap.specs.Words.{new_rule, Rule}
-use Rattle.clap.specs.declared.builder.action.ArgAction.TheVariants.{Append, Set, SetTrue}
-use Rattle.clap.specs.declared.builder.arg.Arg.{Arg}
-use Rattle.clap.specs.declared.builder.command.Command.{Command}
-use Rattle.clap.specs.declared.builder.command.Command.TheViews.{out-Command}
-use Rattle.clap.specs.declared.builder.value_parser.ValueParser.{ValueParser}
-use Rattle.clap.specs.declared.builder.value_parser.ValueParser.TheVariants.{String, Unsigned}
-use Rattle.version_words.specs.declared.named.Verb.{Verb}
-use Rattle.version_words.specs.declared.named.Verb.TheVariants as verb
+use Rattle.clap.specs.{Lexer.usize_max, Simple.new_shape, Simple.on_top, Simple.App, Simple.Shape, Words.new_rule, Words.Rule}
+use Rattle.clap.specs.declared.builder.{action.ArgAction.TheVariants.Append, action.ArgAction.TheVariants.Set, action.ArgAction.TheVariants.SetTrue, arg.Arg.Arg, command.Command.Command, command.Command.TheViews.out-Command}
+use Rattle.clap.specs.declared.builder.value_parser.{ValueParser.ValueParser, ValueParser.TheVariants.String, ValueParser.TheVariants.Unsigned}
 use Rattle.version_words.specs.declared.table.TheConstants.{COMMANDS, COMPARE, DIFF, ENDS, FILTER, KEY, LINES, NEWEST, NEXT, SETS, SHOW, SORT, TEST, WHY}
-use Rattle.version_words.specs.declared.table.Form.{Form}
+use Rattle.version_words.specs.declared.{named.Verb.Verb, table.Form.Form, table.Row.Row}
+use Rattle.version_words.specs.declared.named.Verb.TheVariants as verb
 use Rattle.version_words.specs.declared.table.Form.TheVariants as form
-use Rattle.version_words.specs.declared.table.Row.{Row}
 
 -- an option, by its letter and its name
 abbrev pub option_rule : Option ℕ → List ℕ → Rule

@@ -1,4 +1,3 @@
-pub mod Fault
 pub mod Grammar
 pub mod Named
 pub mod Rows

@@ -1,20 +1,14 @@
 -- What single words of a run name.
 use Rattle.std.specs.Prelude.{ℕ, Bool, true, false, List, [], ◌∷◌, Option, None, Some, codes, find, map, nat_lt, option_map, unwrap_or, ◌==◌, ◌&&◌, ◌^◌, if◌then◌else◌}
-use Rattle.std.specs.Char.{is_ascii}
-use Rattle.std.specs.List.{list_all}
-use Rattle.std.specs.Str.{bytes_eq}
-use Rattle.std.specs.Str.Parse.{digits_value, without_leading_plus}
+use Rattle.std.specs.{Char.is_ascii, List.list_all, Str.bytes_eq, Str.Parse.digits_value, Str.Parse.without_leading_plus}
 use Rattle.version_commands.specs.declared.options.Invalid.{Invalid}
 use Rattle.version_answers.specs.declared.two.compare.Operator.{Operator}
-use Rattle.version_commands.specs.declared.options.Invalid.TheVariants as invalid
-use Rattle.version_words.specs.declared.named.Verb.{Verb}
-use Rattle.version_words.specs.declared.named.Verb.TheVariants as verb
-use Rattle.version_words.specs.declared.named.TheConstants.{INVALIDS, LEVELS, OPERATORS}
-use Rattle.version_words.specs.declared.table.TheConstants.{COMMANDS}
-use Rattle.version_words.specs.Grammar.{Text}
+use Rattle.version_words.specs.{Grammar.Text, declared.named.TheConstants.INVALIDS, declared.named.TheConstants.LEVELS, declared.named.TheConstants.OPERATORS, declared.named.Verb.Verb, declared.table.TheConstants.COMMANDS}
 use Rattle.version_lines.specs.Column.{has_bytes}
-use Rattle.version_order.specs.texts.DigitRun.{is_digits}
+use Rattle.version_order.specs.texts.Front.{is_digits}
 use Rattle.version_tasks.specs.declared.stability.Stability.{Stability}
+use Rattle.version_commands.specs.declared.options.Invalid.TheVariants as invalid
+use Rattle.version_words.specs.declared.named.Verb.TheVariants as verb
 
 -- the rows of a table with the texts of their names
 abbrev pub texts_in : {T V : Type 0} → (T → List ℕ) → List (T × V) → List (List ℕ × V)

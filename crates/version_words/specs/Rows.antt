@@ -1,27 +1,16 @@
 -- What the rows say that `clap` made of a command's words.
 use Rattle.std.specs.Prelude.{◌≡◌, ◌==◌, ◌⊎◌, ◌∷◌, ◌-◌, ℕ, Bool, false, true, List, [], Option, None, Some, codes, is_some, not, option_and_then, option_map, unwrap_or, ◌&&◌, ◌||◌, if◌then◌else◌}
-use Rattle.std.specs.Option.{option_map_or, option_or}
-use Rattle.std.specs.Str.{bytes_eq}
+use Rattle.std.specs.{Option.option_map_or, Option.option_or, Str.bytes_eq}
 use Rattle.clap.specs.Words.{all_of, first_of, rows_of, found_of, Row}
 use Rattle.clap.specs.declared.parser.matches.ArgMatches.{ArgMatches}
-use Rattle.version_commands.specs.declared.options.Invalid.{Invalid}
-use Rattle.version_commands.specs.declared.options.Invalid.TheVariants.{Fail, Skip}
-use Rattle.version_lines.specs.Csv.{quote}
-use Rattle.version_lines.specs.declared.column.Column.{Column}
-use Rattle.version_lines.specs.declared.column.Separators.{Separators}
-use Rattle.version_lines.specs.declared.column.Separators.TheVariants.{Blanks, Bytes, Csv}
-use Rattle.version_lines.specs.declared.lines.LineEnd.{LineEnd}
-use Rattle.version_schemes.specs.Scheme.{scheme_named}
-use Rattle.version_schemes.specs.declared.scheme.Scheme.{Scheme}
-use Rattle.version_schemes.specs.declared.scheme.Scheme.TheVariants.{Mixed}
-use Rattle.version_tasks.specs.declared.stability.Stability.{Stability}
-use Rattle.version_tasks.specs.declared.stability.Stability.TheVariants.{Dev}
+use Rattle.version_commands.specs.declared.options.{Invalid.Invalid, Invalid.TheVariants.Fail, Invalid.TheVariants.Skip}
+use Rattle.version_lines.specs.{Csv.quote, declared.column.Column.Column, declared.column.Separators.Separators}
+use Rattle.version_lines.specs.declared.{column.Separators.TheVariants.Blanks, column.Separators.TheVariants.Bytes, column.Separators.TheVariants.Csv, lines.LineEnd.LineEnd}
+use Rattle.version_schemes.specs.{Scheme.scheme_named, declared.scheme.Scheme.Scheme, declared.scheme.Scheme.TheVariants.Mixed}
+use Rattle.version_tasks.specs.declared.stability.{Stability.Stability, Stability.TheVariants.Dev}
 use Rattle.version_words.specs.Named.{count_named, invalid_asked, invalid_named, is_no_column, is_number, may_ask, separators_named, stability_named}
-use Rattle.version_words.specs.Wrong.{Quotes}
-use Rattle.version_words.specs.declared.faults.WordsFault.{WordsFault}
-use Rattle.version_words.specs.declared.named.Verb.{Verb}
-use Rattle.version_words.specs.declared.named.Verb.TheVariants.{Filter}
 use Rattle.version_words.specs.declared.table.TheConstants.{CRLF, CSV, FIELD_SEPARATOR, GROUP, HEADER, HEADER_LINES, INVALID, INVALID_TO, INVERT_MATCH, KEY_COLUMN, MATCH, MIN_STABILITY, SCHEME, SCHEME_COLUMN, SET, ZERO_TERMINATED}
+use Rattle.version_words.specs.{Wrong.Quotes, declared.faults.WordsFault.WordsFault, declared.named.Verb.Verb, declared.named.Verb.TheVariants.Filter}
 
 -- the rows of a command
 abbrev pub rows_in : ArgMatches → List Row

@@ -2,33 +2,18 @@
 use Rattle.std.specs.Prelude.{◌≡◌, ◌⊎◌, ⊤, ℕ, true, false, List, [], ◌∷◌, Option, None, Some, codes, is_some, map, option_map, unwrap_or, if◌then◌else◌}
 use Rattle.std.specs.Str.{bytes_eq}
 use Rattle.clap.specs.Words.{all_of, first_of, Row}
-use Rattle.version_commands.specs.declared.options.Arrangement.{Arrangement}
-use Rattle.version_commands.specs.declared.options.Arrangement.TheVariants as arrangement
-use Rattle.version_commands.specs.declared.options.Choice.{Choice}
-use Rattle.version_commands.specs.declared.options.ColumnNames.{ColumnNames}
-use Rattle.version_commands.specs.declared.options.EachOptions.{EachOptions}
-use Rattle.version_commands.specs.declared.options.LineOptions.{LineOptions}
-use Rattle.version_commands.specs.declared.options.Lists.{Lists}
-use Rattle.version_answers.specs.declared.spelling.Naming.{Naming}
-use Rattle.version_answers.specs.declared.spelling.Naming.TheVariants.{Bare, Prefix, Tag}
-use Rattle.version_commands.specs.declared.options.Question.{Question}
-use Rattle.version_commands.specs.declared.options.Question.TheVariants as question
-use Rattle.version_answers.specs.declared.spelling.Spelling.{Spelling}
-use Rattle.version_answers.specs.declared.one.next.Step.{Step}
-use Rattle.version_answers.specs.declared.one.next.Step.TheVariants as step
-use Rattle.version_commands.specs.declared.options.Task.{Task}
-use Rattle.version_commands.specs.declared.options.Task.TheVariants as task
-use Rattle.version_commands.specs.declared.options.VersionPlace.{VersionPlace}
-use Rattle.version_lines.specs.declared.column.Column.{Column}
-use Rattle.version_lines.specs.declared.column.Separators.{Separators}
+use Rattle.version_commands.specs.declared.options.{Arrangement.Arrangement, Choice.Choice, ColumnNames.ColumnNames, EachOptions.EachOptions, LineOptions.LineOptions, Lists.Lists, Question.Question, Task.Task, VersionPlace.VersionPlace}
+use Rattle.version_answers.specs.declared.{one.next.Step.Step, spelling.Naming.Naming, spelling.Naming.TheVariants.Bare, spelling.Naming.TheVariants.Prefix, spelling.Naming.TheVariants.Tag, spelling.Spelling.Spelling}
+use Rattle.version_lines.specs.declared.column.{Column.Column, Separators.Separators}
 use Rattle.version_schemes.specs.declared.scheme.Scheme.{Scheme}
-use Rattle.version_words.specs.Named.{operator_named, place_named}
 use Rattle.version_words.specs.Rows.{column_at, column_of, end_of, has_no_column, has_option_of_lists, has_two_schemes, has_wrong_column, header_of, invalid_of, invalid_word, is_crlf, is_given, is_set, key_of, lacks_header, lacks_set, level_of, line_end, name_of_column, number_of, scheme_of, word_of, words_of, AreSeparators, HasNoSeparators}
-use Rattle.version_words.specs.Wrong.{Quotes}
-use Rattle.version_words.specs.declared.faults.WordsFault.{WordsFault}
-use Rattle.version_words.specs.declared.named.Verb.{Verb}
 use Rattle.version_words.specs.declared.named.Verb.TheVariants.{Compare, Diff, Filter, Implies, Key, Meets, Newest, Next, Show, Sort, Test, Why}
 use Rattle.version_words.specs.declared.table.TheConstants.{A, B, COUNT, CRLF, EXPLAIN, GROUP, INVALID, INVALID_TO, INVERT_MATCH, JSON, KEY_COLUMN, LISTS, MATCH, MIN_STABILITY, OTHER, PLACE, PREFIX, PRE_WORD, PROGRESS, REVERSE, SCHEME, SCHEME_COLUMN, SET, TAGS, UNIQUE, WORDS_OF_TEST}
+use Rattle.version_words.specs.{Named.operator_named, Named.place_named, Wrong.Quotes, declared.faults.WordsFault.WordsFault, declared.named.Verb.Verb}
+use Rattle.version_commands.specs.declared.options.Arrangement.TheVariants as arrangement
+use Rattle.version_commands.specs.declared.options.Question.TheVariants as question
+use Rattle.version_answers.specs.declared.one.next.Step.TheVariants as step
+use Rattle.version_commands.specs.declared.options.Task.TheVariants as task
 
 -- how a version stands in its column: `--tags` and `--prefix` exclude each other
 abbrev pub IsNaming : List Row → Naming → Type 0

@@ -1,19 +1,11 @@
 -- What the words of a run mean.
 use Rattle.std.specs.Prelude.{◌≡◌, ◌≢◌, ◌⊎◌, ⊤, ℕ, Bool, true, false, List, [], Option, None, Some, option_and_then, option_map, string_bytes}
 use Rattle.clap.specs.Words.{fault_of, subcommand_of, IsAmong, Kinds, Row}
-use Rattle.clap.specs.declared.error.kind.ErrorKind.{ErrorKind}
-use Rattle.clap.specs.declared.error.kind.ErrorKind.TheVariants.{DisplayHelp, DisplayVersion, OutOfMemory}
-use Rattle.version_words.specs.declared.faults.WordsFault.{WordsFault}
-use Rattle.version_words.specs.declared.faults.WordsFault.TheVariants.{Memory, Usage}
-use Rattle.version_commands.specs.declared.options.Task.{Task}
-use Rattle.version_commands.specs.declared.options.Task.TheVariants.{Say}
-use Rattle.version_words.specs.Grammar.{program_app}
-use Rattle.version_words.specs.Named.{verb_named}
-use Rattle.version_words.specs.Task.{IsTaskOf, IsWrong}
-use Rattle.version_words.specs.declared.faults.Fault.{Fault}
+use Rattle.clap.specs.declared.error.kind.{ErrorKind.ErrorKind, ErrorKind.TheVariants.DisplayHelp, ErrorKind.TheVariants.DisplayVersion, ErrorKind.TheVariants.OutOfMemory}
+use Rattle.version_words.specs.{Grammar.program_app, Named.verb_named, Task.IsTaskOf, Task.IsWrong, Wrong.HasText, declared.faults.Fault.Fault, declared.faults.WordsFault.WordsFault}
+use Rattle.version_words.specs.declared.{faults.WordsFault.TheVariants.Memory, faults.WordsFault.TheVariants.Usage, named.Verb.Verb}
+use Rattle.version_commands.specs.declared.options.{Task.Task, Task.TheVariants.Say}
 use Rattle.version_words.specs.declared.faults.Fault.TheVariants as fault
-use Rattle.version_words.specs.Wrong.{HasText}
-use Rattle.version_words.specs.declared.named.Verb.{Verb}
 
 -- the words are no task, and something is said of them
 abbrev pub IsUsage : WordsFault → Type 0

@@ -35,7 +35,7 @@ pub enum Fault<'w> {
 
 impl Fault<'_> {
     ghost use Rattle.std.specs.Prelude.{◌≡◌};
-    ghost use Rattle.version_words.specs.Fault.{status_of};
+    ghost use Rattle.version_words.specs.Wrong.{status_of};
 
     /// Returns the exit status: 2 for words that are not a command, 3 where an allocation failed, and that of a task's
     /// fault.
@@ -52,7 +52,7 @@ impl Fault<'_> {
 
 impl fmt::Display for Fault<'_> {
     ghost use Rattle.std.specs.Prelude.{Some};
-    ghost use Rattle.version_words.specs.Fault.{fault_text};
+    ghost use Rattle.version_words.specs.Wrong.{fault_text};
 
     ghost output = { λ fault. Some (fault_text fault) };
 

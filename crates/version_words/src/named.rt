@@ -1,9 +1,7 @@
 //! What single words name.
 
 ghost use Rattle.std.specs.Prelude.{◌≡◌, find, option_map};
-ghost use Rattle.std.specs.Char.{is_ascii};
-ghost use Rattle.std.specs.List.{list_all};
-ghost use Rattle.std.specs.Str.{bytes_eq};
+ghost use Rattle.std.specs.{Char.is_ascii, List.list_all, Str.bytes_eq};
 ghost use Rattle.version_words.specs.Named.{count_named, invalid_asked, invalid_named, is_no_column, is_number, may_ask, number_named, operator_named, place_named, separators_named, stability_named, texts_in, value_named, verb_named};
 
 use crate::table::COMMANDS;

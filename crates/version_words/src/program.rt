@@ -1,11 +1,9 @@
 //! A run of the program over any files, reader and writer.
 
 ghost use Rattle.std.specs.Prelude.{map, string_bytes};
-ghost use Rattle.version_commands.specs.Hints.{IsHint, MayTell};
-ghost use Rattle.version_commands.specs.Run.{RunsBy};
-ghost use Rattle.version_commands.specs.declared.options.Task.{Task};
-ghost use Rattle.version_words.specs.Words.{IsOfWords, Means};
 ghost use Rattle.version_words.specs.declared.faults.Fault.TheVariants as fault;
+ghost use Rattle.version_commands.specs.{Hints.IsHint, Hints.MayTell, Run.RunsBy, declared.options.Task.Task};
+ghost use Rattle.version_words.specs.Words.{IsOfWords, Means};
 
 use crate::faults::Fault;
 use crate::words::read_words;

@@ -1,11 +1,11 @@
 //! What the words say to a command.
+#![tactic(auto, using(crate::proofs::lemmas::Words::word_wrong, crate::proofs::lemmas::Words::rows_found))]
 
 ghost use Rattle.std.specs.Prelude.{◌≡◌, ◌⊎◌, None, Some, false, true, map, option_map, IfErr, IfOk, OnOk, unwrap_or};
 ghost use Rattle.clap.specs.Words.{all_of, first_of, subcommand_rows_of};
 ghost use Rattle.version_words.specs.Rows.{column_at, column_of, csv_separator, end_of, has_no_column, has_option_of_lists, has_two_schemes, has_wrong_column, header_of, invalid_of, invalid_unasked, invalid_word, is_crlf, is_csv, is_given, is_named, is_set, key_of, lacks_header, lacks_set, level_of, line_end, name_of_column, number_of, rows_in, scheme_of, separators_asked, word_of, words_of, AreSeparators, HasNoSeparators};
 ghost use Rattle.version_words.specs.Task.{HasNoColumn, HasWrongColumn, HasWrongInvalid, HasWrongLevel, HasWrongScheme};
-ghost use Rattle.version_words.specs.Words.{command_in, ComesOfWrong};
-ghost use Rattle.version_words.specs.Wrong.{Quotes};
+ghost use Rattle.version_words.specs.{Words.command_in, Words.ComesOfWrong, Wrong.Quotes};
 
 use crate::faults::WordsFault;
 use crate::named::{

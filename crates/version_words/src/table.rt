@@ -296,8 +296,8 @@ pub const SCHEME_COLUMN: Argument = row!(Text("COLUMN") "scheme-column":
 pub const INVALID: Argument = row!(Text("WHAT") "invalid":
     "What becomes of lines without a version; fail unless it is given [possible values: fail, skip, first, last]");
 
-pub const COUNT: Argument = row!(Number -'n' "count":
-    "How many, the newest first; 1 unless it is given");
+pub const COUNT: Argument =
+    row!(Number -'n' "count": "How many, the newest first; 1 unless it is given");
 
 pub const GROUP: Argument = row!(Text("COLUMN") -'g' "group":
     "Of each value of the column, the groups as they first appear");
@@ -307,8 +307,7 @@ const FAIL_OR_SKIP: Argument = Row {
     ..INVALID
 };
 
-pub const SET: Argument = row!(Word "SET":
-    "Which versions, such as '>=1.2, <2 || ^3'");
+pub const SET: Argument = row!(Word "SET": "Which versions, such as '>=1.2, <2 || ^3'");
 
 const SET_OR_NONE: Argument = Row {
     form: Form::FirstWord,
@@ -316,8 +315,8 @@ const SET_OR_NONE: Argument = Row {
     ..SET
 };
 
-pub const INVERT_MATCH: Argument = row!(Flag -'v' "invert-match":
-    "Write the lines whose versions are not in the set");
+pub const INVERT_MATCH: Argument =
+    row!(Flag -'v' "invert-match": "Write the lines whose versions are not in the set");
 
 const SKIP_OR_OTHER: Argument = Row {
     help: "What becomes of lines without a version; skip unless it is given [possible values: fail, skip, first, last]",
@@ -336,56 +335,48 @@ pub const FIELD_SEPARATOR: Argument = row!(Text("SEP") -'t' "field-separator":
 pub const CSV: Argument = row!(Flag "csv":
     "Lines are records of CSV and columns their fields: column 1 without -k, a comma between them without -t");
 
-pub const TAGS: Argument = row!(Flag "tags":
-    "The version is that of a tag, such as v1.2.0 or tool-1.2.0");
+pub const TAGS: Argument =
+    row!(Flag "tags": "The version is that of a tag, such as v1.2.0 or tool-1.2.0");
 
-pub const PREFIX: Argument = row!(Text("P") "prefix":
-    "The version is what follows the prefix P");
+pub const PREFIX: Argument = row!(Text("P") "prefix": "The version is what follows the prefix P");
 
-pub const SCHEME: Argument = row!(Text("NAME") "scheme":
-    "Whose order it goes by; mixed unless it is given [schemes]");
+pub const SCHEME: Argument =
+    row!(Text("NAME") "scheme": "Whose order it goes by; mixed unless it is given [schemes]");
 
 pub const MIN_STABILITY: Argument = row!(Text("LEVEL") "min-stability":
     "Leave out versions that are less stable [levels]");
 
-pub const MATCH: Argument = row!(Text("SET") "match":
-    "Leave out versions that are not in this set");
+pub const MATCH: Argument =
+    row!(Text("SET") "match": "Leave out versions that are not in this set");
 
-pub const HEADER: Argument = row!(Flag "header":
-    "The first line stays on top, as it is");
+pub const HEADER: Argument = row!(Flag "header": "The first line stays on top, as it is");
 
-pub const HEADER_LINES: Argument = row!(Number "header-lines":
-    "So many lines stay on top");
+pub const HEADER_LINES: Argument = row!(Number "header-lines": "So many lines stay on top");
 
-pub const ZERO_TERMINATED: Argument = row!(Flag -'z' "zero-terminated":
-    "Lines end with NUL, and not with a line feed");
+pub const ZERO_TERMINATED: Argument =
+    row!(Flag -'z' "zero-terminated": "Lines end with NUL, and not with a line feed");
 
-pub const CRLF: Argument = row!(Flag "crlf":
-    "A carriage return at a line's end belongs to the end");
+pub const CRLF: Argument =
+    row!(Flag "crlf": "A carriage return at a line's end belongs to the end");
 
-pub const PROGRESS: Argument = row!(Flag "progress":
-    "Tell on standard error how far the work is");
+pub const PROGRESS: Argument = row!(Flag "progress": "Tell on standard error how far the work is");
 
 pub const VERSIONS: Argument = row!(Words "VERSION":
     "Versions; without any, or with - alone, the lines of standard input");
 
-pub const JSON: Argument = row!(Flag "json":
-    "Write a JSON object for each");
+pub const JSON: Argument = row!(Flag "json": "Write a JSON object for each");
 
 pub const WORDS_OF_TEST: Argument = row!(TwoOrThree "WORD":
     "Two versions with <, <=, =, >=, > or lt, le, eq, ge, gt between them, or a version and a set");
 
-pub const A: Argument = row!(Word "A":
-    "A version");
+pub const A: Argument = row!(Word "A": "A version");
 
-pub const B: Argument = row!(Word "B":
-    "Another");
+pub const B: Argument = row!(Word "B": "Another");
 
-pub const EXPLAIN: Argument = row!(Flag "explain":
-    "Write where they differ first, and what they have there");
+pub const EXPLAIN: Argument =
+    row!(Flag "explain": "Write where they differ first, and what they have there");
 
-pub const OTHER: Argument = row!(Word "OTHER":
-    "Another");
+pub const OTHER: Argument = row!(Word "OTHER": "Another");
 
 const OLD: Argument = Row {
     help: "A version, or with --lists the file with the old names and versions",
@@ -397,8 +388,8 @@ const NEW: Argument = Row {
     ..B
 };
 
-pub const LISTS: Argument = row!(Flag "lists":
-    "Write which names were added, removed, raised or lowered");
+pub const LISTS: Argument =
+    row!(Flag "lists": "Write which names were added, removed, raised or lowered");
 
 const NAME_COLUMN: Argument = Row {
     form: Form::Number,

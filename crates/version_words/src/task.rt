@@ -2,10 +2,9 @@
 
 ghost use Rattle.std.specs.Prelude.{◌≡◌, ◌⊎◌, None, Some, IfErr, IfOk, true, false};
 ghost use Rattle.clap.specs.Words.{all_of, subcommand_rows_of};
-ghost use Rattle.version_words.specs.Named.{place_named};
 ghost use Rattle.version_words.specs.Rows.{column_of, is_given, is_set, rows_in, word_of};
 ghost use Rattle.version_words.specs.Task.{AreColumnNames, AreEachOptions, AreLineOptions, HasWrongCompare, HasWrongDiff, HasNoStep, HasWrongFilter, HasWrongLines, HasWrongNaming, HasWrongPlace, HasWrongSpelling, IsArrangement, IsNaming, IsPlace, IsQuestion, IsSpelling, IsStep, IsTaskOf, IsWrong};
-ghost use Rattle.version_words.specs.Words.{command_in, ComesOfWrong, IsTaskIn, IsWrongIn};
+ghost use Rattle.version_words.specs.{Named.place_named, Words.command_in, Words.ComesOfWrong, Words.IsTaskIn, Words.IsWrongIn};
 
 use crate::faults::WordsFault;
 use crate::named::{Verb, operator_named, place_named};

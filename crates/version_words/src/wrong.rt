@@ -1,8 +1,8 @@
 //! The faults of words that `clap` lets through.
 
 ghost use Rattle.std.specs.Prelude.{◌≡◌, ◌++◌, codes, string_bytes, IfOk, MatchResult};
-ghost use Rattle.version_words.specs.Words.{ComesOfWrong};
 ghost use Rattle.version_words.specs.Wrong.{in_quotes, wrong_text, Holds, Quotes, Says};
+ghost use Rattle.version_words.specs.Words.{ComesOfWrong};
 
 use crate::faults::WordsFault;
 use crate::named::{INVALIDS, LEVELS, Verb, may_ask, names_of};

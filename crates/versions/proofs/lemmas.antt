@@ -1,5 +1,5 @@
+pub mod Cited
 pub mod Conversions
 pub mod Errors
-pub mod Json
 pub mod Keys
 pub mod Mess

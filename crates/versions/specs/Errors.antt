@@ -1,11 +1,7 @@
 -- Errors of the calls that parse, and what they print.
 use Rattle.std.specs.Prelude.{◌≡◌, ℕ, List, ◌++◌, Option, Some, None, Result, Ok, Err, codes}
-use Rattle.std.specs.Option.{ForSome}
-use Rattle.std.specs.String.{string_bytes}
-use Rattle.versions.specs.declared.errors.Error.{Error}
-use Rattle.versions.specs.declared.errors.JsonError.{JsonError}
-use Rattle.versions.specs.declared.errors.ReadError.{ReadError}
-use Rattle.versions.specs.declared.errors.ReadError.TheVariants.{Illegal, Memory}
+use Rattle.std.specs.{Option.ForSome, String.string_bytes}
+use Rattle.versions.specs.declared.errors.{Error.Error, JsonError.JsonError, ReadError.ReadError, ReadError.TheVariants.Illegal, ReadError.TheVariants.Memory}
 use Rattle.versions.specs.declared.errors.Error.TheVariants as owned
 use Rattle.versions.specs.declared.errors.JsonError.TheVariants as json
 

@@ -1,9 +1,6 @@
 -- Versions and requirements as strings of JSON documents.
 use Rattle.std.specs.Prelude.{◌≡◌, ℕ, List, Option, Some, None, Result, Ok, Err}
-use Rattle.versions.specs.Errors.{json_error, PlainError, ReadsOr}
-use Rattle.versions.specs.declared.errors.JsonError.{JsonError}
-use Rattle.versions.specs.declared.errors.JsonError.TheVariants.{NotText}
-use Rattle.versions.specs.declared.errors.ReadError.{ReadError}
+use Rattle.versions.specs.{Errors.json_error, Errors.PlainError, Errors.ReadsOr, declared.errors.JsonError.JsonError, declared.errors.JsonError.TheVariants.NotText, declared.errors.ReadError.ReadError}
 
 -- the result of a call that parses a JSON string, from the result of `from_str` for its text
 abbrev pub as_json : {V : Type 0} → Result V ReadError → Result V JsonError

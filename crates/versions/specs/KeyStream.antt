@@ -1,17 +1,11 @@
 -- What remains of the bytes of a key, after the current piece.
 use Rattle.std.specs.Prelude.{ℕ, List, [], ◌∷◌, Option}
-use Rattle.std.specs.Borrow.{Bor}
-use Rattle.std.specs.Option.{option_map_or}
-use Rattle.version_rules.specs.key.PartKey.{parts_bytes}
-use Rattle.versions.specs.declared.key.list.CurrentList.{CurrentList}
+use Rattle.std.specs.{Borrow.Bor, Option.option_map_or}
+use Rattle.version_rules.specs.key.{Key.plain, Key.further_bytes, Key.tail_bytes, PartKey.parts_bytes}
 use Rattle.versions.specs.declared.key.list.CurrentList.TheVariants.{Ended, One, Two, Three, Parts, Section, Chunks}
-use Rattle.versions.specs.declared.key.tail.TailLeft.{TailLeft}
 use Rattle.versions.specs.declared.key.tail.TailLeft.TheVariants.{Nothing, Bare, Release, Sections, AfterSection}
-use Rattle.version_rules.specs.key.Key.{plain, further_bytes}
-use Rattle.versions.specs.Mess.{plain_mess}
-use Rattle.versions.specs.declared.mess.Mess.{Mess}
-use Rattle.version_rules.specs.key.Tail.{tail_bytes}
-use Rattle.version_rules.specs.key.Tail as tail
+use Rattle.versions.specs.{Mess.plain_mess, declared.key.list.CurrentList.CurrentList, declared.key.tail.TailLeft.TailLeft, declared.mess.Mess.Mess}
+use Rattle.version_rules.specs.key.Key as tail
 
 -- of the current list
 abbrev pub list_left : CurrentList → List ℕ

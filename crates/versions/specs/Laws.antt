@@ -1,18 +1,10 @@
 -- The laws of the order of strict versions, which the impls of `Ord`, `Eq` and `Hash` cite.
 use Rattle.std.proofs.Common.{◌≡◌, true, refl, ◌++◌, ap}
-use Rattle.std.specs.Cmp.{Equal-is}
-use Rattle.std.specs.Ordering.{eq_by_cmp}
-use Rattle.version_rules.specs.grammar.SemVer.{PlainSemVer}
-use Rattle.versions.specs.SemVer.{semver_fed}
-use Rattle.version_rules.specs.order.Kinds.{semver_cmp, version_plain_cmp}
-use Rattle.version_rules.specs.laws.Versioning.{tied_same, messes_same, versions_same}
-use Rattle.std.specs.Hash.{HashWrites}
-use Rattle.version_rules.specs.grammar.Mess.{PlainMess, mess_plain_cmp}
-use Rattle.versions.specs.Mess.{mess_fed}
-use Rattle.version_rules.specs.grammar.Version.{PlainVersion}
-use Rattle.versions.specs.Version.{version_fed}
+use Rattle.std.specs.{Cmp.Equal-is, Hash.HashWrites, Ordering.eq_by_cmp}
 use Rattle.version_rules.specs.grammar.Versioning.{PlainVersioning, Ideal, General, Complex, versioning_plain_cmp}
-use Rattle.versions.specs.Versioning.{versioning_fed}
+use Rattle.version_rules.specs.{grammar.Mess.PlainMess, grammar.Mess.mess_plain_cmp, grammar.SemVer.PlainSemVer, grammar.Version.PlainVersion, laws.Versioning.tied_same, laws.Versioning.messes_same, laws.Versioning.versions_same}
+use Rattle.version_rules.specs.order.Kinds.{semver_cmp, version_plain_cmp}
+use Rattle.versions.specs.{Mess.mess_fed, SemVer.semver_fed, Version.version_fed, Versioning.versioning_fed}
 use Rattle.std.specs.Hash as fed
 
 -- equal versions are fed alike

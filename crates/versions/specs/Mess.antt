@@ -1,17 +1,8 @@
 -- The messy version that an owned or a scanned value holds, and what a hash is fed of it.
 use Rattle.std.specs.Prelude.{◌++◌, List, [], ◌∷◌, Vec, map}
-use Rattle.std.specs.Hash.{HashWrites}
-use Rattle.std.specs.List.{flat_map}
-use Rattle.std.specs.Option.{option_map_or}
-use Rattle.std.specs.declared.alloc.Global.{Global}
-use Rattle.version_parts.specs.declared.mchunk.MChunk.{MChunk}
-use Rattle.version_parts.specs.declared.sep.Sep.{Sep}
-use Rattle.version_parts.specs.MChunk.{mchunk_fed, plain_mchunk}
-use Rattle.version_parts.specs.Sep.{plain_sep, sep_fed}
-use Rattle.versions.specs.declared.mess.Mess.{Mess}
-use Rattle.versions.specs.declared.mess.Mess.TheFolds.{fold-Mess}
-use Rattle.versions.specs.declared.mess.Mess.TheOpen.{Mess-F}
-use Rattle.versions.specs.declared.mess.MessRef.{MessRef}
+use Rattle.std.specs.{Hash.HashWrites, List.flat_map, Option.option_map_or, declared.alloc.Global.Global}
+use Rattle.version_parts.specs.{MChunk.mchunk_fed, MChunk.plain_mchunk, Sep.plain_sep, Sep.sep_fed, declared.mchunk.MChunk.MChunk, declared.sep.Sep.Sep}
+use Rattle.versions.specs.declared.mess.{Mess.Mess, Mess.TheFolds.fold-Mess, Mess.TheOpen.Mess-F, MessRef.MessRef}
 use Rattle.version_rules.specs.grammar.Mess.{Section, Further, PlainMess, further_in}
 use Rattle.std.specs.Hash as fed
 

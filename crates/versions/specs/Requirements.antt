@@ -1,12 +1,7 @@
 -- The list of requirements that a value holds.
-use Rattle.std.specs.Option.{option_map}
-use Rattle.versions.specs.declared.requirement.Requirement.{Requirement}
-use Rattle.versions.specs.Versioning.{plain_versioning}
-use Rattle.version_rules.specs.requirement.Requirement.{PlainRequirement}
-use Rattle.std.specs.Prelude.{List, map}
-use Rattle.versions.specs.declared.requirements.Requirements.{Requirements}
-use Rattle.versions.specs.declared.range.Range.{Range}
-use Rattle.version_rules.specs.requirement.Range.{PlainRange}
+use Rattle.std.specs.{Option.option_map, Prelude.List, Prelude.map}
+use Rattle.versions.specs.{Versioning.plain_versioning, declared.range.Range.Range, declared.requirement.Requirement.Requirement, declared.requirements.Requirements.Requirements}
+use Rattle.version_rules.specs.requirement.{Range.PlainRange, Requirement.PlainRequirement}
 
 -- ---- the requirement that a value holds
 

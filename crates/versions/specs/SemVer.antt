@@ -1,15 +1,8 @@
 -- The strict version that an owned or a scanned value holds, and what a hash is fed of it.
-use Rattle.std.specs.Prelude.{◌++◌}
-use Rattle.std.specs.Hash.{HashWrites}
-use Rattle.std.specs.Option.{option_map}
-use Rattle.std.specs.Str.Parse.{digits_value}
-use Rattle.std.specs.String.{string_bytes}
-use Rattle.version_rules.specs.grammar.Numeral.{SpellsNumeral}
+use Rattle.std.specs.{Hash.HashWrites, Option.option_map, Prelude.◌++◌, Str.Parse.digits_value, String.string_bytes}
+use Rattle.version_rules.specs.grammar.{Chunk.SpellsNumeral, SemVer.PlainSemVer}
 use Rattle.version_parts.specs.Body.{plain_release, release_fed}
-use Rattle.versions.specs.declared.semver.SemVerRef.{SemVerRef}
-use Rattle.versions.specs.declared.semver.SemVer.{SemVer}
-use Rattle.versions.specs.declared.semver.SemVerText.{SemVerText}
-use Rattle.version_rules.specs.grammar.SemVer.{PlainSemVer}
+use Rattle.versions.specs.declared.semver.{SemVer.SemVer, SemVerRef.SemVerRef, SemVerText.SemVerText}
 use Rattle.std.specs.Hash as fed
 
 -- the version that a value holds

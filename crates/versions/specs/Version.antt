@@ -1,18 +1,9 @@
 -- The general version that an owned or a scanned value holds, and what a hash is fed of it.
 use Rattle.std.specs.Prelude.{List, [], ◌∷◌, ◌++◌, map}
-use Rattle.version_rules.specs.grammar.Chunk.{PlainChunk, chunk_text}
-use Rattle.version_parts.specs.Chunk.{plain_chunk}
-use Rattle.version_rules.specs.grammar.Last.{last_text}
-use Rattle.version_parts.specs.Last.{plain_last, last_fed}
-use Rattle.version_rules.specs.key.PartKey.{PartKey, chunk_parts, part_key}
-use Rattle.versions.specs.declared.parts.BodyParts.{BodyParts}
-use Rattle.std.specs.Hash.{HashWrites}
-use Rattle.std.specs.Option.{option_map}
-use Rattle.std.specs.String.{string_bytes}
-use Rattle.version_parts.specs.Body.{plain_chunks, plain_release, release_fed}
-use Rattle.versions.specs.declared.version.VersionRef.{VersionRef}
-use Rattle.versions.specs.declared.version.Version.{Version}
-use Rattle.version_rules.specs.grammar.Version.{PlainVersion}
+use Rattle.std.specs.{Hash.HashWrites, Option.option_map, String.string_bytes}
+use Rattle.version_rules.specs.{grammar.Chunk.PlainChunk, grammar.Chunk.chunk_text, grammar.Last.last_text, grammar.Version.PlainVersion, key.PartKey.PartKey, key.PartKey.chunk_parts, key.PartKey.part_key}
+use Rattle.version_parts.specs.{Body.plain_chunks, Body.plain_release, Body.release_fed, Chunk.plain_chunk, Last.plain_last, Last.last_fed}
+use Rattle.versions.specs.declared.{parts.BodyParts.BodyParts, version.Version.Version, version.VersionRef.VersionRef}
 use Rattle.std.specs.Hash as fed
 
 -- ---- the parts of a general version: those of its chunks, then its last part

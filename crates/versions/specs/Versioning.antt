@@ -1,16 +1,9 @@
 -- The version of any kind that a value holds, what a hash is fed of it, and what two versions
 -- answer alike.
-use Rattle.std.specs.Prelude.{◌≡◌, ◌↔◌, ◌++◌}
-use Rattle.std.specs.Hash.{HashWrites}
-use Rattle.versions.specs.declared.versioning.Versioning.{Versioning}
-use Rattle.versions.specs.Mess.{mess_fed, plain_mess}
-use Rattle.versions.specs.SemVer.{plain_semver, semver_fed}
-use Rattle.versions.specs.Version.{plain_version, version_fed}
-use Rattle.version_rules.specs.key.Key.{key_of, key_bytes}
+use Rattle.std.specs.{Hash.HashWrites, Prelude.◌≡◌, Prelude.◌↔◌, Prelude.◌++◌}
+use Rattle.versions.specs.{Mess.mess_fed, Mess.plain_mess, SemVer.plain_semver, SemVer.semver_fed, Version.plain_version, Version.version_fed, declared.versioning.Versioning.Versioning}
 use Rattle.version_rules.specs.grammar.Versioning.{versioning_kind, PlainVersioning, Ideal, General, Complex, versioning_text}
-use Rattle.version_rules.specs.requirement.Matching.{Matches}
-use Rattle.version_rules.specs.order.Orders.{versioning_cmp}
-use Rattle.version_rules.specs.requirement.Requirement.{PlainRequirement}
+use Rattle.version_rules.specs.{key.Key.key_of, key.Key.key_bytes, order.Orders.versioning_cmp, requirement.Matching.Matches, requirement.Requirement.PlainRequirement}
 use Rattle.std.specs.Hash as fed
 use Rattle.versions.specs.declared.versioning.Versioning.TheVariants as owned
 

@@ -1,21 +1,11 @@
 //! Conversions of versions to a more lenient kind.
 
 ghost use Rattle.std.specs.Prelude.{◌≡◌, ◌<◌, ◌^◌, ◌∷◌, [], ◌++◌, if◌then◌else◌, map, string_bytes, IfOk, IfSome};
-ghost use Rattle.std.specs.Option.{is_some, option_map};
-ghost use Rattle.std.specs.declared.cmp.Ordering.TheVariants.{Equal, Less};
-ghost use Rattle.version_parts.specs.Chunk.{plain_chunk};
-ghost use Rattle.version_parts.specs.Last.{plain_last};
-ghost use Rattle.version_parts.specs.MChunk.{plain_mchunk};
-ghost use Rattle.version_rules.specs.grammar.MChunk.{Plain};
-ghost use Rattle.version_parts.specs.Body.{plain_release};
+ghost use Rattle.std.specs.{Option.is_some, Option.option_map, declared.cmp.Ordering.TheVariants.Equal, declared.cmp.Ordering.TheVariants.Less};
+ghost use Rattle.version_parts.specs.{Body.plain_release, Chunk.plain_chunk, Last.plain_last, MChunk.plain_mchunk};
 ghost use Rattle.version_rules.specs.grammar.Conversions.{behind_epoch, below_sections, digits_of_number, mchunk_of, mchunk_of_last, mess_of_semver, mess_of_version, meta_section, release_section, version_of_semver};
-ghost use Rattle.version_rules.specs.key.Key.{key_of_mess, key_of_semver, key_of_version, precedence};
-ghost use Rattle.version_rules.specs.grammar.Mess.{mess_text};
-ghost use Rattle.versions.specs.Mess.{plain_mess, plain_section};
-ghost use Rattle.versions.specs.SemVer.{plain_semver};
-ghost use Rattle.version_rules.specs.grammar.SemVer.{semver_text};
-ghost use Rattle.versions.specs.Version.{plain_version};
-ghost use Rattle.version_rules.specs.grammar.Version.{version_text};
+ghost use Rattle.version_rules.specs.{grammar.MChunk.Plain, grammar.Mess.mess_text, grammar.SemVer.semver_text, grammar.Version.version_text, key.Key.key_of_mess, key.Key.key_of_semver, key.Key.key_of_version, key.Key.precedence};
+ghost use Rattle.versions.specs.{Mess.plain_mess, Mess.plain_section, SemVer.plain_semver, Version.plain_version};
 
 use crate::mess::{Mess, link};
 use crate::optional::{copy_meta, copy_release};

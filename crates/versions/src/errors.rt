@@ -1,6 +1,8 @@
 //! Errors of the calls that parse.
 
-ghost use Rattle.std.specs.Prelude.{◌≡◌, string_bytes, IfOk, Ok, Some};
+ghost use Rattle.std.specs.Prelude.{◌≡◌, string_bytes, Err, IfErr, IfNone, IfOk, IfSome, IsErrAnd, Ok, Some, String};
+ghost use Rattle.versions.specs.Errors.{error_text, json_error, json_error_text, plain_error, read_error_text, IsIllegal, PlainError};
+ghost use Rattle.versions.specs.declared.errors.ReadError.TheVariants.{Memory};
 
 use std::alloc::{AllocError, Global};
 use std::fmt;
@@ -21,8 +23,6 @@ pub enum Error {
 }
 
 impl Error {
-    ghost use Rattle.versions.specs.Errors.{plain_error};
-
     /// Returns a copy. `Err` means allocation failure.
     pub fn clone(&self, alloc: Global) -> Result<Error, AllocError>
         ensures { IfOk result (λ copy. plain_error copy ≡ plain_error self.now) }
@@ -44,9 +44,6 @@ fn copy_of(alloc: Global, text: &String) -> Result<String, AllocError>
 }
 
 impl fmt::Display for Error {
-    ghost use Rattle.std.specs.Prelude.{Some};
-    ghost use Rattle.versions.specs.Errors.{error_text, plain_error};
-
     ghost output = { λ e. Some (error_text (plain_error e)) };
 
     fn fmt<W: fmt::Write>(&self, f: &mut fmt::Formatter<W>) -> fmt::Result {
@@ -70,9 +67,6 @@ pub enum ReadError {
 }
 
 impl fmt::Display for ReadError {
-    ghost use Rattle.std.specs.Prelude.{Some};
-    ghost use Rattle.versions.specs.Errors.{read_error_text};
-
     ghost output = { λ e. Some (read_error_text e) };
 
     fn fmt<W: fmt::Write>(&self, f: &mut fmt::Formatter<W>) -> fmt::Result {
@@ -84,13 +78,32 @@ impl fmt::Display for ReadError {
 }
 
 impl From<AllocError> for ReadError {
-    ghost use Rattle.std.specs.Prelude.{◌≡◌};
-    ghost use Rattle.versions.specs.declared.errors.ReadError.TheVariants.{Memory};
-
     ghost from_gives = { λ refused e. e ≡ Memory refused };
 
     fn from(refused: AllocError) -> ReadError {
         ReadError::Memory(refused)
+    }
+}
+
+// Returns the parsed value. Otherwise fails with the error that `wrong` makes of a copy of the text, or with `Memory`
+// if that copy cannot be allocated, or the value couldn't.
+pub(crate) fn or_illegal<T: Drop, F: FnOnce(String) -> Error + Drop>(
+    alloc: Global,
+    value: Result<Option<T>, AllocError>,
+    s: &str,
+    wrong: F,
+) -> Result<T, ReadError>
+    requires { (text : _) → F.pre wrong text }
+    ensures some { IfOk value (λ o. IfSome o (λ v. result ≡ Ok v)) }
+    ensures none { (e : PlainError)
+        → ((text : _) (error : _) → string_bytes text ≡ s.now → F.post wrong text error
+        → plain_error error ≡ e)
+        → IfOk value (λ o. IfNone o (IsErrAnd result (IsIllegal e))) }
+    ensures err { IfErr value (λ refused. result ≡ Err (Memory refused)) }
+{
+    match value? {
+        Some(value) => Ok(value),
+        None => Err(ReadError::Illegal(wrong(String::from_str(alloc, s)?))),
     }
 }
 
@@ -106,9 +119,6 @@ pub enum JsonError {
 }
 
 impl fmt::Display for JsonError {
-    ghost use Rattle.std.specs.Prelude.{Some};
-    ghost use Rattle.versions.specs.Errors.{json_error_text};
-
     ghost output = { λ e. Some (json_error_text e) };
 
     fn fmt<W: fmt::Write>(&self, f: &mut fmt::Formatter<W>) -> fmt::Result {
@@ -121,9 +131,6 @@ impl fmt::Display for JsonError {
 }
 
 impl From<ReadError> for JsonError {
-    ghost use Rattle.std.specs.Prelude.{◌≡◌};
-    ghost use Rattle.versions.specs.Errors.{json_error};
-
     ghost from_gives = { λ error e. e ≡ json_error error };
 
     fn from(error: ReadError) -> JsonError {

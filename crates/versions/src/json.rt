@@ -1,17 +1,10 @@
 //! Versions and requirements as strings of JSON documents.
 
 ghost use Rattle.std.specs.Prelude.{◌≡◌, IfOk, MatchResult, None};
-ghost use Rattle.serde_json.specs.Data.{string};
-ghost use Rattle.serde_json.specs.Find.{as_str};
-ghost use Rattle.serde_json.specs.View.{view};
-ghost use Rattle.versions.specs.Errors.{IllegalOp, IllegalVersioning};
-ghost use Rattle.versions.specs.Json.{ReadsJson};
-ghost use Rattle.versions.specs.Requirements.{plain_requirement, plain_requirements};
-ghost use Rattle.version_rules.specs.requirement.Requirement.{requirement_of, requirement_text, RequirementOwns};
-ghost use Rattle.version_rules.specs.requirement.Requirements.{requirements_of, requirements_text};
-ghost use Rattle.versions.specs.Versioning.{plain_versioning};
+ghost use Rattle.serde_json.specs.{Data.string, Find.as_str, View.view};
+ghost use Rattle.versions.specs.{Errors.IllegalOp, Errors.IllegalVersioning, Json.ReadsJson, Requirements.plain_requirement, Requirements.plain_requirements, Versioning.plain_versioning, declared.errors.JsonError.TheVariants.NotText};
 ghost use Rattle.version_rules.specs.grammar.Versioning.{versioning_of, versioning_text, VersioningOwns};
-ghost use Rattle.versions.specs.declared.errors.JsonError.TheVariants.{NotText};
+ghost use Rattle.version_rules.specs.requirement.{Requirement.requirement_of, Requirement.requirement_text, Requirement.RequirementOwns, Requirements.requirements_of, Requirements.requirements_text};
 
 use crate::errors::JsonError;
 use crate::requirement::Requirement;

@@ -1,26 +1,14 @@
 //! The bytes of the key of a version, by which versions of all kinds compare. docs/ORDER.md has the rules.
 
 ghost use Rattle.std.specs.Prelude.{◌≡◌, ◌++◌, [], map, IfNone, IfOk, IfSome, OnErr, OnOk, List, ℕ};
-ghost use Rattle.std.specs.Iterator.{item_count, YieldsFirst};
-ghost use Rattle.std.specs.Option.{option_map, unwrap_or};
-ghost use Rattle.version_order.specs.texts.DigitRun.{run_value};
-ghost use Rattle.version_order.specs.keys.Lists.{bytes_cmp, GrowsWithin};
-ghost use Rattle.version_parts.specs.MChunk.{plain_mchunk};
-ghost use Rattle.version_order.specs.keys.NumberBytes.{number_bytes};
-ghost use Rattle.version_rules.specs.key.PartKey.{parts_bytes};
-ghost use Rattle.version_parts.specs.Pieces.{IsNext};
-ghost use Rattle.version_parts.specs.Body.{plain_release};
+ghost use Rattle.std.specs.{Iterator.item_count, Iterator.YieldsFirst, Option.option_map, Option.unwrap_or};
+ghost use Rattle.version_order.specs.{keys.Lists.bytes_cmp, keys.Lists.GrowsWithin, texts.Front.run_value};
+ghost use Rattle.version_parts.specs.{Body.plain_release, MChunk.plain_mchunk, Pieces.IsNext};
+ghost use Rattle.version_rules.specs.key.Key.{key_of, key_of_mess, key_of_semver, key_of_version, key_with_epoch, section_epoch, key_bytes};
 ghost use Rattle.version_rules.specs.order.Parts.{release_bytes};
-ghost use Rattle.version_rules.specs.key.Key.{key_of, key_of_mess, key_of_semver, key_of_version, key_with_epoch, section_epoch, sections_tail, strict_body, key_bytes};
-ghost use Rattle.versions.specs.KeyStream.{list_left, release_tail, tail_left};
-ghost use Rattle.versions.specs.Mess.{plain_mess};
-ghost use Rattle.versions.specs.SemVer.{plain_semver};
-ghost use Rattle.version_rules.specs.key.Tail.{tail_bytes};
-ghost use Rattle.versions.specs.Version.{plain_version};
-ghost use Rattle.versions.specs.Versioning.{plain_versioning};
+ghost use Rattle.versions.specs.{KeyStream.list_left, KeyStream.tail_left, Mess.plain_mess, SemVer.plain_semver, Version.plain_version, Versioning.plain_versioning};
 
 mod list;
-mod sections;
 mod tail;
 
 use crate::mess::Mess;
@@ -28,12 +16,11 @@ use crate::semver::SemVer;
 use crate::version::Version;
 use crate::versioning::Versioning;
 use list::{CurrentList, PartsLeft};
-use sections::next_section;
 use std::alloc::{AllocError, Global};
 use std::cmp::Ordering;
 use std::marker::Model;
 use std::mem;
-use tail::{BARE, PRE_RELEASE, RELEASE, SECTIONS, TailLeft};
+use tail::{BARE, PRE_RELEASE, RELEASE, SECTIONS, TailLeft, next_section};
 pub use version_parts::key::compare_bytes;
 use version_parts::key::{ListLeft, PieceBytes};
 use version_parts::{MChunk, MessyChunk, Release, ReleaseChunk, Sep};
@@ -80,8 +67,11 @@ impl<'a> KeyBytes<'a> {
     fn of_semver(ideal: &'a SemVer) -> KeyBytes<'a>
         ensures { result ≡ key_bytes (key_of_semver (plain_semver ideal.now)) }
     {
-        let chunks = chunks_left(&ideal.pre_rel);
-        KeyBytes::strict(ideal.major, ideal.minor, ideal.patch, chunks)
+        KeyBytes {
+            piece: PieceBytes::number(0),
+            list: CurrentList::Three(ideal.major, ideal.minor, ideal.patch),
+            tail: TailLeft::release(PRE_RELEASE, chunks_left(&ideal.pre_rel)),
+        }
     }
 
     // Returns the bytes of the key of a general version.
@@ -90,8 +80,11 @@ impl<'a> KeyBytes<'a> {
     pub(crate) fn of_version(general: &'a Version) -> KeyBytes<'a>
         ensures { result ≡ key_bytes (key_of_version (plain_version general.now)) }
     {
-        let parts = PartsLeft::of(&general.chunks, &general.last);
-        KeyBytes::general(general.epoch, parts, chunks_left(&general.release))
+        KeyBytes {
+            piece: PieceBytes::number(general.epoch.unwrap_or(0)),
+            list: CurrentList::Parts(PartsLeft::of(&general.chunks, &general.last)),
+            tail: TailLeft::release(RELEASE, chunks_left(&general.release)),
+        }
     }
 
     // Returns the bytes of the key of a messy version.
@@ -99,63 +92,14 @@ impl<'a> KeyBytes<'a> {
     pub(crate) fn of_mess(complex: &'a Mess) -> KeyBytes<'a>
         ensures { result ≡ key_bytes (key_of_mess (plain_mess complex.now)) }
     {
-        let (epoch, sections) = match epoch_of(complex) {
+        let (piece, sections) = match epoch_of(complex) {
             Some((digits, sections)) => (PieceBytes::digits(digits), sections),
             None => (PieceBytes::number(0), complex),
         };
-        let first = ListLeft::section(sections.chunks.as_slice());
-        KeyBytes::messy(epoch, first, sections)
-    }
-
-    // Returns the bytes of a key with three plain numbers, and the chunks of a pre-release, if there is one.
-    #[inline(always)]
-    fn strict(
-        major: u32,
-        minor: u32,
-        patch: u32,
-        chunks: Option<ListLeft<'a, ReleaseChunk>>,
-    ) -> KeyBytes<'a>
-        ensures { result ≡ number_bytes 0 ++ (parts_bytes (strict_body major minor patch)
-            ++ release_tail 1 chunks.entry) }
-    {
         KeyBytes {
-            piece: PieceBytes::number(0),
-            list: CurrentList::Three(major, minor, patch),
-            tail: TailLeft::release(PRE_RELEASE, chunks),
-        }
-    }
-
-    // Returns the bytes of a key with an epoch, the parts of a body, and the chunks of a release, if there is one.
-    #[inline(always)]
-    fn general(
-        epoch: Option<u32>,
-        parts: PartsLeft<'a>,
-        chunks: Option<ListLeft<'a, ReleaseChunk>>,
-    ) -> KeyBytes<'a>
-        ensures { result ≡ number_bytes (unwrap_or epoch 0) ++ (parts.entry
-            ++ release_tail 3 chunks.entry) }
-    {
-        KeyBytes {
-            piece: PieceBytes::number(epoch.unwrap_or(0)),
-            list: CurrentList::Parts(parts),
-            tail: TailLeft::release(RELEASE, chunks),
-        }
-    }
-
-    // Returns the bytes of a key with an epoch, a section, and the sections after the first of a version.
-    #[inline(always)]
-    fn messy(
-        epoch: PieceBytes<'a>,
-        section: ListLeft<'a, MessyChunk>,
-        mess: &'a Mess,
-    ) -> KeyBytes<'a>
-        ensures { result ≡ epoch.entry ++ (section.entry
-            ++ tail_bytes (sections_tail (plain_mess mess.now).more)) }
-    {
-        KeyBytes {
-            piece: epoch,
-            list: CurrentList::Section(section),
-            tail: TailLeft::sections(mess),
+            piece,
+            list: CurrentList::Section(ListLeft::section(sections.chunks.as_slice())),
+            tail: TailLeft::sections(sections),
         }
     }
 
@@ -274,6 +218,7 @@ fn epoch_of(mess: &Mess) -> Option<(&str, &Mess)>
 }
 
 // Returns the digits of a section that is one chunk of digits.
+#[tactic(auto, using(crate::proofs::lemmas::Mess::one_of_digits))]
 fn digits_of(section: &[MChunk]) -> Option<&str>
     ensures { option_map (λ digits. run_value digits.now) result
         ≡ section_epoch (map plain_mchunk section.now) }

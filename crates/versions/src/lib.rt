@@ -15,19 +15,16 @@
 //! A call whose comment doesn't speak of allocation allocates nothing.
 #![tactic(auto)]
 
-mod asked;
 mod conversions;
 mod errors;
 mod json;
 pub mod key;
 mod mess;
-mod numbers;
 mod optional;
 mod order;
 mod parts;
 mod pretty;
 mod range;
-mod reading;
 mod requirement;
 mod requirements;
 mod semver;

@@ -1,20 +1,16 @@
 //! Messy versions. Every call goes along the sections by a loop, without recursion.
 
 ghost use Rattle.std.specs.Prelude.{◌≡◌, ◌<◌, [], Some, IfOk, IsSome, OnErr, length, map};
-ghost use Rattle.std.specs.Option.{is_some, option_map};
+ghost use Rattle.std.specs.{Cmp.eq_by_cmp_equiv, Cmp.on_equiv, Cmp.on_per, Cmp.partial_equiv_from_equiv, Option.is_some, Option.option_map, Ordering.eq_by_cmp, Ordering.on};
 ghost use Rattle.std.proofs.Common.{ap};
-ghost use Rattle.std.specs.Cmp.{eq_by_cmp_equiv, on_equiv, on_per, partial_equiv_from_equiv};
-ghost use Rattle.std.specs.Ordering.{eq_by_cmp, on};
-ghost use Rattle.version_order.specs.texts.Front.{repeated};
+ghost use Rattle.version_order.specs.{keys.Codes.same_where_tied, texts.Front.repeated};
 ghost use Rattle.version_parts.specs.Body.{Reads};
-ghost use Rattle.version_order.specs.keys.Codes.{same_where_tied};
+ghost use Rattle.versions.specs.Mess.{mess_fed, plain_further, plain_mess, plain_mess_ref, plain_section};
 ghost use Rattle.versions.specs.Errors.{IllegalMess, ReadsOr};
 ghost use Rattle.version_rules.specs.grammar.Mess.{behind_colons, further_front, mess_front, mess_of, mess_plain_cmp, mess_text, nth_number, section_front};
-ghost use Rattle.versions.specs.Mess.{mess_fed, plain_further, plain_mess, plain_mess_ref, plain_section};
 ghost use Rattle.version_rules.specs.laws.Versioning.{mess_total, messes_same};
 
-use crate::errors::{Error, ReadError};
-use crate::reading::or_illegal;
+use crate::errors::{Error, ReadError, or_illegal};
 use std::alloc::{AllocError, Global};
 use std::cmp::Ordering;
 use std::fmt;
@@ -58,7 +54,7 @@ impl Mess {
     pub fn from_str(alloc: Global, s: &str) -> Result<Mess, ReadError>
         ensures { ReadsOr plain_mess (λ _. Unit {0}) (IllegalMess s.now) result (mess_of s.now) }
     {
-        or_illegal(alloc, Mess::new(alloc, s)?, s, Error::IllegalMess)
+        or_illegal(alloc, Mess::new(alloc, s), s, Error::IllegalMess)
     }
 
     /// Parses a prefix as a messy version; returns it and the rest, or None. It parses chunks with dots or signs
@@ -76,6 +72,7 @@ impl Mess {
 
     /// Returns the number of the chunk at `x`, counted from 0, in the first section that no colon follows, or None if
     /// the chunk is not `Digits`. So an epoch is skipped.
+    #[tactic(auto, using(crate::proofs::lemmas::Mess::first_is, crate::proofs::lemmas::Mess::lent_item, crate::proofs::lemmas::Cited::nth_cites))]
     pub fn nth(&self, x: usize) -> Option<u32>
         ensures { result ≡ nth_number (plain_mess self.now) x }
     {
@@ -259,6 +256,7 @@ impl<'a> MessRef<'a> {
 }
 
 // Returns what follows the further sections that the text begins with.
+#[tactic(auto, using(crate::proofs::lemmas::Mess::left_last, crate::proofs::lemmas::Mess::left_next, crate::proofs::lemmas::Mess::left_shorter))]
 fn skip_all_further(i: &str) -> &str
     ensures { result.now ≡ (repeated further_front (length i.now) i.now).1 }
 {

@@ -1,13 +1,10 @@
 //! The optional release and metadata of strict and general versions.
 
 ghost use Rattle.std.specs.Prelude.{◌≡◌, ◌++◌, string_bytes, IfOk, IsSome, OnErr};
-ghost use Rattle.std.specs.Fmt.{WritesOnOk};
-ghost use Rattle.std.specs.Option.{option_map};
-ghost use Rattle.version_order.specs.texts.Bytes.{hyphen, plus};
-ghost use Rattle.version_order.specs.texts.Front.{optional};
-ghost use Rattle.version_rules.specs.grammar.Release.{meta_front, release_front, release_text};
+ghost use Rattle.std.specs.{Fmt.WritesOnOk, Option.option_map};
+ghost use Rattle.version_order.specs.texts.{Bytes.hyphen, Bytes.plus, Front.optional};
+ghost use Rattle.version_rules.specs.grammar.{Body.meta_front, Body.release_front, Body.release_text, SemVer.optional_text};
 ghost use Rattle.version_parts.specs.Body.{plain_release};
-ghost use Rattle.version_rules.specs.grammar.SemVer.{optional_text};
 
 use std::alloc::{AllocError, Global};
 use std::fmt;

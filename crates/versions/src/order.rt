@@ -1,19 +1,13 @@
 //! The order of versions: by their keys, and `Ord`, which breaks the ties. docs/ORDER.md has the rules.
 
 ghost use Rattle.std.specs.Prelude.{◌≡◌, ◌++◌, List, ℕ, refl, IfOk};
-ghost use Rattle.std.specs.Cmp.{on_total, po, IsTotalOrder};
-ghost use Rattle.std.specs.Ordering.{as_partial_cmp, on};
-ghost use Rattle.std.specs.declared.cmp.Ordering.TheVariants.{Equal};
+ghost use Rattle.version_rules.specs.grammar.Versioning as plain;
+ghost use Rattle.std.specs.{Cmp.on_total, Cmp.po, Cmp.IsTotalOrder, Ordering.as_partial_cmp, Ordering.on, declared.cmp.Ordering.TheVariants.Equal};
 ghost use Rattle.version_order.specs.keys.Lists.{bytes_cmp};
 ghost use Rattle.version_rules.specs.key.Key.{key_of, key_of_version, precedence, Key, key_bytes};
-ghost use Rattle.versions.specs.Mess.{plain_mess};
-ghost use Rattle.version_rules.specs.order.Orders.{mess_cmp, version_cmp, versioning_cmp};
 ghost use Rattle.version_rules.specs.laws.Key.{mess_cmp_ties, mess_cmp_total, version_cmp_ties, version_cmp_total, versioning_cmp_ties, versioning_cmp_total};
-ghost use Rattle.version_rules.specs.grammar.SemVer.{PlainSemVer};
-ghost use Rattle.version_rules.specs.order.Kinds.{semver_cmp};
-ghost use Rattle.versions.specs.Version.{plain_version};
-ghost use Rattle.versions.specs.Versioning.{plain_versioning};
-ghost use Rattle.version_rules.specs.grammar.Versioning as plain;
+ghost use Rattle.version_rules.specs.{grammar.SemVer.PlainSemVer, order.Kinds.semver_cmp, order.Orders.mess_cmp, order.Orders.version_cmp, order.Orders.versioning_cmp};
+ghost use Rattle.versions.specs.{Mess.plain_mess, Version.plain_version, Versioning.plain_versioning};
 
 use crate::key::{KeyBytes, compare_keys, key_list};
 use crate::mess::Mess;

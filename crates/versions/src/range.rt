@@ -1,13 +1,11 @@
 //! Ranges of keys: what a requirement or a list of them asks for, in bytes.
 
 ghost use Rattle.std.specs.Prelude.{◌≡◌, ◌↔◌, IfOk, IfSome, IsTrue};
-ghost use Rattle.std.specs.Option.{option_map};
-ghost use Rattle.std.specs.declared.cmp.Ordering.TheVariants.{Less};
+ghost use Rattle.std.specs.{Option.option_map, declared.cmp.Ordering.TheVariants.Less};
 ghost use Rattle.version_order.specs.keys.Lists.{bytes_cmp};
-ghost use Rattle.version_rules.specs.key.Key.{key_of, key_bytes};
 ghost use Rattle.version_rules.specs.requirement.Range.{common, earlier, earlier_high, everything, later, IsIn};
-ghost use Rattle.versions.specs.Requirements.{plain_range};
-ghost use Rattle.versions.specs.Versioning.{plain_versioning};
+ghost use Rattle.version_rules.specs.key.Key.{key_of, key_bytes};
+ghost use Rattle.versions.specs.{Requirements.plain_range, Versioning.plain_versioning};
 
 pub(crate) mod build;
 

@@ -3,19 +3,13 @@
 ghost use Rattle.std.specs.Prelude.{◌≡◌, ◌↔◌, IfOk, IsSomeAnd, IsTrue, None, OnErr, Some};
 ghost use Rattle.std.specs.Option.{is_some, option_map};
 ghost use Rattle.version_parts.specs.Body.{Reads};
-ghost use Rattle.versions.specs.Errors.{IllegalOp, ReadsOr};
-ghost use Rattle.version_rules.specs.requirement.Matching.{IsConvex, Matches};
-ghost use Rattle.versions.specs.Requirements.{plain_range, plain_requirement};
-ghost use Rattle.version_rules.specs.requirement.Range.{requirement_range, IsIn};
+ghost use Rattle.versions.specs.{Errors.IllegalOp, Errors.ReadsOr, Requirements.plain_range, Requirements.plain_requirement, Versioning.plain_versioning};
 ghost use Rattle.version_rules.specs.requirement.Requirement.{op_front, requirement_front, requirement_of, requirement_text, RequirementOwns};
-ghost use Rattle.versions.specs.Versioning.{plain_versioning};
-ghost use Rattle.version_rules.specs.grammar.Versioning.{PlainVersioning};
-ghost use Rattle.version_rules.specs.declared.op.Op.TheVariants.{Wildcard};
+ghost use Rattle.version_rules.specs.{declared.op.Op.TheVariants.Wildcard, grammar.Versioning.PlainVersioning, requirement.Matching.IsConvex, requirement.Matching.Matches, requirement.Range.requirement_range, requirement.Range.IsIn};
 
-use crate::errors::{Error, ReadError};
+use crate::errors::{Error, ReadError, or_illegal};
 use crate::range::Range;
 use crate::range::build::range_from;
-use crate::reading::or_illegal;
 use crate::semver::SemVer;
 use crate::versioning::Versioning;
 use std::alloc::{AllocError, Global};
@@ -70,7 +64,7 @@ impl Requirement {
         ensures { ReadsOr plain_requirement RequirementOwns (IllegalOp s.now) result
             (requirement_of s.now) }
     {
-        or_illegal(alloc, Requirement::new(alloc, s)?, s, Error::IllegalOp)
+        or_illegal(alloc, Requirement::new(alloc, s), s, Error::IllegalOp)
     }
 
     /// Parses a prefix as a requirement; returns it and the rest, or None. A requirement is an operator and what

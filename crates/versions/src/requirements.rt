@@ -2,17 +2,12 @@
 
 ghost use Rattle.std.specs.Prelude.{◌≡◌, ◌↔◌, IfOk, IsSome, IsTrue, OnErr, Some};
 ghost use Rattle.std.specs.Option.{is_some, option_map};
-ghost use Rattle.versions.specs.Errors.{IllegalOp, ReadsOr};
-ghost use Rattle.version_rules.specs.requirement.Matching.{IsConvex, MatchesAll};
-ghost use Rattle.versions.specs.Requirements.{plain_range, plain_requirements};
-ghost use Rattle.version_rules.specs.requirement.Range.{range_of, IsIn};
+ghost use Rattle.versions.specs.{Errors.IllegalOp, Errors.ReadsOr, Requirements.plain_range, Requirements.plain_requirements, Versioning.plain_versioning};
+ghost use Rattle.version_rules.specs.{grammar.Versioning.PlainVersioning, requirement.Matching.IsConvex, requirement.Matching.MatchesAll, requirement.Range.range_of, requirement.Range.IsIn};
 ghost use Rattle.version_rules.specs.requirement.Requirements.{requirements_of, requirements_text};
-ghost use Rattle.versions.specs.Versioning.{plain_versioning};
-ghost use Rattle.version_rules.specs.grammar.Versioning.{PlainVersioning};
 
-use crate::errors::{Error, ReadError};
+use crate::errors::{Error, ReadError, or_illegal};
 use crate::range::Range;
-use crate::reading::or_illegal;
 use crate::requirement::Requirement;
 use crate::versioning::Versioning;
 use std::alloc::{AllocError, Global};
@@ -51,7 +46,7 @@ impl Requirements {
         ensures { ReadsOr plain_requirements
             (λ _. Unit {0}) (IllegalOp s.now) result (requirements_of s.now) }
     {
-        or_illegal(alloc, Requirements::new(alloc, s)?, s, Error::IllegalOp)
+        or_illegal(alloc, Requirements::new(alloc, s), s, Error::IllegalOp)
     }
 
     /// Returns a copy. `Err` means allocation failure.

@@ -2,25 +2,18 @@
 
 ghost use Rattle.std.specs.Prelude.{◌≡◌, ◌↔◌, refl, IfOk, IfSome, IsSomeAnd, IsTrue, None, OnErr, Some};
 ghost use Rattle.std.specs.Cmp.{eq_by_cmp_equiv, on_equiv, on_per, on_total, partial_equiv_from_equiv, po};
-ghost use Rattle.std.specs.Option.{is_some, option_map};
-ghost use Rattle.std.specs.Ordering.{as_partial_cmp, eq_by_cmp, on};
+ghost use Rattle.std.specs.{Option.is_some, Option.option_map, Ordering.as_partial_cmp, Ordering.eq_by_cmp, Ordering.on};
 ghost use Rattle.version_parts.specs.Body.{Reads, plain_release};
 ghost use Rattle.version_order.specs.keys.Lists.{none_last_cmp};
-ghost use Rattle.version_rules.specs.order.Parts.{release_cmp};
-ghost use Rattle.versions.specs.Errors.{IllegalSemver, ReadsOr};
-ghost use Rattle.versions.specs.Laws.{fed_alike};
-ghost use Rattle.version_rules.specs.laws.Versioning.{semver_total};
+ghost use Rattle.version_rules.specs.{grammar.SemVer.semver_front, grammar.SemVer.semver_of, grammar.SemVer.semver_text, grammar.SemVer.SemVerOwns, laws.Versioning.semver_total, order.Kinds.semver_cmp, order.Parts.release_cmp};
 ghost use Rattle.version_rules.specs.requirement.SemVerMatch.{numbers, MatchesCaret, MatchesTilde};
-ghost use Rattle.version_rules.specs.order.Kinds.{semver_cmp};
 ghost use Rattle.versions.specs.SemVer.{plain_semver, semver_fed, plain_semver_ref, semver_of_text, IsSemVerText};
-ghost use Rattle.version_rules.specs.grammar.SemVer.{semver_front, semver_of, semver_text, SemVerOwns};
+ghost use Rattle.versions.specs.{Errors.IllegalSemver, Errors.ReadsOr, Laws.fed_alike};
 
-use crate::errors::{Error, ReadError};
-use crate::numbers::{Numbers, numbers_match_caret, numbers_match_tilde};
+use crate::errors::{Error, ReadError, or_illegal};
 use crate::optional::{
     build_release, copy_meta, copy_release, copy_text, optional_meta, optional_release, write_tail,
 };
-use crate::reading::or_illegal;
 use serde::{Deserialize, Serialize};
 use std::alloc::{AllocError, Global};
 use std::cmp::Ordering;
@@ -68,7 +61,7 @@ impl SemVer {
     pub fn from_str(alloc: Global, s: &str) -> Result<SemVer, ReadError>
         ensures { ReadsOr plain_semver SemVerOwns (IllegalSemver s.now) result (semver_of s.now) }
     {
-        or_illegal(alloc, SemVer::new(alloc, s)?, s, Error::IllegalSemver)
+        or_illegal(alloc, SemVer::new(alloc, s), s, Error::IllegalSemver)
     }
 
     /// Parses a prefix as a strict version; returns it and the rest, or None. It parses three numbers with dots
@@ -134,6 +127,30 @@ impl SemVer {
     {
         (self.major, self.minor, self.patch)
     }
+}
+
+// Major, minor and patch.
+pub(crate) type Numbers = (u32, u32, u32);
+
+// Returns whether `~wanted` matches the numbers: equal major and minor, and a patch that is not less.
+fn numbers_match_tilde(wanted: Numbers, numbers: Numbers) -> bool
+    ensures { IsTrue result ↔ MatchesTilde wanted numbers }
+{
+    wanted.0 == numbers.0 && wanted.1 == numbers.1 && wanted.2 <= numbers.2
+}
+
+// Returns whether `^wanted` matches the numbers. Leading numbers that are 0 in both are skipped; the next must be
+// equal, and those after it not less, compared in turn.
+fn numbers_match_caret(wanted: Numbers, numbers: Numbers) -> bool
+    ensures { IsTrue result ↔ MatchesCaret wanted numbers }
+{
+    if wanted.0 == 0 && numbers.0 == 0 {
+        if wanted.1 == 0 && numbers.1 == 0 {
+            return wanted.2 == numbers.2;
+        }
+        return wanted.1 == numbers.1 && wanted.2 <= numbers.2;
+    }
+    wanted.0 == numbers.0 && (wanted.1, wanted.2) <= (numbers.1, numbers.2)
 }
 
 /// The default is `0.0.0`.

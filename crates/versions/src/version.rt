@@ -1,29 +1,22 @@
 //! General versions.
 
 ghost use Rattle.std.specs.Prelude.{[], ◌≡◌, ◌∷◌, ◌↔◌, IfOk, IfSome, IsSomeAnd, IsTrue, None, OnErr, Some};
-ghost use Rattle.std.proofs.Common.{ap};
-ghost use Rattle.std.specs.Cmp.{eq_by_cmp_equiv, on_equiv, on_per, partial_equiv_from_equiv};
-ghost use Rattle.std.specs.Option.{is_some, option_map};
-ghost use Rattle.std.specs.Ordering.{eq_by_cmp, on};
-ghost use Rattle.version_rules.specs.grammar.Body.{body_front};
-ghost use Rattle.version_order.specs.texts.Front.{optional};
-ghost use Rattle.version_parts.specs.Body.{Reads};
 ghost use Rattle.version_rules.specs.grammar.Last as plain;
-ghost use Rattle.version_order.specs.keys.Codes.{same_where_tied};
-ghost use Rattle.versions.specs.Errors.{IllegalVersion, ReadsOr};
-ghost use Rattle.versions.specs.Version.{first_part, more_parts, plain_version_ref, plain_version, version_fed};
-ghost use Rattle.version_rules.specs.key.Key.{key_of_version};
+ghost use Rattle.std.proofs.Common.{ap};
+ghost use Rattle.std.specs.{Cmp.eq_by_cmp_equiv, Cmp.on_equiv, Cmp.on_per, Cmp.partial_equiv_from_equiv, Option.is_some, Option.option_map, Ordering.eq_by_cmp, Ordering.on};
 ghost use Rattle.version_rules.specs.grammar.Version.{epoch_front, version_front, version_nth, version_of, version_text, VersionOwns};
-ghost use Rattle.version_rules.specs.laws.Versioning.{version_plain_total, versions_same};
+ghost use Rattle.version_rules.specs.{grammar.Body.body_front, key.Key.key_of_version, laws.Versioning.version_plain_total, laws.Versioning.versions_same, order.Kinds.version_plain_cmp};
 ghost use Rattle.version_rules.specs.requirement.VersionMatch.{epoch_and_parts, MatchesCaret, MatchesTilde};
-ghost use Rattle.version_rules.specs.order.Kinds.{version_plain_cmp};
+ghost use Rattle.version_order.specs.{keys.Codes.same_where_tied, texts.Front.optional};
+ghost use Rattle.version_parts.specs.Body.{Reads};
+ghost use Rattle.versions.specs.Version.{first_part, more_parts, plain_version_ref, plain_version, version_fed};
+ghost use Rattle.versions.specs.Errors.{IllegalVersion, ReadsOr};
 
-use crate::errors::{Error, ReadError};
+use crate::errors::{Error, ReadError, or_illegal};
 use crate::optional::{
     build_release, copy_meta, copy_release, copy_text, optional_meta, optional_release, write_tail,
 };
 use crate::parts::BodyParts;
-use crate::reading::or_illegal;
 use serde::{Deserialize, Serialize};
 use std::alloc::{AllocError, Global};
 use std::cmp::Ordering;
@@ -77,7 +70,7 @@ impl Version {
         ensures { ReadsOr plain_version VersionOwns (IllegalVersion s.now) result
             (version_of s.now) }
     {
-        or_illegal(alloc, Version::new(alloc, s)?, s, Error::IllegalVersion)
+        or_illegal(alloc, Version::new(alloc, s), s, Error::IllegalVersion)
     }
 
     /// Parses a prefix as a general version; returns it and the rest, or None. It parses a number and a colon if both
@@ -305,23 +298,13 @@ fn scan_body(i: &str) -> Option<(Option<u32>, BodyRef<'_>, &str)>
         return None;
     };
     match scan::after_mark(rest, b':') {
-        Some(_) => scan_body_and_epoch(i),
+        Some(_) => {
+            let (epoch, rest) = optional_epoch(i);
+            let (body, rest) = BodyRef::scan(rest)?;
+            Some((epoch, body, rest))
+        }
         None => Some((None, body, rest)),
     }
-}
-
-// The same for a text that may have an epoch.
-#[inline(always)]
-fn scan_body_and_epoch(i: &str) -> Option<(Option<u32>, BodyRef<'_>, &str)>
-    ensures epoch { IfSome result (λ r. r.0 ≡ (optional epoch_front i.now).0) }
-    ensures body { option_map (λ r. (r.1, r.2.now)) result
-        ≡ body_front (optional epoch_front i.now).1 }
-{
-    let (epoch, rest) = optional_epoch(i);
-    let Some((body, rest)) = BodyRef::scan(rest) else {
-        return None;
-    };
-    Some((epoch, body, rest))
 }
 
 // Parses a prefix as an epoch; returns it and the rest, or None and the whole text.

@@ -1,29 +1,23 @@
 //! Versions of any kind.
 
 ghost use Rattle.std.specs.Prelude.{◌≡◌, IfOk, IsSomeAnd, None, OnErr, Some};
-ghost use Rattle.std.specs.Cmp.{eq_by_cmp_equiv, on_equiv, on_per, partial_equiv_from_equiv};
-ghost use Rattle.std.specs.Option.{is_some, option_map};
-ghost use Rattle.std.specs.Ordering.{eq_by_cmp, on};
-ghost use Rattle.version_parts.specs.Body.{Reads};
-ghost use Rattle.versions.specs.Errors.{IllegalVersioning, ReadsOr};
-ghost use Rattle.version_rules.specs.grammar.Versioning.{versioning_kind, is_complex, is_general, is_ideal, kind_rank, semver_nth, versioning_front, versioning_nth, versioning_of, versioning_plain_cmp, versioning_text, VersioningOwns};
-ghost use Rattle.versions.specs.SemVer.{plain_semver};
-ghost use Rattle.versions.specs.Versioning.{plain_versioning, versioning_fed, AnswersAlike};
 ghost use Rattle.version_rules.specs.grammar.Versioning as plain;
+ghost use Rattle.std.specs.{Cmp.eq_by_cmp_equiv, Cmp.on_equiv, Cmp.on_per, Cmp.partial_equiv_from_equiv, Option.is_some, Option.option_map, Ordering.eq_by_cmp, Ordering.on};
+ghost use Rattle.version_parts.specs.Body.{Reads};
+ghost use Rattle.versions.specs.{Errors.IllegalVersioning, Errors.ReadsOr, Laws.versions_fed_alike, SemVer.plain_semver, Versioning.plain_versioning, Versioning.versioning_fed, Versioning.AnswersAlike};
+ghost use Rattle.version_rules.specs.grammar.Versioning.{versioning_kind, is_complex, is_general, is_ideal, kind_rank, semver_nth, versioning_front, versioning_nth, versioning_of, versioning_plain_cmp, versioning_text, VersioningOwns};
 ghost use Rattle.version_rules.specs.laws.Versioning.{versioning_plain_total};
-ghost use Rattle.versions.specs.Laws.{versions_fed_alike};
 ghost use Rattle.version_texts.specs.VersioningRef.{plain_versioning_ref};
 
-use crate::errors::{Error, ReadError};
+use crate::errors::{Error, ReadError, or_illegal};
 use crate::mess::{Mess, MessRef};
-use crate::reading::or_illegal;
 use crate::semver::{SemVer, SemVerRef};
 use crate::version::{Version, VersionRef};
 use std::alloc::{AllocError, Global};
 use std::cmp::Ordering;
 use std::fmt;
 use std::hash::{Hash, Hasher};
-use version_rules::Kind;
+use version_rules::{Asked, Kind};
 use version_texts::VersioningRef;
 
 /// A version of the first kind that fits its text.
@@ -87,7 +81,7 @@ impl Versioning {
     {
         or_illegal(
             alloc,
-            Versioning::new(alloc, s)?,
+            Versioning::new(alloc, s),
             s,
             Error::IllegalVersioning,
         )
@@ -268,6 +262,39 @@ impl Hash for Versioning {
                 state.write_u8(2);
                 complex.hash(state);
             }
+        }
+    }
+}
+
+/// The questions that the operators of requirements ask. No call allocates.
+impl Asked for Versioning {
+    ghost plain = { plain_versioning };
+
+    fn is_same(&self, other: &Versioning) -> bool {
+        self == other
+    }
+
+    fn precedence(&self, other: &Versioning) -> Ordering {
+        Versioning::precedence(self, other)
+    }
+
+    fn matches_tilde(&self, version: &Versioning) -> bool {
+        match (self, version) {
+            (Versioning::Ideal(wanted), Versioning::Ideal(ideal)) => wanted.matches_tilde(ideal),
+            (Versioning::General(wanted), Versioning::General(general)) => {
+                wanted.matches_tilde(general)
+            }
+            _ => false,
+        }
+    }
+
+    fn matches_caret(&self, version: &Versioning) -> bool {
+        match (self, version) {
+            (Versioning::Ideal(wanted), Versioning::Ideal(ideal)) => wanted.matches_caret(ideal),
+            (Versioning::General(wanted), Versioning::General(general)) => {
+                wanted.matches_caret(general)
+            }
+            _ => false,
         }
     }
 }

@@ -1,10 +1,7 @@
-pub mod ByRange
-pub mod Inexact
 pub mod Keys
 pub mod Matching
 pub mod Newest
 pub mod Ranges
 pub mod Schemes
 pub mod Sorting
-pub mod Tags
 pub mod Written

@@ -1,12 +1,8 @@
 -- Sort keys in the caller's buffer.
 use Rattle.std.specs.Prelude.{◌≡◌, ℕ, zero, suc, ◌-◌, ◌^◌, min, ℤ, List, [], ◌++◌, length, Option, Some, None}
 use Rattle.std.specs.Option.{unwrap_or}
-use Rattle.version_schemes.specs.Scheme.{rules}
-use Rattle.version_schemes.specs.declared.scheme.Scheme.TheVariants.{Mixed}
-use Rattle.versions_c.specs.Offsets.{AreOffsets, text_at}
-use Rattle.versions_c.specs.Schemes.{key_by}
-use Rattle.versions_c.specs.Written.{room_status}
-use Rattle.versions_c.specs.declared.status.TheConstants.{NO_VERSION}
+use Rattle.version_schemes.specs.{Scheme.rules, declared.scheme.Scheme.TheVariants.Mixed}
+use Rattle.versions_c.specs.{Schemes.key_by, Written.AreOffsets, Written.text_at, Written.room_status, declared.status.TheConstants.NO_VERSION}
 
 -- the key of the version of mixed that a text is
 abbrev pub spelled_key : List ℕ → Option (List ℕ)

@@ -1,17 +1,13 @@
 -- The ranges of lists in the caller's buffers, and which texts have a version in a range.
-use Rattle.std.specs.Prelude.{◌≡◌, ◌⊎◌, ◌&&◌, ℕ, ℤ, Bool, true, false, bit_and, eqb, not, nat_le, IfSome, IsTrue, List, length, Option, Some, None, if◌then◌else◌}
-use Rattle.std.proofs.Common.{inl, inr, refl}
-use Rattle.std.specs.declared.cmp.Ordering.{Ordering}
-use Rattle.std.specs.declared.cmp.Ordering.TheVariants.{Less, Equal, Greater}
-use Rattle.version_order.specs.keys.Lists.{bytes_cmp}
+use Rattle.std.specs.Prelude.{◌≡◌, ◌⊎◌, ◌&&◌, ℕ, ℤ, Bool, true, false, bit_and, eqb, not, nat_le, IfSome, IsTrue, List, length, Option, Some, None, if◌then◌else◌, [], ◌∷◌, is_some}
+use Rattle.std.specs.declared.cmp.{Ordering.Ordering, Ordering.TheVariants.Less, Ordering.TheVariants.Equal, Ordering.TheVariants.Greater}
+use Rattle.version_order.specs.keys.{Lists.bytes_cmp, Sinks.saturated}
 use Rattle.version_texts.specs.Range.{high_length}
-use Rattle.version_order.specs.keys.Sinks.{saturated}
-use Rattle.version_rules.specs.grammar.Versioning.{versioning_kind, PlainVersioning}
-use Rattle.version_rules.specs.requirement.Range.{IsIn, PlainRange, bytes_of, has_kind, range_of}
-use Rattle.version_rules.specs.requirement.Requirement.{PlainRequirement}
-use Rattle.versions_c.specs.Matching.{bit}
+use Rattle.version_rules.specs.requirement.Range.{IsIn, PlainRange, bytes_of, has_kind, range_of, inexact_text}
+use Rattle.version_rules.specs.{grammar.Versioning.versioning_kind, grammar.Versioning.PlainVersioning, laws.Matching.matches_all_or_not, requirement.Requirement.PlainRequirement, requirement.Requirements.requirements_of}
 use Rattle.versions_c.specs.declared.ranges.TheConstants.{COMPLEX, EXACT, GENERAL, HIGH, IDEAL}
-use Rattle.versions_c.specs.declared.status.TheConstants.{OK, NO_REQUIREMENTS, NO_ROOM}
+use Rattle.versions_c.specs.{Matching.bit, Written.room_status, declared.status.TheConstants.OK, declared.status.TheConstants.NO_REQUIREMENTS, declared.status.TheConstants.NO_ROOM, declared.status.TheConstants.NO_VERSION}
+use Rattle.std.proofs.Common.{inl, inr, refl}
 
 -- whether a flag is one of the flags
 abbrev pub has_flag : ℕ → ℕ → Bool
@@ -86,3 +82,42 @@ is_in_or_not range v =
 abbrev pub in_range_code : PlainRange → Option PlainVersioning → ℕ
 in_range_code range None = 2
 in_range_code range (Some v) = bit (is_in_or_not range v)
+
+-- ---- the members of a list that its range leaves open, in the caller's buffer, and the answers by both
+
+-- the status for a list and the size of a buffer: whether the text of these members fits
+abbrev pub inexact_status : Option (List PlainRequirement) → ℕ → ℤ
+inexact_status None room = NO_REQUIREMENTS
+inexact_status (Some wanted) room = room_status (inexact_text wanted) room
+
+-- ---- a range and the members that it leaves open
+
+-- the members that a text tells: none, or a list
+abbrev pub open_members : List ℕ → Option (List PlainRequirement)
+open_members [] = Some []
+open_members (byte ∷ text) = requirements_of (byte ∷ text)
+
+-- the answer about a version that is in the range or isn't: outside of it no member is asked
+abbrev pub answer_by : {In : Type 0} → In ⊎ ¬ In → Option (List PlainRequirement) → PlainVersioning
+    → Option ℕ
+answer_by (inr out) members v = Some 0
+answer_by (inl is_in) None v = None
+answer_by (inl is_in) (Some members) v = Some (bit (matches_all_or_not members v))
+
+-- the same by a range and a text of members
+abbrev pub by_range : PlainRange → List ℕ → PlainVersioning → Option ℕ
+by_range range members v = answer_by (is_in_or_not range v) (open_members members) v
+
+-- the status for a text, by the answer about its version
+abbrev pub by_range_status : Option PlainVersioning → (PlainVersioning → Option ℕ) → ℤ
+by_range_status None answer = NO_VERSION
+by_range_status (Some v) answer = if is_some (answer v) then OK else NO_REQUIREMENTS
+
+-- A range and a text of members tell a list: the range is the list's, and the members are those that
+-- it leaves open, or all.
+pub record Tell (range : PlainRange) (members : List ℕ) (wanted : List PlainRequirement)
+    : Type 0 where
+  pub list : List ℕ
+  pub parses : requirements_of list ≡ Some wanted
+  pub range_is : range ≡ range_of wanted
+  pub members_are : (members ≡ inexact_text wanted) ⊎ (members ≡ list)

@@ -1,20 +1,14 @@
 -- Sets of versions in the caller's buffers, and what is answered of them.
 use Rattle.std.specs.Prelude.{◌≡◌, ◌≢◌, ◌⊎◌, ◌<◌, ◌≤◌, ◌∷◌, ⊤, ℕ, ℤ, Bool, false, true, IsSome, List, Option, Some, None, length, slice_range}
-use Rattle.version_order.specs.Rules.{Rules}
+use Rattle.version_order.specs.{Keyed.PlainKeyed, Rules.Rules, keys.Sinks.saturated}
 use Rattle.version_schemes.specs.declared.scheme.Scheme.{Scheme}
-use Rattle.version_sets.specs.Form.{Rise, has, form_bytes}
-use Rattle.version_sets.specs.Reader.{IsWrittenSet}
 use Rattle.version_sets.specs.Reading.{Reading, Right, Wrong, fault_of, set_has}
-use Rattle.version_sets.specs.declared.read.fault.Reason.{Reason}
 use Rattle.version_sets.specs.declared.read.fault.Reason.TheVariants.{NoMember, NoOperator, NoParts, NoVersion, NotBare, NotDoubled, NotVersion, OneBar, Slip, StarBehind}
+use Rattle.version_sets.specs.{Form.Rise, Form.has, Form.form_bytes, Reader.IsWrittenSet, declared.read.fault.Reason.Reason}
 use Rattle.version_sets.specs.declared.read.slip.Slip.TheVariants.{LetterV, NoDigit, PartX}
-use Rattle.version_order.specs.keys.Sinks.{saturated}
-use Rattle.version_order.specs.Keyed.{PlainKeyed}
-use Rattle.versions_c.specs.Ranges.{one_if}
-use Rattle.versions_c.specs.Schemes.{reading_by, room_by}
-use Rattle.versions_c.specs.Written.{IsWritten}
-use Rattle.versions_c.specs.declared.sets.TheConstants as reason
 use Rattle.versions_c.specs.declared.status.TheConstants.{NO_FORM, NO_INTERVAL, NO_ROOM, NO_SCHEME, NO_SET, NO_VERSION, NO_WRONG_MEMBER, OK}
+use Rattle.versions_c.specs.{Ranges.one_if, Schemes.reading_by, Schemes.room_by, Written.IsWritten}
+use Rattle.versions_c.specs.declared.sets.TheConstants as reason
 
 -- ---- texts
 

@@ -1,22 +1,12 @@
 -- The places of texts, sorted by the texts' versions.
 use Rattle.std.specs.Prelude.{◌≡◌, ◌==◌, ℕ, ◌+◌, ◌-◌, ◌<◌, List, if◌then◌else◌, length, Option, slice_index}
-use Rattle.std.specs.Cmp.Lexicographic.{slice_cmp}
-use Rattle.std.specs.List.{range_with_len}
-use Rattle.std.specs.List.Sorted.{IsPermutation}
-use Rattle.std.specs.Option.{option_map_or}
-use Rattle.std.specs.Ordering.{bool_cmp, nat_cmp, on, then_cmp}
-use Rattle.std.specs.declared.cmp.Ordering.{Ordering}
+use Rattle.std.specs.{Cmp.Lexicographic.slice_cmp, List.range_with_len, List.Sorted.IsPermutation, Option.option_map_or, Ordering.bool_cmp, Ordering.nat_cmp, Ordering.on, Ordering.then_cmp, declared.cmp.Ordering.Ordering}
 use Rattle.std.specs.declared.cmp.Ordering.TheVariants.{Less}
-use Rattle.version_rules.specs.grammar.Versioning.{versioning_kind, versioning_of}
+use Rattle.version_rules.specs.{declared.kind.Kind.Kind, declared.kind.Kind.TheVariants.Ideal, grammar.Versioning.versioning_kind, grammar.Versioning.versioning_of, order.Orders.versioning_cmp}
 use Rattle.version_order.specs.keys.Lists.{bytes_cmp, none_last_cmp}
-use Rattle.version_rules.specs.order.Orders.{versioning_cmp}
-use Rattle.version_rules.specs.declared.kind.Kind.{Kind}
-use Rattle.version_rules.specs.declared.kind.Kind.TheVariants.{Ideal}
-use Rattle.version_schemes.specs.Scheme.{is_mixed, rules}
-use Rattle.version_schemes.specs.declared.scheme.Scheme.{Scheme}
+use Rattle.version_schemes.specs.{Scheme.is_mixed, Scheme.rules, declared.scheme.Scheme.Scheme}
 use Rattle.version_texts.specs.Order.{kind_on, marked_number, texts_tie}
-use Rattle.versions_c.specs.Offsets.{AreOffsets, text_at}
-use Rattle.versions_c.specs.Schemes.{key_by}
+use Rattle.versions_c.specs.{Schemes.key_by, Written.AreOffsets, Written.text_at}
 
 -- two places: by the versions of mixed that their texts are, a text that is not a version last, and
 -- ties as numbers

@@ -3,8 +3,7 @@
 ghost use Rattle.std.specs.Prelude.{◌≡◌, ◌≢◌, IfSome, is_some};
 ghost use Rattle.version_rules.specs.grammar.Versioning.{versioning_of};
 ghost use Rattle.version_texts.specs.Order.{difference_of};
-ghost use Rattle.versions_c.specs.Difference.{number_of, part_of};
-ghost use Rattle.versions_c.specs.Order.{pair_status};
+ghost use Rattle.versions_c.specs.Order.{number_of, part_of, pair_status};
 
 use crate::order::pair_status;
 use crate::status::OK;

@@ -1,11 +1,9 @@
 //! Why a text is no version of a scheme, and how far it could become one.
 
 ghost use Rattle.std.specs.Prelude.{◌≡◌, ◌≢◌, None, false, true, IfSome};
-ghost use Rattle.version_schemes.specs.Scheme.{numbered};
-ghost use Rattle.version_schemes.specs.Flaw.{is_version, reason_at};
+ghost use Rattle.version_schemes.specs.{Flaw.is_version, Flaw.reason_at, Scheme.numbered, declared.flaw.Reason.TheVariants.NothingAfter};
 ghost use Rattle.version_order.specs.Viable.{IsLongestViable};
-ghost use Rattle.version_schemes.specs.declared.flaw.Reason.TheVariants.{NothingAfter};
-ghost use Rattle.versions_c.specs.Flaw.{IsWhyWritten, reason_code, wrong_status};
+ghost use Rattle.versions_c.specs.Schemes.{IsWhyWritten, reason_code, wrong_status};
 
 use crate::schemes::write_text;
 use crate::status::{IS_VERSION, NO_ROOM, NO_SCHEME, OK};
@@ -64,17 +62,6 @@ pub extern "C" fn versions_wrong(
     let Some(scheme) = Scheme::of_number(scheme) else {
         return NO_SCHEME;
     };
-    put_wrong(scheme, text, place, reason)
-}
-
-// Writes how far a text could become a version of a scheme, and why it is none.
-fn put_wrong(scheme: Scheme, text: &[u8], place: &mut usize, reason: &mut u32) -> i32
-    ensures status { result ≡ wrong_status (is_version scheme text.now) }
-    ensures place { result ≡ OK → IsLongestViable (is_version scheme) text.now place.new }
-    ensures reason { result ≡ OK → reason.new ≡ reason_code (reason_at scheme text.now place.new) }
-    ensures kept_place { result ≢ OK → place.new ≡ place.old }
-    ensures kept_reason { result ≢ OK → reason.new ≡ reason.old }
-{
     let Some(flaw) = Flaw::of(scheme, text) else {
         return IS_VERSION;
     };
@@ -102,17 +89,6 @@ pub extern "C" fn versions_wrong_text(
     let Some(scheme) = Scheme::of_number(scheme) else {
         return NO_SCHEME;
     };
-    put_wrong_text(scheme, text, why, why_len)
-}
-
-// Writes why a text is no version of a scheme, in words.
-fn put_wrong_text(scheme: Scheme, text: &[u8], why: &mut [u8], why_len: &mut usize) -> i32
-    ensures why { is_version scheme text.now ≡ false →
-        IsWhyWritten scheme text.now why.old why.new why_len.new result }
-    ensures right { is_version scheme text.now ≡ true → result ≡ IS_VERSION }
-    ensures kept { result ≢ OK → why.new ≡ why.old }
-    ensures no_length { result ≢ OK → result ≢ NO_ROOM → why_len.new ≡ why_len.old }
-{
     let Some(flaw) = Flaw::of(scheme, text) else {
         return IS_VERSION;
     };
@@ -125,7 +101,13 @@ fn reason_code(reason: Reason) -> u32
 {
     match reason {
         Reason::Empty => EMPTY,
-        Reason::NothingAfter(mark) => code_after(mark),
+        Reason::NothingAfter(Mark::Hyphen) => AFTER_HYPHEN,
+        Reason::NothingAfter(Mark::Plus) => AFTER_PLUS,
+        Reason::NothingAfter(Mark::Dot) => AFTER_DOT,
+        Reason::NothingAfter(Mark::Colon) => AFTER_COLON,
+        Reason::NothingAfter(Mark::Underscore) => AFTER_UNDERSCORE,
+        Reason::NothingAfter(Mark::Tilde) => AFTER_TILDE,
+        Reason::NothingAfter(Mark::Exclamation) => AFTER_EXCLAMATION,
         Reason::Unfinished => UNFINISHED,
         Reason::Blank => BLANK,
         Reason::Control => CONTROL,
@@ -134,20 +116,5 @@ fn reason_code(reason: Reason) -> u32
         Reason::LeadingZero => LEADING_ZERO,
         Reason::LateColon => LATE_COLON,
         Reason::Other => OTHER,
-    }
-}
-
-// Returns the number of the reason that nothing follows a mark.
-fn code_after(mark: Mark) -> u32
-    ensures { result ≡ reason_code (NothingAfter mark) }
-{
-    match mark {
-        Mark::Hyphen => AFTER_HYPHEN,
-        Mark::Plus => AFTER_PLUS,
-        Mark::Dot => AFTER_DOT,
-        Mark::Colon => AFTER_COLON,
-        Mark::Underscore => AFTER_UNDERSCORE,
-        Mark::Tilde => AFTER_TILDE,
-        Mark::Exclamation => AFTER_EXCLAMATION,
     }
 }

@@ -2,14 +2,10 @@
 
 ghost use Rattle.std.specs.Prelude.{◌≡◌, ◌≢◌, ◌↔◌, ◌<◌, ◌≤◌, ◌++◌, [], drop, length, IfSome, List, Some};
 ghost use Rattle.version_texts.specs.VersioningRef.{plain_versioning_ref};
-ghost use Rattle.version_rules.specs.requirement.Range.{inexact_members, inexact_text, range_of, IsIn};
-ghost use Rattle.version_rules.specs.requirement.Matching.{MatchesAll};
-ghost use Rattle.version_rules.specs.requirement.Requirement.{PlainRequirement};
-ghost use Rattle.version_rules.specs.requirement.Requirements.{requirements_of};
-ghost use Rattle.version_rules.specs.grammar.Versioning.{versioning_of, PlainVersioning};
-ghost use Rattle.versions_c.specs.Inexact.{by_range, by_range_status, inexact_status, Tell};
+ghost use Rattle.version_rules.specs.{grammar.Versioning.versioning_of, grammar.Versioning.PlainVersioning, requirement.Matching.MatchesAll};
+ghost use Rattle.version_rules.specs.requirement.{Range.inexact_members, Range.inexact_text, Range.range_of, Range.IsIn, Requirement.PlainRequirement, Requirements.requirements_of};
+ghost use Rattle.versions_c.specs.Ranges.{by_range, by_range_status, inexact_status, Tell, range_with};
 ghost use Rattle.versions_c.specs.Matching.{match_code, match_status};
-ghost use Rattle.versions_c.specs.Ranges.{range_with};
 
 use crate::ranges::code;
 use crate::status::{NO_REQUIREMENTS, NO_ROOM, NO_VERSION, OK};

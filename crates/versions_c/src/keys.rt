@@ -3,14 +3,9 @@
 ghost use Rattle.std.specs.Prelude.{◌≡◌, ◌≢◌, ◌↔◌, ◌+◌, ◌<◌, ◌≤◌, ◌++◌, drop, length, slice_index, IfSome, IsTrue, List, None, ℕ};
 ghost use Rattle.version_rules.specs.grammar.Versioning.{versioning_of};
 ghost use Rattle.version_schemes.specs.Scheme.{numbered, rules};
-ghost use Rattle.version_order.specs.keys.Sinks.{put_at, saturated};
-ghost use Rattle.version_order.specs.Facts.{key_room};
+ghost use Rattle.version_order.specs.{Facts.key_room, keys.Sinks.put_at, keys.Sinks.saturated};
 ghost use Rattle.versions_c.specs.Keys.{all_keys, key_status, keys_before, saturated_signed, spelled_key, AreKeyOffsets};
-ghost use Rattle.versions_c.specs.Written.{room_status};
-ghost use Rattle.versions_c.specs.Kinds.{kind_of};
-ghost use Rattle.versions_c.specs.Offsets.{AreOffsets};
-ghost use Rattle.versions_c.specs.Schemes.{key_by};
-ghost use Rattle.versions_c.specs.Sorting.{IsMarked};
+ghost use Rattle.versions_c.specs.{Fields.kind_of, Schemes.key_by, Sorting.IsMarked, Written.room_status, Written.AreOffsets};
 
 use crate::kinds::kind_number;
 use crate::offsets::{LARGEST, are_offsets, text_at};

@@ -2,8 +2,7 @@
 
 ghost use Rattle.std.specs.Prelude.{◌≡◌, ◌≢◌, ◌<◌, ℕ, if◌then◌else◌, length, pos, slice_index, IfSome, Some};
 ghost use Rattle.version_rules.specs.grammar.Versioning.{versioning_kind, is_prerelease, versioning_of, PlainVersioning};
-ghost use Rattle.versions_c.specs.Kinds.{kind_of, version_status};
-ghost use Rattle.versions_c.specs.Offsets.{text_at, AreOffsets};
+ghost use Rattle.versions_c.specs.{Fields.kind_of, Fields.version_status, Written.text_at, Written.AreOffsets};
 
 use crate::offsets::{answer_each, are_offsets};
 use crate::status::{BAD_OFFSETS, NO_VERSION, OK};

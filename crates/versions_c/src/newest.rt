@@ -1,14 +1,9 @@
 //! The newest of many texts.
 
 ghost use Rattle.std.specs.Prelude.{◌≡◌, ◌≢◌, ◌↔◌, ◌-◌, ◌+◌, ◌<◌, ◌≤◌, ℕ, length, IfNone, IfSome, List, None};
-ghost use Rattle.version_rules.specs.requirement.Requirements.{requirements_of};
-ghost use Rattle.version_rules.specs.grammar.Versioning.{PlainVersioning};
-ghost use Rattle.version_tasks.specs.Newest.{IsWanted, NoVersion};
-ghost use Rattle.version_tasks.specs.Stability.{rank};
-ghost use Rattle.version_tasks.specs.declared.stability.Stability.{Stability};
-ghost use Rattle.versions_c.specs.Newest.{asked_at, IsAsked, IsNewestPlace};
-ghost use Rattle.versions_c.specs.Offsets.{text_at, AreOffsets};
-ghost use Rattle.versions_c.specs.declared.stabilities.TheConstants.{STABLE};
+ghost use Rattle.version_rules.specs.{grammar.Versioning.PlainVersioning, requirement.Requirements.requirements_of};
+ghost use Rattle.version_tasks.specs.{Newest.IsWanted, Newest.NoVersion, Stability.rank, declared.stability.Stability.Stability};
+ghost use Rattle.versions_c.specs.{Newest.asked_at, Newest.IsAsked, Newest.IsNewestPlace, Written.text_at, Written.AreOffsets, declared.stabilities.TheConstants.STABLE};
 
 use crate::offsets::{are_offsets, text_at};
 use crate::stabilities::{ALPHA, BETA, RC, STABLE};

@@ -3,9 +3,8 @@
 ghost use Rattle.std.specs.Prelude.{◌≡◌, ◌≢◌};
 ghost use Rattle.std.specs.Option.{option_map};
 ghost use Rattle.version_rules.specs.grammar.Versioning.{versioning_of};
-ghost use Rattle.version_tasks.specs.Next.{IsOfForm, last_place};
-ghost use Rattle.version_tasks.specs.NextPre.{IsOfPreForm};
-ghost use Rattle.versions_c.specs.Next.{IsAnswered, given_word};
+ghost use Rattle.version_tasks.specs.{Next.IsOfForm, Next.last_place, NextPre.IsOfPreForm};
+ghost use Rattle.versions_c.specs.Newest.{IsAnswered, given_word};
 
 use crate::status::{NO_NEXT, NO_ROOM, NO_VERSION, OK};
 use version_tasks::{next_of, next_pre, next_release};

@@ -1,10 +1,9 @@
 //! The numbers of a version.
 
 ghost use Rattle.std.specs.Prelude.{◌≡◌, ◌≢◌, IfSome, Some};
-ghost use Rattle.version_rules.specs.key.Key.{versioning_epoch};
-ghost use Rattle.version_rules.specs.grammar.Versioning.{versioning_nth, versioning_of};
+ghost use Rattle.version_rules.specs.{grammar.Versioning.versioning_nth, grammar.Versioning.versioning_of, key.Key.versioning_epoch};
 ghost use Rattle.version_texts.specs.VersioningRef.{largest_epoch};
-ghost use Rattle.versions_c.specs.Numbers.{epoch_status, number_status};
+ghost use Rattle.versions_c.specs.Fields.{epoch_status, number_status};
 
 use crate::status::{LARGE_EPOCH, NO_NUMBER, NO_VERSION, OK};
 use version_texts::{LARGEST_EPOCH, VersioningRef};

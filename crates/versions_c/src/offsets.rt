@@ -2,7 +2,7 @@
 
 ghost use Rattle.std.specs.Prelude.{◌≡◌, ◌↔◌, ◌+◌, ◌<◌, length, slice_index, IsTrue, ℕ};
 ghost use Rattle.std.specs.Fn.{FnReturnsAt};
-ghost use Rattle.versions_c.specs.Offsets.{text_at, AreOffsets};
+ghost use Rattle.versions_c.specs.Written.{text_at, AreOffsets};
 
 /// The largest signed number of 64 bits: the largest offset that C has.
 pub const LARGEST: u64 = 0x7FFF_FFFF_FFFF_FFFF;

@@ -1,9 +1,8 @@
 //! How two versions compare.
 
 ghost use Rattle.std.specs.Prelude.{◌≡◌, ◌≢◌, IfSome, None, is_some};
-ghost use Rattle.version_rules.specs.grammar.Versioning.{versioning_of};
+ghost use Rattle.version_rules.specs.{grammar.Versioning.versioning_of, order.Orders.versioning_cmp};
 ghost use Rattle.version_order.specs.keys.Lists.{bytes_cmp};
-ghost use Rattle.version_rules.specs.order.Orders.{versioning_cmp};
 ghost use Rattle.version_schemes.specs.Scheme.{numbered, rules};
 ghost use Rattle.versions_c.specs.Order.{pair_status, order_code};
 

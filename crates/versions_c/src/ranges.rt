@@ -2,15 +2,10 @@
 
 ghost use Rattle.std.specs.Prelude.{◌≡◌, ◌≢◌, ◌<◌, ◌≤◌, if◌then◌else◌, is_some, length, slice_index, take, IfSome, List, None, Some, [], ℕ};
 ghost use Rattle.std.specs.Option.{option_map};
-ghost use Rattle.version_rules.specs.requirement.Range.{range_of};
-ghost use Rattle.version_rules.specs.requirement.Requirement.{PlainRequirement};
-ghost use Rattle.version_rules.specs.requirement.Requirements.{requirements_of};
-ghost use Rattle.version_rules.specs.grammar.Versioning.{versioning_of};
-ghost use Rattle.version_texts.specs.VersioningRef.{plain_versioning_ref};
-ghost use Rattle.version_texts.specs.Key.{room_for};
-ghost use Rattle.versions_c.specs.Kinds.{version_status};
-ghost use Rattle.versions_c.specs.Offsets.{text_at, AreOffsets};
+ghost use Rattle.version_rules.specs.{grammar.Versioning.versioning_of, requirement.Range.range_of, requirement.Requirement.PlainRequirement, requirement.Requirements.requirements_of};
+ghost use Rattle.version_texts.specs.{Key.room_for, VersioningRef.plain_versioning_ref};
 ghost use Rattle.versions_c.specs.Ranges.{has_flag, in_range_code, one_if, range_status, range_with, AreLengths};
+ghost use Rattle.versions_c.specs.{Fields.version_status, Written.text_at, Written.AreOffsets};
 
 use crate::offsets::{answer_each, are_offsets};
 use crate::status::{BAD_OFFSETS, NO_REQUIREMENTS, NO_ROOM, NO_VERSION, OK};

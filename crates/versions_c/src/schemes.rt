@@ -2,8 +2,7 @@
 
 ghost use Rattle.std.specs.Prelude.{◌≡◌, ◌≢◌, IfSome, None, is_some};
 ghost use Rattle.version_schemes.specs.Scheme.{numbered, rules, scheme_named, scheme_number};
-ghost use Rattle.versions_c.specs.Ranges.{one_if};
-ghost use Rattle.versions_c.specs.Written.{IsWritten};
+ghost use Rattle.versions_c.specs.{Ranges.one_if, Written.IsWritten};
 
 use crate::status::{NO_ROOM, NO_SCHEME, OK};
 use version_order::SchemeVersion;

@@ -5,10 +5,8 @@ ghost use Rattle.std.specs.Result.{IsOkAnd};
 ghost use Rattle.version_schemes.specs.Scheme.{numbered, rules};
 ghost use Rattle.version_sets.specs.Form.{has, IsPart, Meet, Rise, ends_early, form_bytes, interval_at, intervals};
 ghost use Rattle.version_sets.specs.Set.{by_rule, ends_of, left};
-ghost use Rattle.versions_c.specs.Offsets.{text_at, AreOffsets};
-ghost use Rattle.versions_c.specs.Ranges.{one_if};
 ghost use Rattle.versions_c.specs.Sets.{has_code, has_status, interval_status, scheme_status, IsInterval, IsMade, TellsEarly};
-ghost use Rattle.versions_c.specs.Written.{IsWritten};
+ghost use Rattle.versions_c.specs.{Ranges.one_if, Written.text_at, Written.AreOffsets, Written.IsWritten};
 
 use crate::offsets::{answer_each, are_offsets};
 use crate::status::{

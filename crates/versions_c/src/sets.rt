@@ -3,16 +3,9 @@
 ghost use Rattle.std.specs.Prelude.{◌≡◌, ◌≢◌, ◌<◌, None, IfErr, IfOk, IfSome, length};
 ghost use Rattle.std.specs.Option.{option_map};
 ghost use Rattle.version_schemes.specs.Scheme.{numbered, rules, scheme_number};
-ghost use Rattle.version_sets.specs.Comparison.{ends_with};
-ghost use Rattle.version_sets.specs.Form.{form_bytes};
-ghost use Rattle.version_sets.specs.Reader.{IsUnread};
-ghost use Rattle.version_sets.specs.Reading.{fault_of};
-ghost use Rattle.version_sets.specs.Set.{reason_text};
-ghost use Rattle.version_sets.specs.declared.read.comparison.Comparison.TheVariants.{Equal};
+ghost use Rattle.version_sets.specs.{Comparison.ends_with, Form.form_bytes, Reader.IsUnread, Reading.fault_of, Set.reason_text, declared.read.comparison.Comparison.TheVariants.Equal};
 ghost use Rattle.version_order.specs.keys.Sinks.{saturated};
-ghost use Rattle.versions_c.specs.Schemes.{reading_by, room_by};
-ghost use Rattle.versions_c.specs.Sets.{reason_code, wrong_set_status, IsForm, IsRead};
-ghost use Rattle.versions_c.specs.Written.{IsWritten};
+ghost use Rattle.versions_c.specs.{Schemes.reading_by, Schemes.room_by, Sets.reason_code, Sets.wrong_set_status, Sets.IsForm, Sets.IsRead, Written.IsWritten};
 
 use crate::schemes::write_text;
 use crate::status::{NO_ROOM, NO_SCHEME, NO_SET, NO_VERSION, NO_WRONG_MEMBER, OK};
@@ -64,15 +57,6 @@ pub extern "C" fn versions_set(
     let Some(scheme) = Scheme::of_number(scheme) else {
         return NO_SCHEME;
     };
-    put_set(scheme, text, form, form_len)
-}
-
-// Writes the form of a set of a scheme that a text is.
-fn put_set(scheme: Scheme, text: &[u8], form: &mut [u8], form_len: &mut usize) -> i32
-    ensures set { IsRead (rules scheme) (scheme_number scheme) text.now form.old form.new form_len.new result }
-    ensures kept { result ≢ OK → result ≢ NO_ROOM → form.new ≡ form.old }
-    ensures no_length { result ≢ OK → result ≢ NO_ROOM → form_len.new ≡ form_len.old }
-{
     // A set is read into the buffer, so a text that is none has to be known before.
     if fault_in(scheme, text).is_some() {
         return NO_SET;
@@ -144,17 +128,6 @@ pub extern "C" fn versions_set_wrong(
     let Some(scheme) = Scheme::of_number(scheme) else {
         return NO_SCHEME;
     };
-    put_wrong(scheme, text, place, reason)
-}
-
-// Writes where a text is no set of a scheme, and why.
-fn put_wrong(scheme: Scheme, text: &[u8], place: &mut usize, reason: &mut u32) -> i32
-    ensures status { result ≡ wrong_set_status (fault_of (reading_by (rules scheme) text.now)) }
-    ensures wrong { result ≡ OK → IfSome (fault_of (reading_by (rules scheme) text.now))
-        (λ fault. (place.new ≡ fault.0) × (reason.new ≡ reason_code fault.1)) }
-    ensures kept_place { result ≢ OK → place.new ≡ place.old }
-    ensures kept_reason { result ≢ OK → reason.new ≡ reason.old }
-{
     let Some(fault) = fault_in(scheme, text) else {
         return NO_WRONG_MEMBER;
     };
@@ -198,17 +171,6 @@ pub extern "C" fn versions_set_wrong_text(
     let Some(scheme) = Scheme::of_number(scheme) else {
         return NO_SCHEME;
     };
-    put_wrong_text(scheme, text, why, why_len)
-}
-
-// Writes why a text is no set of a scheme, as a sentence.
-fn put_wrong_text(scheme: Scheme, text: &[u8], why: &mut [u8], why_len: &mut usize) -> i32
-    ensures why { IfSome (fault_of (reading_by (rules scheme) text.now))
-        (λ fault. IsWritten (reason_text fault.1) why.old why.new why_len.new result) }
-    ensures right { fault_of (reading_by (rules scheme) text.now) ≡ None → result ≡ NO_WRONG_MEMBER }
-    ensures kept { result ≢ OK → why.new ≡ why.old }
-    ensures no_length { result ≢ OK → result ≢ NO_ROOM → why_len.new ≡ why_len.old }
-{
     let Some(fault) = fault_in(scheme, text) else {
         return NO_WRONG_MEMBER;
     };

@@ -1,16 +1,11 @@
 //! Many texts, sorted by their versions.
 
 ghost use Rattle.std.specs.Prelude.{◌≡◌, ◌≢◌, ◌↔◌, ℕ, ◌<◌, ◌≤◌, ◌+◌, ◌++◌, drop, false, length, map, slice_index, IfSome, IsTrue, None};
-ghost use Rattle.std.specs.List.{range_with_len};
-ghost use Rattle.std.specs.List.Sorted.{IsPermutation, IsSorted};
-ghost use Rattle.version_schemes.specs.Scheme.{numbered, rules};
-ghost use Rattle.version_schemes.specs.declared.scheme.Scheme.TheVariants.{Mixed};
-ghost use Rattle.versions_c.specs.Keys.{all_keys, keys_before, saturated_signed, spelled_key};
-ghost use Rattle.versions_c.specs.Written.{room_status};
-ghost use Rattle.versions_c.specs.Offsets.{text_at, AreOffsets};
-ghost use Rattle.versions_c.specs.Schemes.{key_by};
-ghost use Rattle.version_texts.specs.Order.{marked_number};
+ghost use Rattle.std.specs.{List.range_with_len, List.Sorted.IsPermutation, List.Sorted.IsSorted};
+ghost use Rattle.version_schemes.specs.{Scheme.numbered, Scheme.rules, declared.scheme.Scheme.TheVariants.Mixed};
 ghost use Rattle.versions_c.specs.Sorting.{keyed_cmp, keys_cmp, lying_cmp, tied_cmp, AreInOrder, AreSortOffsets, IsMarked};
+ghost use Rattle.versions_c.specs.{Keys.all_keys, Keys.keys_before, Keys.saturated_signed, Keys.spelled_key, Schemes.key_by, Written.room_status, Written.text_at, Written.AreOffsets};
+ghost use Rattle.version_texts.specs.Order.{marked_number};
 
 use crate::keys::{is_always_room, put_keys, put_keys_in};
 use crate::offsets::{are_offsets, text_at};

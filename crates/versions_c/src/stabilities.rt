@@ -3,8 +3,7 @@
 ghost use Rattle.std.specs.Prelude.{◌≡◌, ◌≢◌, ◌<◌, ◌+◌, ℕ, length, pos, slice_index};
 ghost use Rattle.version_rules.specs.grammar.Versioning.{versioning_of};
 ghost use Rattle.version_tasks.specs.Stability.{rank};
-ghost use Rattle.versions_c.specs.Offsets.{text_at, AreOffsets};
-ghost use Rattle.versions_c.specs.Stabilities.{stability_number};
+ghost use Rattle.versions_c.specs.{Newest.stability_number, Written.text_at, Written.AreOffsets};
 
 use crate::offsets::{answer_each, are_offsets};
 use crate::status::{BAD_OFFSETS, OK};

@@ -3,9 +3,7 @@
 ghost use Rattle.std.specs.Prelude.{◌≡◌, ◌≢◌, ◌<◌, ℕ, drop, length, slice_index, IfSome};
 ghost use Rattle.version_rules.specs.grammar.Versioning.{versioning_text};
 ghost use Rattle.version_tasks.specs.Tag.{version_after_prefix, version_in_tag};
-ghost use Rattle.versions_c.specs.Kinds.{version_status};
-ghost use Rattle.versions_c.specs.Offsets.{AreOffsets};
-ghost use Rattle.versions_c.specs.Tags.{IsStart};
+ghost use Rattle.versions_c.specs.{Fields.version_status, Newest.IsStart, Written.AreOffsets};
 
 use crate::offsets::{are_offsets, text_at};
 use crate::status::{BAD_OFFSETS, NO_VERSION, OK};

@@ -1,12 +1,9 @@
 //! Which member of a list of requirements does not match a version, and which two members exclude each other.
 
 ghost use Rattle.std.specs.Prelude.{◌≡◌, ◌≢◌, IfSome};
-ghost use Rattle.version_rules.specs.requirement.Range.{range_of};
-ghost use Rattle.version_rules.specs.requirement.Requirements.{requirements_of};
-ghost use Rattle.version_rules.specs.grammar.Versioning.{versioning_of};
-ghost use Rattle.version_texts.specs.Requirement.{ExcludeEachOther, IsByEnds};
-ghost use Rattle.version_texts.specs.Range.{IsCrossed};
-ghost use Rattle.versions_c.specs.Why.{why_code, why_status, IsConflictStatus, IsExplained, IsToldWhy};
+ghost use Rattle.version_rules.specs.{grammar.Versioning.versioning_of, requirement.Range.range_of, requirement.Requirements.requirements_of};
+ghost use Rattle.version_texts.specs.{Range.IsCrossed, Requirement.ExcludeEachOther, Requirement.IsByEnds};
+ghost use Rattle.versions_c.specs.Matching.{why_code, why_status, IsConflictStatus, IsExplained, IsToldWhy};
 
 use crate::matching::status_without_version;
 use crate::status::{ALL_MATCH, NO_CONFLICT, NO_REQUIREMENTS, NO_ROOM, OK};

@@ -4,7 +4,7 @@
 
 ghost use Rattle.std.specs.Prelude.{◌≡◌, if◌then◌else◌, MatchResult};
 ghost use Rattle.std.specs.Process.{exit_status};
-ghost use Rattle.version_words.specs.Fault.{status_of};
+ghost use Rattle.version_words.specs.Wrong.{status_of};
 
 mod files;
 mod output;

@@ -1,17 +1,12 @@
 -- How long the key of a version of Debian may be.
-use Rattle.std.proofs.Common.{◌≡◌, ◌≤◌, ◌+◌, ◌*◌, ◌++◌, ◌∷◌, [], ℕ, Bool, List, IfSome, false, true, ap, arith, length, refl}
-use Rattle.std.proofs.lemmas.List.{length-append}
-use Rattle.std.specs.Char.{is_ascii_digit}
-use Rattle.std.specs.List.{list_all}
-use Rattle.std.specs.Str.Parse.{digits_value}
+use Rattle.std.proofs.Common.{[], ◌≡◌, ◌≤◌, ◌+◌, ◌*◌, ◌++◌, ◌∷◌, ℕ, List, IfSome, true, arith, length, refl}
+use Rattle.std.proofs.lemmas.{Grind.common_steps, List.length-append}
+use Rattle.std.specs.{Char.is_ascii_digit, List.list_all, Str.Parse.digits_value}
 use Rattle.version_order.proofs.lemmas.Costs.{digits_cost, digits_room, ends_cost, epoch_costs, some_if, some_map, some_then, where_cut}
-use Rattle.version_order.specs.Facts.{key_room}
-use Rattle.version_order.specs.Keyed.{AreWithin}
-use Rattle.version_order.specs.keys.Codes.{list_bytes}
-use Rattle.version_order.specs.keys.NumberBytes.{number_bytes}
-use Rattle.scheme_deb.specs.Deb.{deb_facts, deb_rules}
+use Rattle.version_order.specs.{Facts.key_room, Keyed.AreWithin, keys.Codes.list_bytes, keys.Codes.number_bytes}
 use Rattle.scheme_deb.specs.Order.{Part, PlainDeb, byte_code, deb_bytes, more_bytes, part_bytes}
-use Rattle.scheme_deb.specs.Texts.{Cut, behind_epoch, cut_of, deb_of, is_revision, is_upstream, mores, of_cut, part_of, put, put_digit, revision_of, upstream_of}
+use Rattle.scheme_deb.specs.Texts.{Cut, behind_epoch, cut_of, deb_of, is_revision, is_upstream, mores, of_cut, part_of, revision_of, upstream_of}
+use Rattle.scheme_deb.specs.Deb.{deb_facts, deb_rules}
 
 -- the bytes of a run, with its end where it is not empty
 abbrev run_room : List ℕ → ℕ
@@ -29,13 +24,7 @@ run_length (byte ∷ run) = omega (arith, run_length run)
 pair_length : (run digits rest : List ℕ) → list_all is_ascii_digit digits ≡ true
     → length ((list_bytes byte_code run ++ number_bytes (digits_value 10 digits)) ++ rest)
     ≤ length run + 1 + digits_room digits + length rest
-pair_length run digits rest all = omega (
-  arith,
-  run_length run,
-  digits_cost digits all,
-  length-append (list_bytes byte_code run) (number_bytes (digits_value 10 digits)),
-  length-append (list_bytes byte_code run ++ number_bytes (digits_value 10 digits)) rest,
-)
+pair_length run digits rest all = grind (arith, common_steps, run_length, digits_cost, length-append)
 
 -- the bytes of a cut, but for the end of an empty run, are at most two for each byte of its text, and two
 record Fits (text : List ℕ) (cut : Cut) : Type 0 where
@@ -44,47 +33,14 @@ record Fits (text : List ℕ) (cut : Cut) : Type 0 where
 
 next_room : (byte : ℕ) (run digits : List ℕ) → (length run ≤ run_room run)
     × (run_room (byte ∷ run) ≤ run_room run + 2) × (digits_room (byte ∷ digits) ≤ digits_room digits + 2)
-next_room byte [] [] = (omega arith, omega arith, omega arith)
-next_room byte [] (digit ∷ digits) = (omega arith, omega arith, omega arith)
-next_room byte (first ∷ run) [] = (omega arith, omega arith, omega arith)
-next_room byte (first ∷ run) (digit ∷ digits) = (omega arith, omega arith, omega arith)
+next_room byte run digits = grind (arith, common_steps)
 
 fits : (text : List ℕ) → Fits text (cut_of text)
 fits [] = record { digits = refl; room = omega arith }
-fits (byte ∷ text) = by (is_ascii_digit byte) refl (cut_of text) (fits text)
-  where
-    digit : is_ascii_digit byte ≡ true → (run : List ℕ) (cut : Cut) → cut.run ≡ run → Fits text cut
-        → Fits (byte ∷ text) (put_digit byte run cut)
-    digit is [] cut e rest = record {
-      digits = rw is rest.digits;
-      room = omega (arith, rest.room, (next_room byte cut.run cut.digits).2);
-    }
-    digit is (first ∷ run) cut e rest = record {
-      digits = rw is refl;
-      room = omega (
-        arith,
-        rest.room,
-        ap run_room e,
-        pair_length run cut.digits (list_bytes more_bytes (mores cut.more)) rest.digits,
-      );
-    }
-
-    by : (is : Bool) → is_ascii_digit byte ≡ is → (cut : Cut) → Fits text cut → Fits (byte ∷ text) (put byte cut)
-    by true is cut rest = rw is (digit is cut.run cut refl rest)
-    by false is cut rest = rw is (record {
-      digits = rest.digits;
-      room = omega (arith, rest.room, (next_room byte cut.run cut.digits).1);
-    })
+fits (byte ∷ text) = grind (arith, common_steps, fits text, next_room, pair_length)
 
 part_cost : (text : List ℕ) → length (part_bytes (part_of text)) ≤ length text * 2 + 3
-part_cost text =
-    let cut = cut_of text in
-    omega (
-      arith,
-      (fits text).room,
-      (next_room 0 cut.run []).0,
-      pair_length cut.run cut.digits (list_bytes more_bytes (mores cut.more)) (fits text).digits,
-    )
+part_cost text = grind (arith, common_steps, fits, next_room, pair_length)
 
 -- a version behind its epoch
 behind_cost : (epoch : ℕ) (text : List ℕ)

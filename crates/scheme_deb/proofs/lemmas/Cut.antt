@@ -1,25 +1,12 @@
 -- Texts in runs and digits, and how they compare, and are written, from the beginning on.
-use Rattle.std.proofs.Common.{◌≡◌, ◌∙◌, ◌⊎◌, ◌<◌, ◌≤◌, ◌==◌, ◌++◌, ◌∷◌, [], true, false, ℕ, Bool, List, Option, None, Some, ap, append_assoc, arith, drop, inl, inr, length, refl, sym}
-use Rattle.std.proofs.lemmas.Bool.{eqb-true}
-use Rattle.std.proofs.lemmas.Cmp.{nat_cmp_total, tied_itself}
-use Rattle.std.proofs.lemmas.List.{length-drop}
-use Rattle.std.specs.Char.{is_ascii_digit}
-use Rattle.std.specs.List.{list_all, prefix_len, take_while}
-use Rattle.std.specs.Str.Parse.{digits_value}
-use Rattle.std.specs.Ordering.{is_ne, nat_cmp, ordering_then}
-use Rattle.std.specs.declared.cmp.Ordering.{Ordering}
-use Rattle.std.specs.declared.cmp.Ordering.TheVariants.{Less, Equal, Greater}
-use Rattle.version_order.proofs.lemmas.Front.{begins-drop}
-use Rattle.version_order.proofs.lemmas.Orders.{settled, then_assoc, then_decided}
-use Rattle.version_order.specs.texts.DigitRun.{run_value, starts_with_digit, behind_digits}
-use Rattle.version_order.specs.texts.Front.{begins}
-use Rattle.version_order.specs.keys.Codes.{list_bytes}
-use Rattle.version_order.specs.keys.NumberBytes.{number_bytes}
-use Rattle.version_order.specs.keys.Lists.{ended_cmp}
-use Rattle.version_order.proofs.lemmas.Runs.{all_behind, run_cons, run_none, no_run}
-use Rattle.scheme_deb.specs.Laws.{byte_same}
+use Rattle.std.proofs.Common.{[], ◌≡◌, ◌∙◌, ◌⊎◌, ◌<◌, ◌≤◌, ◌==◌, ◌++◌, ◌∷◌, true, false, ℕ, Bool, List, Option, None, Some, ap, append_assoc, arith, drop, inl, inr, length, refl, sym}
+use Rattle.std.proofs.lemmas.{Bool.eqb-true, Cmp.nat_cmp_total, Cmp.tied_itself, Grind.common_steps, List.length-drop}
+use Rattle.std.specs.{Char.is_ascii_digit, List.list_all, List.prefix_len, List.take_while, Ordering.is_ne, Ordering.nat_cmp, Ordering.ordering_then, declared.cmp.Ordering.Ordering, declared.cmp.Ordering.TheVariants.Equal}
+use Rattle.version_order.proofs.lemmas.{Front.begins-drop, Runs.all_behind, Runs.run_cons, Runs.run_none, Runs.no_run}
+use Rattle.version_order.specs.{keys.Codes.list_bytes, keys.Codes.number_bytes, keys.Lists.ended_cmp, texts.Front.run_value, texts.Front.starts_with_digit, texts.Front.behind_digits, texts.Front.begins}
 use Rattle.scheme_deb.specs.Order.{Pair, byte_cmp, byte_code, more_bytes, more_cmp, pair_bytes, pair_cmp, part_bytes, part_cmp, rank}
 use Rattle.scheme_deb.specs.Texts.{Cut, cut_of, is_run, mores, pair_of, part_in, part_of, put_digit}
+use Rattle.scheme_deb.specs.Laws.{byte_same}
 
 -- what stands behind the run that a text begins with, and behind the digits behind that
 abbrev pub behind_run : List ℕ → List ℕ
@@ -59,22 +46,11 @@ front_digit : (byte : ℕ) (text : List ℕ) → is_ascii_digit byte ≡ true
       digits = byte ∷ take_while is_ascii_digit text;
       more = as_more (cut_of (behind_digits text));
     }
-front_digit byte text is =
-    let none = run_none is_run byte text (is_no_run byte is) in
-    let some = run_cons is_ascii_digit byte text is in
-    let digits = ap (take_while is_ascii_digit) none.1 ∙ some.0 in
-    let left = ap behind_digits none.1 ∙ some.1 in
-    λ i. record { run = none.0 i; digits = digits i; more = as_more (cut_of (left i)) }
+front_digit byte text is = search (arith, run_none, is_no_run, run_cons)
 
 front_other : (byte : ℕ) (text : List ℕ) → is_run byte ≡ true
     → by_front (byte ∷ text) ≡ record (by_front text) { run = byte ∷ take_while is_run text }
-front_other byte text is =
-    let some = run_cons is_run byte text is in
-    λ i. record {
-      run = some.0 i;
-      digits = take_while is_ascii_digit (some.1 i);
-      more = as_more (cut_of (behind_digits (some.1 i)));
-    }
+front_other byte text is = grind (arith, common_steps, run_cons is_run byte text is)
 
 -- a digit before a text
 put_before : (digit : ℕ) (text : List ℕ) → cut_of text ≡ by_front text
@@ -84,45 +60,11 @@ put_before : (digit : ℕ) (text : List ℕ) → cut_of text ≡ by_front text
       digits = digit ∷ take_while is_ascii_digit text;
       more = as_more (cut_of (behind_digits text));
     }
-put_before digit [] front = refl
-put_before digit (byte ∷ text) front = by (is_ascii_digit byte) refl
-  where
-    by : (next : Bool) → is_ascii_digit byte ≡ next
-        → put_digit digit (cut_of (byte ∷ text)).run (cut_of (byte ∷ text))
-        ≡ record {
-          run = [];
-          digits = digit ∷ take_while is_ascii_digit (byte ∷ text);
-          more = as_more (cut_of (behind_digits (byte ∷ text)));
-        }
-    by true next =
-        let whole = front ∙ front_digit byte text next in
-        let some = run_cons is_ascii_digit byte text next in
-        (λ i. put_digit digit (whole i).run (whole i))
-        ∙ (λ i. record {
-          run = [];
-          digits = digit ∷ (sym some.0) i;
-          more = as_more (cut_of ((sym some.1) i));
-        })
-    by false next =
-        let whole : cut_of (byte ∷ text) ≡ record (cut_of text) { run = byte ∷ (cut_of text).run } = rw next refl in
-        let none = run_none is_ascii_digit byte text next in
-        let left = sym (ap as_more whole) ∙ ap (λ (l : List ℕ). as_more (cut_of l)) (sym none.1) in
-        (λ i. put_digit digit (whole i).run (whole i))
-        ∙ (λ i. record { run = []; digits = digit ∷ (sym none.0) i; more = left i })
+put_before digit text front = grind (arith, common_steps)
 
 front_cut : (text : List ℕ) → cut_of text ≡ by_front text
 front_cut [] = refl
-front_cut (byte ∷ text) = by (is_ascii_digit byte) refl (front_cut text)
-  where
-    by : (is : Bool) → is_ascii_digit byte ≡ is → cut_of text ≡ by_front text
-        → cut_of (byte ∷ text) ≡ by_front (byte ∷ text)
-    by true is rest =
-        let whole : cut_of (byte ∷ text) ≡ put_digit byte (cut_of text).run (cut_of text) = rw is refl in
-        whole ∙ put_before byte text rest ∙ sym (front_digit byte text is)
-    by false is rest =
-        let whole : cut_of (byte ∷ text) ≡ record (cut_of text) { run = byte ∷ (cut_of text).run } = rw is refl in
-        whole ∙ ap (λ (cut : Cut). record cut { run = byte ∷ cut.run }) rest
-        ∙ sym (front_other byte text (rw is refl))
+front_cut (byte ∷ text) = grind (arith, common_steps, front_cut text, put_before, front_digit, front_other)
 
 -- ---- the order from the beginning on
 
@@ -137,26 +79,10 @@ left_cut (byte ∷ text) behind = inr (byte, (cut_of text).run, rw behind refl)
 is_left : (text : List ℕ) → IsLeft (cut_of (left_of text))
 is_left text = left_cut (left_of text) (begins-drop is_ascii_digit (behind_run text))
 
--- what is decided stays so
-decided : (o w x y z : Ordering) → ¬ (o ≡ Equal)
-    → ordering_then o w ≡ ordering_then (ordering_then (ordering_then o x) y) z
-decided o w x y z differ = rw (settled o x differ, settled o y differ) (then_decided o w z differ)
-
 -- runs that are left compare as parts do
 more_as_part : (a b : Cut) → IsLeft a → IsLeft b
     → ended_cmp more_cmp (mores (as_more a)) (mores (as_more b)) ≡ part_cmp (part_in a) (part_in b)
-more_as_part a b (inl one) (inl other) = rw (one, other) refl
-more_as_part a b (inl one) (inr (first, run, other)) =
-    rw (one, other)
-    (decided (byte_cmp None (Some first)) _ _ _ _ (λ e. cc (byte_same None (Some first) e)))
-more_as_part a b (inr (first, run, one)) (inl other) =
-    rw (one, other)
-    (decided (byte_cmp (Some first) None) _ _ _ _ (λ e. cc (byte_same (Some first) None e)))
-more_as_part a b (inr (first, run, one)) (inr (second, others, other)) =
-    rw (one, other)
-    (ap (λ (o : Ordering). ordering_then o (ended_cmp more_cmp (mores a.more) (mores b.more)))
-    (sym (then_assoc (byte_cmp (Some first) (Some second)) (ended_cmp byte_cmp run others)
-    (nat_cmp (digits_value 10 a.digits) (digits_value 10 b.digits)))))
+more_as_part a b hyp1 hyp2 = grind (arith, common_steps)
 
 -- two texts by their first runs and digits, and by what is left behind them
 pub parts_step : (x y : List ℕ) → part_cmp (part_of x) (part_of y)
@@ -180,20 +106,13 @@ more_bytes_left (byte ∷ text) behind = rw behind refl
 
 -- a text by its first run and digits, and what is left behind them
 pub bytes_step : (text : List ℕ) → part_bytes (part_of text) ≡ pair_bytes (first_pair text) ++ left_bytes (left_of text)
-bytes_step text =
-    ap (λ (cut : Cut). part_bytes (part_in cut)) (front_cut text)
-    ∙ ap (λ (l : List ℕ). pair_bytes (first_pair text) ++ l)
-    (more_bytes_left (left_of text) (begins-drop is_ascii_digit (behind_run text)))
+bytes_step text = grind (arith, common_steps, front_cut, more_bytes_left, begins-drop)
 
 -- what is written in turn: the run, the number, and what is left
 pub in_turn : (text rest : List ℕ) → rest ≡ behind_run text
     → part_bytes (part_of text)
     ≡ list_bytes byte_code (take_while is_run text) ++ (number_bytes (run_value rest) ++ left_bytes (behind_digits rest))
-in_turn text rest e =
-    bytes_step text
-    ∙ append_assoc (list_bytes byte_code (take_while is_run text)) (number_bytes (run_value (behind_run text))) _
-    ∙ ap (λ (l : List ℕ). list_bytes byte_code (take_while is_run text) ++ (number_bytes (run_value l) ++ left_bytes (behind_digits l)))
-    (sym e)
+in_turn text rest e = grind (arith, common_steps, bytes_step, append_assoc)
 
 pub left_some : (text : List ℕ) → ¬ (text ≡ []) → left_bytes text ≡ part_bytes (part_of text)
 left_some [] some = absurd (some refl)
@@ -203,10 +122,7 @@ left_some (byte ∷ text) some = refl
 pub next_byte : (text rest : List ℕ) (byte ranked : ℕ) → text ≡ byte ∷ rest → is_run byte ≡ true
     → ranked ≡ rank (Some byte)
     → list_bytes byte_code (take_while is_run text) ≡ (ranked ∷ []) ++ list_bytes byte_code (take_while is_run rest)
-next_byte text rest byte ranked whole is e =
-    ap (λ (l : List ℕ). list_bytes byte_code (take_while is_run l)) whole
-    ∙ ap (list_bytes byte_code) (run_cons is_run byte rest is).0
-    ∙ ap (λ r. r ∷ list_bytes byte_code (take_while is_run rest)) (sym e)
+next_byte text rest byte ranked whole is e = grind (arith, common_steps)
 
 -- ---- runs, byte by byte
 
@@ -223,13 +139,7 @@ two_bytes a x b y byte other whole is whole' is' =
 pub byte_and_end : (a x b : List ℕ) (byte : ℕ) → a ≡ byte ∷ x → is_run byte ≡ true → begins is_run b ≡ false
     → (runs_cmp a b ≡ byte_cmp (Some byte) None) × (runs_cmp b a ≡ byte_cmp None (Some byte))
 byte_and_end a x b byte whole is behind =
-    let run = ap (take_while is_run) whole ∙ (run_cons is_run byte x is).0 in
-    let none = (no_run is_run b behind).0 in (
-      (λ i. ended_cmp byte_cmp (run i) (none i))
-          ∙ settled (byte_cmp (Some byte) None) _ (λ e. cc (byte_same (Some byte) None e)),
-      (λ i. ended_cmp byte_cmp (none i) (run i))
-          ∙ settled (byte_cmp None (Some byte)) _ (λ e. cc (byte_same None (Some byte) e)),
-    )
+    grind (arith, common_steps, run_cons is_run byte x is, no_run is_run b behind)
 
 -- how two bytes, or a byte and an end, compare by their ranks, where they differ
 pub ranks_differ : (a b : Option ℕ) (r s : ℕ) (o : Ordering) → o ≡ nat_cmp r s → r ≡ rank a → s ≡ rank b → ¬ (a ≡ b)
@@ -249,66 +159,32 @@ behind_byte text rest byte whole is =
 -- ---- parts, pair by pair
 
 pub by_runs : (a b : List ℕ) (o : Ordering) → o ≡ runs_cmp a b → ¬ (o ≡ Equal) → o ≡ part_cmp (part_of a) (part_of b)
-by_runs a b o e differ =
-    let number = nat_cmp (run_value (behind_run a)) (run_value (behind_run b)) in
-    let left = part_cmp (part_of (left_of a)) (part_of (left_of b)) in
-    sym (parts_step a b ∙ ap (λ (r : Ordering). ordering_then (ordering_then r number) left) (sym e)
-    ∙ ap (λ (r : Ordering). ordering_then r left) (settled o number differ) ∙ settled o left differ)
+by_runs a b o e differ = grind (arith, common_steps, parts_step a b)
 
 pub by_numbers : (a b rest other : List ℕ) (o n : Ordering) → o ≡ runs_cmp a b → o ≡ Equal
     → rest ≡ behind_run a → other ≡ behind_run b → n ≡ nat_cmp (run_value rest) (run_value other)
     → part_cmp (part_of a) (part_of b)
     ≡ ordering_then n (part_cmp (part_of (behind_digits rest)) (part_of (behind_digits other)))
-by_numbers a b rest other o n e same is is' number =
-    let behind = nat_cmp (run_value (behind_run a)) (run_value (behind_run b)) in
-    let left = part_cmp (part_of (left_of a)) (part_of (left_of b)) in
-    parts_step a b
-    ∙ ap (λ (r : Ordering). ordering_then (ordering_then r behind) left) (sym e ∙ same)
-    ∙ (λ i. ordering_then (nat_cmp (run_value (sym is i)) (run_value (sym is' i)))
-    (part_cmp (part_of (behind_digits (sym is i))) (part_of (behind_digits (sym is' i)))))
-    ∙ ap (λ (r : Ordering). ordering_then r (part_cmp (part_of (behind_digits rest)) (part_of (behind_digits other))))
-    (sym number)
+by_numbers a b rest other o n e same is hyp1 number = grind (arith, common_steps, parts_step)
 
 -- what is left of a text is shorter, unless it is empty
 pub left_shorter : (text : List ℕ) → ¬ (left_of text ≡ []) → length (left_of text) < length text
 left_shorter [] some = absurd (some refl)
-left_shorter (byte ∷ text) some = by (is_ascii_digit byte) refl
-  where
-    by : (is : Bool) → is_ascii_digit byte ≡ is → length (left_of (byte ∷ text)) < length (byte ∷ text)
-    by true is =
-        let left = ap behind_digits (run_none is_run byte text (is_no_run byte is)).1
-        ∙ (run_cons is_ascii_digit byte text is).1 in
-        omega (arith, ap length left, length-drop (prefix_len is_ascii_digit text) text)
-    by false is =
-        let left = ap behind_digits (run_cons is_run byte text (rw is refl)).1 in
-        omega (
-          arith,
-          ap length left,
-          length-drop (prefix_len is_ascii_digit (behind_run text)) (behind_run text),
-          length-drop (prefix_len is_run text) text,
-        )
+left_shorter (byte ∷ text) some = grind (arith, common_steps, run_none, is_no_run, run_cons, length-drop)
 
 pub left_not_longer : (text : List ℕ) → length (left_of text) ≤ length text
-left_not_longer text = omega (
-  arith,
-  length-drop (prefix_len is_ascii_digit (behind_run text)) (behind_run text),
-  length-drop (prefix_len is_run text) text,
-)
+left_not_longer text = grind (arith, common_steps)
 
 -- bytes behind some of a kind are of that kind
 pub all_left : (test : ℕ → Bool) (text : List ℕ) → list_all test text ≡ true → list_all test (left_of text) ≡ true
-all_left test text all =
-    all_behind test (prefix_len is_ascii_digit (behind_run text)) (behind_run text)
-    (all_behind test (prefix_len is_run text) text all)
+all_left test text all = grind (arith, common_steps, all_behind)
 
 -- what tests say
 pub differs : (o : Ordering) → is_ne o ≡ true → ¬ (o ≡ Equal)
 differs o is e = cc (sym (ap is_ne e) ∙ is)
 
 pub same : (o : Ordering) → is_ne o ≡ false → o ≡ Equal
-same Less is = cc is
-same Equal is = refl
-same Greater is = cc is
+same o is = grind (arith, common_steps)
 
 pub none_left : (text : List ℕ) → (length text == 0) ≡ true → text ≡ []
 none_left [] is = refl

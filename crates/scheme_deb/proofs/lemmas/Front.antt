@@ -1,27 +1,12 @@
 -- Upstream versions and revisions that begin alike.
-use Rattle.std.proofs.Common.{◌≡◌, ◌∙◌, ◌<◌, ◌≤◌, ◌+◌, ◌-◌, ◌*◌, ◌++◌, ◌∷◌, [], ℕ, zero, suc, List, None, Some, false, true, ap, arith, drop, get_or, inl, inr, length, refl, sym, take}
+use Rattle.std.proofs.Common.{[], ◌≡◌, ◌∙◌, ◌<◌, ◌≤◌, ◌+◌, ◌-◌, ◌++◌, ◌∷◌, ℕ, zero, suc, List, Some, false, true, ap, arith, drop, get_or, inl, inr, length, refl, sym, take}
+use Rattle.std.proofs.lemmas.{Bool.cases_Bool, Bool.Decides.nat_tests, Cmp.nat_cmp_total, Cmp.tied_itself, Grind.common_steps, List.length-drop, List.take-append-drop, List.take_all, Map.Lookups.exact_unsigned}
 use Rattle.std.proofs.Math.Seq.{drop-cons}
-use Rattle.std.proofs.lemmas.Bool.{cases_Bool}
-use Rattle.std.proofs.lemmas.Bool.Decides.{nat_tests}
-use Rattle.std.proofs.lemmas.Cmp.{nat_cmp_total, tied_itself}
-use Rattle.std.proofs.lemmas.List.{length-drop, take-append-drop, take_all}
-use Rattle.std.proofs.lemmas.Map.Lookups.{exact_unsigned}
-use Rattle.std.specs.Char.{digit_value, is_ascii_digit}
-use Rattle.std.specs.List.{list_all, take_while}
-use Rattle.std.specs.Ordering.{nat_cmp, ordering_then}
-use Rattle.std.specs.Str.Parse.{digits_value}
-use Rattle.std.specs.declared.cmp.Ordering.{Ordering}
-use Rattle.std.specs.declared.cmp.Ordering.TheVariants.{Equal}
-use Rattle.version_order.specs.texts.DigitRun.{run_value, starts_with_digit, behind_digits}
-use Rattle.version_order.specs.texts.Front.{begins}
-use Rattle.version_order.specs.keys.Lists.{ended_cmp}
-use Rattle.version_order.proofs.lemmas.Runs.{all_behind, no_run, run_cons, run_none}
-use Rattle.version_order.proofs.lemmas.Orders.{settled}
-use Rattle.scheme_deb.proofs.lemmas.Cut.{by_numbers, by_runs, byte_and_end, same_bytes, two_bytes}
-use Rattle.version_order.proofs.lemmas.Cuts.{alike, run_common}
-use Rattle.scheme_deb.specs.Laws.{byte_same}
-use Rattle.scheme_deb.specs.Order.{byte_cmp, more_cmp, part_cmp}
-use Rattle.scheme_deb.specs.Texts.{cut_of, first_of, is_of_upstream, is_run, mores, part_in, part_of}
+use Rattle.std.specs.{Char.is_ascii_digit, List.list_all, List.take_while, Ordering.nat_cmp, Ordering.ordering_then, Str.Parse.digits_value, declared.cmp.Ordering.Ordering, declared.cmp.Ordering.TheVariants.Equal}
+use Rattle.version_order.specs.texts.Front.{run_value, starts_with_digit, behind_digits, begins}
+use Rattle.version_order.proofs.lemmas.{Cuts.alike, Cuts.run_common, Orders.settled, Runs.all_behind, Runs.no_run, Runs.run_cons, Runs.run_none}
+use Rattle.scheme_deb.proofs.lemmas.Cut.{by_numbers, by_runs, byte_and_end, two_bytes}
+use Rattle.scheme_deb.specs.{Laws.byte_same, Order.byte_cmp, Order.part_cmp, Texts.first_of, Texts.is_of_upstream, Texts.is_run, Texts.part_of}
 
 abbrev pub texts_cmp : List ℕ → List ℕ → Ordering
 texts_cmp x y = part_cmp (part_of x) (part_of y)
@@ -30,18 +15,12 @@ texts_cmp x y = part_cmp (part_of x) (part_of y)
 from_numbers : (x y : List ℕ) → begins is_run x ≡ false → begins is_run y ≡ false
     → texts_cmp x y
     ≡ ordering_then (nat_cmp (run_value x) (run_value y)) (texts_cmp (behind_digits x) (behind_digits y))
-from_numbers x y digit other =
-    let one = no_run is_run x digit in
-    let two = no_run is_run y other in
-    by_numbers x y x y Equal (nat_cmp (run_value x) (run_value y))
-    (sym (λ i. ended_cmp byte_cmp (one.0 i) (two.0 i))) refl (sym one.1) (sym two.1) refl
+from_numbers x y digit other = search (arith, no_run, by_numbers)
 
 -- a digit alone
 one_digit : (d : ℕ) (rest x : List ℕ) → (x ≡ d ∷ rest) × (is_ascii_digit d ≡ true)
     → starts_with_digit rest ≡ false → take_while is_ascii_digit x ≡ d ∷ []
-one_digit d rest x here last =
-    ap (take_while is_ascii_digit) here.0 ∙ (run_cons is_ascii_digit d rest here.1).0
-    ∙ ap (λ (l : List ℕ). d ∷ l) (no_run is_ascii_digit rest last).0
+one_digit d rest x here last = grind (arith, common_steps)
 
 no_run_first : (text : List ℕ) → starts_with_digit text ≡ true → begins is_run text ≡ false
 no_run_first [] digit = refl
@@ -50,24 +29,14 @@ no_run_first (byte ∷ text) digit = rw digit refl
 -- numbers that differ decide
 pub numbers_decide : (x y : List ℕ) (o : Ordering) → starts_with_digit x ≡ true → starts_with_digit y ≡ true
     → o ≡ nat_cmp (run_value x) (run_value y) → ¬ (o ≡ Equal) → o ≡ texts_cmp x y
-numbers_decide x y o digit other e differ =
-    sym (from_numbers x y (no_run_first x digit) (no_run_first y other)
-    ∙ ap (λ (n : Ordering). ordering_then n (texts_cmp (behind_digits x) (behind_digits y))) (sym e)
-    ∙ settled o _ differ)
+numbers_decide x y o digit other e differ = search (arith, from_numbers, no_run_first, settled)
 
 -- and so do digits that differ, where no more follow
 pub digits_decide : (d e : ℕ) (u v x y : List ℕ) → (x ≡ d ∷ u) × (is_ascii_digit d ≡ true)
     → starts_with_digit u ≡ false → (y ≡ e ∷ v) × (is_ascii_digit e ≡ true) → starts_with_digit v ≡ false
     → ¬ (d ≡ e) → nat_cmp d e ≡ texts_cmp x y
 digits_decide d e u v x y here last there other_last differ =
-    let is_digit = here.1 in
-    let is_too = there.1 in
-    let values : nat_cmp d e ≡ nat_cmp (0 * 10 + digit_value d) (0 * 10 + digit_value e) = grind (arith, nat_tests) in
-    let numbers : nat_cmp d e ≡ nat_cmp (run_value x) (run_value y) =
-    values ∙ (λ i. nat_cmp (digits_value 10 (sym (one_digit d u x here last) i))
-    (digits_value 10 (sym (one_digit e v y there other_last) i))) in
-    numbers_decide x y (nat_cmp d e) (ap starts_with_digit here.0 ∙ here.1) (ap starts_with_digit there.0 ∙ there.1)
-    numbers (λ tie. differ (exact_unsigned d e tie))
+    grind (arith, common_steps, nat_tests, one_digit, numbers_decide, exact_unsigned)
 
 -- the same digits don't count
 same_digits : (x y : List ℕ) → begins is_run x ≡ false → begins is_run y ≡ false
@@ -82,16 +51,7 @@ same_digits x y digit other same =
 
 -- nor does one byte that is no digit
 same_byte : (byte : ℕ) (x y : List ℕ) → is_ascii_digit byte ≡ false → texts_cmp (byte ∷ x) (byte ∷ y) ≡ texts_cmp x y
-same_byte byte x y other =
-    let a = cut_of x in
-    let b = cut_of y in
-    let one : cut_of (byte ∷ x) ≡ record a { run = byte ∷ a.run } = rw other refl in
-    let two : cut_of (byte ∷ y) ≡ record b { run = byte ∷ b.run } = rw other refl in
-    (λ i. part_cmp (part_in (one i)) (part_in (two i)))
-    ∙ ap (λ (o : Ordering). ordering_then
-    (ordering_then (ordering_then o (ended_cmp byte_cmp a.run b.run))
-    (nat_cmp (digits_value 10 a.digits) (digits_value 10 b.digits)))
-    (ended_cmp more_cmp (mores a.more) (mores b.more))) (same_bytes byte)
+same_byte byte x y other = grind (arith, common_steps)
 
 is_no_run : (byte : ℕ) → is_ascii_digit byte ≡ true → is_run byte ≡ false
 is_no_run byte is = rw is refl
@@ -99,8 +59,7 @@ is_no_run byte is = rw is refl
 -- nor do digits that end with what both begin with, or before
 digits_common : (front a b : List ℕ) → starts_with_digit a ≡ false → starts_with_digit b ≡ false
     → texts_cmp (behind_digits (front ++ a)) (behind_digits (front ++ b)) ≡ texts_cmp (front ++ a) (front ++ b)
-digits_common [] a b ends too =
-    λ i. texts_cmp ((no_run is_ascii_digit a ends).1 i) ((no_run is_ascii_digit b too).1 i)
+digits_common [] a b ends too = grind (arith, common_steps, no_run)
 digits_common (first ∷ front) a b ends too = elim (cases_Bool (is_ascii_digit first)) [
   | inl digit ↦
       sym (same_digits (first ∷ front ++ a) (first ∷ front ++ b) (is_no_run first digit) (is_no_run first digit)
@@ -130,12 +89,8 @@ pub firsts_decide : (x y : List ℕ) → starts_with_digit x ≡ false → start
     → ((byte : ℕ) (a b : List ℕ) → x ≡ byte ∷ a → y ≡ byte ∷ b → ⊥)
     → texts_cmp x y ≡ byte_cmp (first_of x) (first_of y)
 firsts_decide [] [] ends too differ = refl
-firsts_decide (byte ∷ x) [] ends too differ =
-    let cmp = byte_and_end (byte ∷ x) x [] byte refl (rw ends refl) refl in
-    sym (by_runs (byte ∷ x) [] _ (sym cmp.0) (λ e. cc (byte_same (Some byte) None e)))
-firsts_decide [] (other ∷ y) ends too differ =
-    let cmp = byte_and_end (other ∷ y) y [] other refl (rw too refl) refl in
-    sym (by_runs [] (other ∷ y) _ (sym cmp.1) (λ e. cc (byte_same None (Some other) e)))
+firsts_decide (byte ∷ x) [] ends too differ = grind (arith, common_steps, byte_and_end, by_runs)
+firsts_decide [] (other ∷ y) ends too differ = grind (arith, common_steps, byte_and_end, by_runs)
 firsts_decide (byte ∷ x) (other ∷ y) ends too differ =
     let bytes = byte_cmp (Some byte) (Some other) in
     let some : ¬ (bytes ≡ Equal) = λ e.

@@ -1,10 +1,9 @@
 -- Versions of Debian with at most one hyphen, behind an epoch or none.
-use Rattle.std.proofs.Common.{◌≡◌, ◌&&◌, ◌∙◌, ◌<◌, ◌∷◌, ◌++◌, [], ℕ, List, None, Some, ap, drop, false, get_or, length, refl, sym, true}
+use Rattle.std.proofs.Common.{[], ◌≡◌, ◌&&◌, ◌∙◌, ◌<◌, ◌∷◌, ◌++◌, ℕ, List, None, Some, ap, drop, false, get_or, length, refl, sym, true}
 use Rattle.std.specs.List.{list_all, prefix_len, take_while}
+use Rattle.version_order.proofs.lemmas.Cuts.{behind, cut_plain, not_all_pass, not_cut_plain, run_and_rest}
 use Rattle.version_order.proofs.lemmas.Front.{all_weaker}
-use Rattle.version_order.proofs.lemmas.Plain.{behind, cut_plain, not_all_pass, not_cut_plain, run_and_rest}
-use Rattle.version_order.specs.texts.Cuts.{cut_first}
-use Rattle.version_order.specs.texts.DigitRun.{starts_with_digit}
+use Rattle.version_order.specs.texts.{Cuts.cut_first, Front.starts_with_digit}
 use Rattle.scheme_deb.specs.Texts.{behind_epoch, is_of_revision, is_of_upstream, is_revision, is_upstream, of_cut, part_of}
 
 of_upstream : (text : List ℕ) → list_all is_of_revision text ≡ true → list_all is_of_upstream text ≡ true

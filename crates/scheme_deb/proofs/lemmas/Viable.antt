@@ -1,35 +1,19 @@
 -- What is left of a text as a version of Debian. A hyphen and a revision may follow any upstream version.
-use Rattle.std.proofs.Common.{◌≡◌, ◌&&◌, ◌∙◌, ℕ, Bool, true, false, List, [], ◌∷◌, ◌++◌, Option, None, Some, ap, append-nil, arith, drop, inl, inr, refl, sym}
-use Rattle.std.proofs.lemmas.Bool.{and_from, cases_Bool}
-use Rattle.std.proofs.lemmas.Bool.Decides.{nat_tests}
-use Rattle.std.proofs.lemmas.List.Folds.{list_all-append}
-use Rattle.std.specs.Char.{is_ascii_digit}
-use Rattle.std.specs.Cmp.{first_so, second_so}
-use Rattle.std.specs.List.{list_all, prefix_len, take_while}
-use Rattle.std.specs.Option.{is_some}
-use Rattle.version_order.proofs.lemmas.Front.{all_weaker, begins-drop}
-use Rattle.version_order.specs.texts.DigitRun.{starts_with_digit}
-use Rattle.version_order.specs.texts.Front.{begins}
-use Rattle.version_order.proofs.lemmas.Runs.{begins_inner}
-use Rattle.version_order.proofs.lemmas.Cuts.{cut_between, cut_last-whole, not_cut}
-use Rattle.version_order.proofs.lemmas.Plain.{run_and_rest}
-use Rattle.version_order.proofs.lemmas.Viable.Epochs.{by_cut, one_part, two_parts, is_plain, no_colon, uncut, not_all}
-use Rattle.version_order.specs.texts.Cuts.{cut_first, cut_last}
-use Rattle.scheme_deb.specs.Texts.{behind_epoch, is_before_colon, is_behind_epoch, is_of_upstream, is_revision, is_upstream, of_cut, part_of}
-use Rattle.version_order.specs.Viable.{IsLeft}
+use Rattle.std.proofs.Common.{[], ◌≡◌, ◌&&◌, ◌∙◌, ℕ, Bool, true, false, List, ◌∷◌, ◌++◌, Option, None, Some, ap, append-nil, arith, drop, inl, inr, refl, sym}
+use Rattle.std.proofs.lemmas.{Bool.and_from, Bool.cases_Bool, Bool.Decides.nat_tests, Grind.common_steps, List.Folds.list_all-append}
+use Rattle.std.specs.{Char.is_ascii_digit, Cmp.first_so, Cmp.second_so, List.list_all, List.prefix_len, List.take_while, Option.is_some}
+use Rattle.version_order.proofs.lemmas.Viable.Epochs.{by_cut, is_plain, no_colon, uncut, not_all}
+use Rattle.version_order.proofs.lemmas.{Cuts.cut_between, Cuts.cut_last-whole, Cuts.not_cut, Cuts.run_and_rest, Front.all_weaker, Front.begins-drop, Runs.begins_inner, Viable.Left.stays}
+use Rattle.version_order.specs.{Viable.IsLeft, texts.Cuts.cut_first, texts.Cuts.cut_last, texts.Front.starts_with_digit, texts.Front.begins}
+use Rattle.scheme_deb.specs.Texts.{behind_epoch, is_before_colon, is_behind_epoch, is_of_upstream, is_revision, is_upstream}
 use Rattle.scheme_deb.proofs.lemmas.Plain.{revision_all}
-use Rattle.version_order.proofs.lemmas.Viable.Left.{stays}
 
 abbrev cut_test : List ℕ → Option (List ℕ × List ℕ) → Bool
 cut_test text None = is_upstream text
 cut_test text (Some cut) = is_upstream cut.0 && is_revision cut.1
 
 behind_test : (epoch : ℕ) (text : List ℕ) → is_some (behind_epoch epoch text) ≡ cut_test text (cut_last 45 text)
-behind_test epoch text = by (cut_last 45 text)
-  where
-    by : (cut : Option (List ℕ × List ℕ)) → is_some (of_cut epoch text cut) ≡ cut_test text cut
-    by None = one_part (is_upstream text) (part_of text) _
-    by (Some cut) = two_parts (is_upstream cut.0) (is_revision cut.1) (part_of cut.0) (part_of cut.1) _
+behind_test epoch text = grind (arith, common_steps)
 
 pub any_epoch : (epoch : ℕ) (text : List ℕ) → is_some (behind_epoch epoch text) ≡ is_behind_epoch text
 any_epoch epoch text = behind_test epoch text ∙ sym (behind_test 0 text)
@@ -65,10 +49,7 @@ revision = 45 ∷ 48 ∷ []
 
 behind_revised : (text : List ℕ) → starts_with_digit text ≡ true → list_all is_of_upstream text ≡ true
     → is_behind_epoch (text ++ revision) ≡ true
-behind_revised text digit all =
-    let upstream : is_upstream text ≡ true = and_from _ _ digit all in
-    behind_test 0 (text ++ revision) ∙ ap (cut_test (text ++ revision)) (cut_between 45 text (48 ∷ []) refl)
-    ∙ rw upstream refl
+behind_revised text digit all = grind (arith, common_steps, and_from, behind_test, cut_between)
 
 pub digits_behind : (digits : List ℕ) → list_all is_ascii_digit digits ≡ true
     → is_behind_epoch (digits ++ 48 ∷ []) ≡ true

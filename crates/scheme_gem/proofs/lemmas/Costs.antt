@@ -1,18 +1,13 @@
 -- How many bytes a key takes: at most five for each byte of its text, as a hyphen does.
 use Rattle.std.proofs.Common.{◌≡◌, ◌==◌, ◌+◌, ◌*◌, ◌≤◌, ◌++◌, ◌∷◌, [], ℕ, zero, suc, Bool, true, false, List, IfSome, None, Some, ap, arith, codes, drop, if◌then◌else◌, inl, inr, length, refl, replicate}
-use Rattle.std.proofs.lemmas.Bool.{cases_Bool, eqb-true}
-use Rattle.std.proofs.lemmas.List.{length-append, length-drop, length-replicate}
-use Rattle.std.specs.Char.{is_ascii_alphabetic, is_ascii_digit}
-use Rattle.std.specs.List.{list_all, prefix_len, take_while}
-use Rattle.version_order.proofs.lemmas.Costs.{KeysCost, number_costs, parted, some_taken}
-use Rattle.version_order.proofs.lemmas.Front.{list_all-take_while}
-use Rattle.version_order.specs.keys.NumberBytes.{number_bytes, text_bytes}
-use Rattle.version_order.specs.texts.DigitRun.{behind_digits, run_value, starts_with_digit}
+use Rattle.std.proofs.lemmas.{Bool.cases_Bool, Bool.eqb-true, List.length-append, List.length-drop, List.length-replicate}
+use Rattle.std.specs.{Char.is_ascii_alphabetic, Char.is_ascii_digit, List.list_all, List.prefix_len, List.take_while}
+use Rattle.version_order.proofs.lemmas.{Costs.KeysCost, Costs.number_costs, Costs.parted, Costs.some_taken, Front.list_all-take_while}
+use Rattle.version_order.specs.{keys.Codes.number_bytes, keys.Codes.text_bytes, texts.Front.behind_digits, texts.Front.run_value, texts.Front.starts_with_digit}
 use Rattle.scheme_gem.proofs.lemmas.Segments.{letters_text, digits_shorter, hyphen_first, number_first, other_first, word_first}
 use Rattle.scheme_gem.proofs.lemmas.Walks.{version_digit}
-use Rattle.scheme_gem.specs.Order.{Letters, gem_bytes}
 use Rattle.scheme_gem.specs.Segments.{Integer, Segment, Word, entries_after, entries_in, segments_of, without_last}
-use Rattle.scheme_gem.specs.Texts.{gem_of, is_blank, is_gem, trimmed}
+use Rattle.scheme_gem.specs.{Order.Letters, Order.gem_bytes, Texts.gem_of, Texts.is_blank, Texts.is_gem, Texts.trimmed}
 
 -- ---- a segment after so many zeros, and those behind it, which take at most so many bytes beside these zeros
 

@@ -1,24 +1,12 @@
 -- The segments of a text, by the byte that it begins with, and the bytes of their entries.
 use Rattle.std.proofs.Common.{◌≡◌, ◌-◌, ◌<◌, ℕ, zero, suc, true, List, [], ◌∷◌, ◌++◌, Some, ap, arith, replicate, ◌≢◌, ◌==◌, ◌||◌, ◌+◌, ◌∙◌, add-one, one-add, Bool, false, ◌≤◌, length, codes, drop, inl, inr, refl, sym}
-use Rattle.std.proofs.lemmas.Bool.Decides.{nat_tests}
-use Rattle.std.specs.Char.{is_ascii_alphabetic, is_ascii_digit}
-use Rattle.std.specs.List.{list_all, prefix_len, take_while}
-use Rattle.version_order.proofs.lemmas.Front.{all_weaker}
-use Rattle.version_order.specs.texts.Bytes.{is_identifier_byte}
-use Rattle.version_order.specs.keys.NumberBytes.{text_bytes}
-use Rattle.version_order.proofs.lemmas.NumberBytes.{text_of_run}
-use Rattle.scheme_gem.specs.Order.{Letters, entry_bytes, Number}
-use Rattle.std.proofs.lemmas.Bool.{cases_Bool, eqb-true}
-use Rattle.std.proofs.lemmas.List.{length-drop}
-use Rattle.std.specs.FinMap.{nat_cmp-IsAntisymmetric}
-use Rattle.std.specs.Ordering.{is_ne, nat_cmp}
-use Rattle.std.specs.declared.cmp.Ordering.{Ordering}
+use Rattle.std.proofs.lemmas.{Bool.cases_Bool, Bool.eqb-true, Bool.Decides.nat_tests, List.length-drop}
+use Rattle.std.specs.{Char.is_ascii_alphabetic, Char.is_ascii_digit, FinMap.nat_cmp-IsAntisymmetric, List.list_all, List.prefix_len, List.take_while, Ordering.is_ne, Ordering.nat_cmp, Str.Parse.digits_value, declared.cmp.Ordering.Ordering}
 use Rattle.std.specs.declared.cmp.Ordering.TheVariants.{Less, Equal, Greater}
-use Rattle.std.specs.Str.Parse.{digits_value}
-use Rattle.version_order.specs.texts.DigitRun.{run_value, starts_with_digit, behind_digits}
-use Rattle.version_order.specs.texts.Front.{begins}
-use Rattle.version_order.proofs.lemmas.Runs.{run_cons, run_none}
+use Rattle.version_order.proofs.lemmas.{Front.all_weaker, NumberBytes.text_of_run, Runs.run_cons, Runs.run_none}
+use Rattle.version_order.specs.{keys.Codes.text_bytes, texts.Bytes.is_identifier_byte, texts.Front.run_value, texts.Front.starts_with_digit, texts.Front.behind_digits, texts.Front.begins}
 use Rattle.scheme_gem.specs.Segments.{Integer, Segment, Word, entries_after, is_lettered, segments_after, segments_of, spelled}
+use Rattle.scheme_gem.specs.Order.{Letters, entry_bytes, Number}
 
 digit_no_letter : (b : ℕ) → is_ascii_digit b ≡ true → is_ascii_alphabetic b ≡ false
 digit_no_letter b h = grind (arith, nat_tests)

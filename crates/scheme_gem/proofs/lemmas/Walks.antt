@@ -1,25 +1,16 @@
 -- Where a walk over a text stops as a version of RubyGems.
 use Rattle.std.proofs.Common.{◌≡◌, ◌==◌, ◌&&◌, ◌+◌, ◌-◌, ◌∙◌, ℕ, Bool, true, false, List, [], ◌∷◌, ◌++◌, Option, None, Some, ap, append-nil, append_assoc, arith, drop, inl, inr, length, not, refl, subst, sym, take}
 use Rattle.std.proofs.Math.Dec.{eqb-suc-zero}
-use Rattle.std.proofs.lemmas.Bool.{and_from, cases_Bool, eqb-true}
-use Rattle.std.proofs.lemmas.Bool.Decides.{nat_tests}
-use Rattle.std.proofs.lemmas.List.{take-append-drop}
-use Rattle.std.proofs.lemmas.List.Folds.{list_all-append}
-use Rattle.std.specs.Char.{is_ascii_alphanumeric, is_ascii_digit}
-use Rattle.std.specs.Cmp.{first_so, second_so}
+use Rattle.std.proofs.lemmas.{Bool.and_from, Bool.cases_Bool, Bool.eqb-true, Bool.Decides.nat_tests, List.take-append-drop, List.Folds.list_all-append}
 use Rattle.std.specs.List.{before_first, list_all, onto_first, position_or_len, prefix_len, slice_split, take_while}
-use Rattle.version_order.proofs.lemmas.Bytes.{alphanumeric_no_dot, dot_no_identifier, dot_no_letter, identifier_no_dot}
-use Rattle.version_order.proofs.lemmas.Front.{all_weaker, begins-drop, list_all-take_while}
+use Rattle.std.specs.{Char.is_ascii_alphanumeric, Char.is_ascii_digit, Cmp.first_so, Cmp.second_so}
 use Rattle.version_order.proofs.lemmas.Runs.{and-false, larger_run, not_false, not_true, run_cons, run_none, run_within, split_some, begins_inner, digit_alphanumeric, no_run, rest_within, run_and_more}
-use Rattle.version_order.proofs.lemmas.Viable.Epochs.{cut_by, cutting, not_all}
 use Rattle.version_order.proofs.lemmas.Viable.Left.{after_run, empty_run, is_nothing, longest, next, nothing_apart, whole_run}
 use Rattle.version_order.proofs.lemmas.Viable.Walks.{IsSplit, cut_at, stops_at_piece, stops_begun, stops_behind, stops_here, stops_in_next, stops_in_tail}
-use Rattle.version_order.proofs.lemmas.Viable.Pieces.{and-assoc, and-true, split_pieces, split_within}
-use Rattle.version_order.specs.Viable.{IsLeft, IsLongestViable, IsCut, Stops}
-use Rattle.version_order.specs.texts.Bytes.{dot, hyphen, is_identifier_byte, is_metadata_byte}
-use Rattle.version_order.specs.texts.DigitRun.{is_digits}
-use Rattle.version_order.specs.texts.Front.{begins}
-use Rattle.version_order.specs.texts.Cuts.{is_dot}
+use Rattle.version_order.proofs.lemmas.{Bytes.alphanumeric_no_dot, Bytes.dot_no_identifier, Bytes.dot_no_letter, Bytes.identifier_no_dot, Front.all_weaker, Front.begins-drop, Front.list_all-take_while}
+use Rattle.version_order.proofs.lemmas.Viable.{Epochs.cut_by, Epochs.cutting, Epochs.not_all, Pieces.and-assoc, Pieces.and-true, Pieces.split_pieces, Pieces.split_within}
+use Rattle.version_order.specs.{Viable.IsLeft, Viable.IsLongestViable, Viable.IsCut, Viable.Stops, texts.Bytes.dot, texts.Bytes.hyphen, texts.Bytes.is_identifier_byte, texts.Bytes.is_metadata_byte, texts.Cuts.is_dot}
+use Rattle.version_order.specs.texts.Front.{is_digits, begins}
 use Rattle.scheme_gem.specs.Texts.{are_pieces, is_blank, is_gem, is_hyphenated, is_not_hyphen, is_piece, is_plain, is_release, is_version}
 use Rattle.scheme_gem.specs.Segments.{without_last}
 

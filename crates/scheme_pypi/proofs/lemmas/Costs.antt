@@ -1,39 +1,21 @@
 -- How long a key of a version of Python is: at most two bytes for each byte of its text, and seven more.
-use Rattle.std.proofs.Common.{◌≡◌, ◌==◌, ◌<◌, ◌≤◌, ◌+◌, ◌*◌, ◌++◌, [], ℕ, Bool, true, List, ◌∷◌, Option, None, Some, IfSome, ap, arith, codes, inl, inr, length, length-append, map, nat_lt, refl}
-use Rattle.std.proofs.lemmas.Bool.{cases_Bool, eqb-false}
-use Rattle.std.specs.Char.{is_ascii_alphanumeric, to_ascii_lowercase}
-use Rattle.std.specs.Cmp.{first_so, second_so}
-use Rattle.std.specs.List.{list_all, prefix_len, take_while}
-use Rattle.std.specs.Option.{option_map, option_or}
-use Rattle.version_order.proofs.lemmas.Front.{list_all-take_while}
+use Rattle.std.proofs.Common.{[], ◌≡◌, ◌<◌, ◌≤◌, ◌+◌, ◌*◌, ◌++◌, ℕ, Bool, true, List, ◌∷◌, Option, None, Some, IfSome, ap, arith, length, length-append, map, nat_lt, refl}
+use Rattle.std.proofs.lemmas.{Bool.cases_Bool, Bool.eqb-false, Grind.common_steps}
+use Rattle.std.specs.{Char.is_ascii_alphanumeric, Char.to_ascii_lowercase, Cmp.first_so, Cmp.second_so, List.list_all, Option.option_map, Option.option_or}
 use Rattle.version_order.proofs.lemmas.Costs.{Costs, FrontCosts, behind_costs, either_costs, mapped_costs, number_costs, optional_costs, parted, repeated_costs, weaker_costs, whole_within, zero_cost}
-use Rattle.version_order.proofs.lemmas.NumberBytes.{list_length, number_length}
-use Rattle.version_order.specs.Facts.{key_room}
-use Rattle.version_order.specs.Keyed.{AreWithin}
-use Rattle.version_order.specs.keys.Codes.{list_bytes}
-use Rattle.version_order.specs.keys.NumberBytes.{number_bytes, text_bytes}
-use Rattle.version_order.specs.texts.Bytes.{hyphen, plus}
-use Rattle.version_order.specs.texts.DigitRun.{is_digits, number_front}
-use Rattle.std.specs.Prelude.{option_and_then, unwrap_or}
-use Rattle.version_order.specs.texts.Front.{Front, map_value, after_mark, begins, optional, repeated, run_front}
+use Rattle.version_order.proofs.lemmas.{Front.list_all-take_while, NumberBytes.list_length, NumberBytes.number_length}
+use Rattle.version_order.specs.texts.Front.{number_front, Front, map_value, begins, optional, run_front}
+use Rattle.version_order.specs.{Facts.key_room, Keyed.AreWithin, keys.Codes.list_bytes, keys.Codes.number_bytes, keys.Codes.text_bytes, texts.Bytes.hyphen, texts.Bytes.plus}
 use Rattle.scheme_pypi.proofs.lemmas.Pieces.{text_step}
 use Rattle.scheme_pypi.specs.Order.{Alpha, Beta, Candidate, Phase, dev_bytes, local_bytes, locals_bytes, number_or_end_bytes, phase_bytes, pypi_bytes}
-use Rattle.scheme_pypi.specs.Texts.{alpha_words, beta_words, candidate_words, post_words, dev_words, pypi_facts, pypi_rules, after_any, after_byte, after_word, before_zeros, dev_front, epoch_or_zero, is_blank, is_dot, is_separator, joined, local_front, local_of, number_or_zero, numbered, phase_of, piece_front, post_front, pre_front, pypi_front, release_front, without_blanks, without_separator, without_v, without_zeros}
+use Rattle.scheme_pypi.specs.Texts.{alpha_words, beta_words, candidate_words, post_words, dev_words, pypi_facts, pypi_rules, after_any, after_byte, after_word, dev_front, epoch_or_zero, is_dot, is_separator, joined, local_front, local_of, number_or_zero, numbered, phase_of, piece_front, post_front, pre_front, pypi_front, release_front, without_blanks, without_separator, without_v, without_zeros}
 
 -- ---- words
 
 word_length : (word text : List ℕ) → IfSome (after_word word text) (λ rest. length text ≡ length word + length rest)
 word_length [] text = omega arith
 word_length (letter ∷ word) [] = tt
-word_length (letter ∷ word) (byte ∷ text) = elim (cases_Bool (to_ascii_lowercase byte == letter)) [
-  | inl same ↦ rw same (by (after_word word text) (word_length word text))
-  | inr other ↦ rw other tt
-]
-  where
-    by : (o : Option (List ℕ)) → IfSome o (λ rest. length text ≡ length word + length rest)
-        → IfSome o (λ rest. length (byte ∷ text) ≡ length (letter ∷ word) + length rest)
-    by None e = tt
-    by (Some rest) e = omega (arith, e)
+word_length (letter ∷ word) (byte ∷ text) = grind (arith, common_steps, word_length word text, cases_Bool)
 
 words_fall : (words : List (List ℕ)) → list_all (begins (λ letter. nat_lt 0 letter)) words ≡ true → (text : List ℕ)
     → IfSome (after_any words text) (λ rest. length rest < length text)
@@ -50,11 +32,7 @@ words_fall ((letter ∷ word) ∷ words) are text =
     by (Some rest) e others = omega (arith, e)
 
 separator_within : (text : List ℕ) → length (without_separator text) ≤ length text
-separator_within [] = omega arith
-separator_within (byte ∷ text) = elim (cases_Bool (is_separator byte)) [
-  | inl is ↦ rw is (omega arith)
-  | inr other ↦ rw other (omega arith)
-]
+separator_within text = grind (arith, common_steps)
 
 -- a number after a word has room for one byte more
 numbered_costs : (words : List (List ℕ)) → list_all (begins (λ letter. nat_lt 0 letter)) words ≡ true
@@ -74,75 +52,23 @@ numbered_costs words are text =
 module _ {X : Type 0} (between : ℕ → Bool) (front : Front X) (code : Option X → List ℕ)
     (costs : FrontCosts (λ x. length (code (Some x))) 1 front) where
   after_costs : FrontCosts (λ x. length (code (Some x))) 0 (after_byte between front)
-  after_costs [] = tt
-  after_costs (byte ∷ text) = elim (cases_Bool (between byte)) [
-    | inl passes ↦ rw passes (by (front text) (costs text))
-    | inr fails ↦ rw fails tt
-  ]
-    where
-      by : (o : Option (X × List ℕ)) → IfSome o (Costs (λ x. length (code (Some x))) 1 text)
-          → IfSome o (Costs (λ x. length (code (Some x))) 0 (byte ∷ text))
-      by None e = tt
-      by (Some read) e = omega (arith, e)
+  after_costs = grind (arith, common_steps)
 
   -- the end of a list is one byte
   joined_costs : length (code None) ≡ 1 → FrontCosts (λ xs. length (list_bytes code xs)) 2 (joined between front)
   unfolding joined
-  joined_costs one text = by (front text) (costs text) refl
-    where
-      by : (o : Option (X × List ℕ)) → IfSome o (Costs (λ x. length (code (Some x))) 1 text) → front text ≡ o
-          → IfSome (joined between front text) (Costs (λ xs. length (list_bytes code xs)) 2 text)
-      by None cost e = rw e tt
-      by (Some read) cost e =
-          let others = repeated (after_byte between front) (length read.1) read.1 in
-          rw e (omega (
-            arith,
-            cost,
-            one,
-            repeated_costs code (after_byte between front) after_costs (length read.1) read.1,
-            length-append (code (Some read.0)) (list_bytes code others.0),
-            list_length code others.0,
-          ))
+  joined_costs one = grind (arith, common_steps, Costs, repeated_costs, after_costs, length-append, list_length)
 
 -- ---- the pieces of a version
 
 epoch_cost : (text : List ℕ) → Costs (λ n. length (number_bytes n)) 1 text (epoch_or_zero text)
-epoch_cost text = by (number_front text) (number_costs text)
-  where
-    mark : (number : ℕ) (rest : List ℕ) → Costs (λ n. length (number_bytes n)) 0 text (number, rest)
-        → Costs (λ n. length (number_bytes n)) 1 text
-        (unwrap_or (option_and_then (λ rest. Some (number, rest)) (after_mark 33 rest)) (0, text))
-    mark number [] cost = omega arith
-    mark number (byte ∷ rest) cost = elim (cases_Bool (byte == 33)) [
-      | inl here ↦ rw here (omega (arith, cost))
-      | inr other ↦ rw other (omega arith)
-    ]
-
-    by : (o : Option (ℕ × List ℕ)) → IfSome o (Costs (λ n. length (number_bytes n)) 0 text)
-        → Costs (λ n. length (number_bytes n)) 1 text (unwrap_or (option_and_then (λ (read : ℕ × List ℕ).
-        option_and_then (λ rest. Some (read.0, rest)) (after_mark 33 read.1)) o) (0, text))
-    by None cost = omega arith
-    by (Some read) cost = mark read.0 read.1 cost
+epoch_cost text = grind (arith, common_steps, number_costs text)
 
 -- zeros at the end of a release are not written
 zeros_gone : (numbers : List ℕ)
     → length (list_bytes number_or_end_bytes (without_zeros numbers)) ≤ length (list_bytes number_or_end_bytes numbers)
 zeros_gone [] = omega arith
-zeros_gone (number ∷ numbers) = by (without_zeros numbers) (zeros_gone numbers)
-  where
-    first : (rest : List ℕ) → length (list_bytes number_or_end_bytes (number ∷ rest))
-        ≡ length (number_or_end_bytes (Some number)) + length (list_bytes number_or_end_bytes rest)
-    first rest = length-append (number_or_end_bytes (Some number)) (list_bytes number_or_end_bytes rest)
-
-    by : (kept : List ℕ)
-        → length (list_bytes number_or_end_bytes kept) ≤ length (list_bytes number_or_end_bytes numbers)
-        → length (list_bytes number_or_end_bytes (before_zeros number kept))
-        ≤ length (list_bytes number_or_end_bytes (number ∷ numbers))
-    by [] e = elim (cases_Bool (number == 0)) [
-      | inl none ↦ rw none (omega (arith, first numbers, e))
-      | inr some ↦ rw some (omega (arith, first numbers, first [], e))
-    ]
-    by (next ∷ kept) e = omega (arith, first numbers, first (next ∷ kept), e)
+zeros_gone (number ∷ numbers) = grind (arith, common_steps, zeros_gone numbers, length-append, cases_Bool)
 
 release_costs : FrontCosts (λ numbers. length (list_bytes number_or_end_bytes (without_zeros numbers))) 2 release_front
 release_costs =
@@ -201,22 +127,11 @@ text_size (byte ∷ text) all =
 
 piece_size : (piece : List ℕ) → list_all is_ascii_alphanumeric piece ≡ true → 0 < length piece
     → length (local_bytes (Some (local_of piece))) ≤ 2 * length piece + 1
-piece_size piece all some = elim (cases_Bool (is_digits piece)) [
-  | inl digits ↦ rw digits (omega (arith, number_length piece (second_so _ _ digits) some))
-  | inr other ↦ rw other (omega (arith, text_size piece all))
-]
+piece_size piece all some = grind (arith, common_steps, cases_Bool, number_length, text_size)
 
 piece_costs : FrontCosts (λ piece. length (local_bytes (Some piece))) 1 piece_front
 unfolding run_front
-piece_costs text = elim (cases_Bool (length (take_while is_ascii_alphanumeric text) == 0)) [
-  | inl none ↦ rw none tt
-  | inr some ↦ rw some (omega (
-    arith,
-    piece_size (take_while is_ascii_alphanumeric text) (list_all-take_while is_ascii_alphanumeric text)
-        (omega (arith, eqb-false _ 0 some)),
-    parted (prefix_len is_ascii_alphanumeric text) text,
-  ))
-]
+piece_costs = grind (arith, common_steps, cases_Bool, piece_size, list_all-take_while, eqb-false, parted)
 
 local_cost : (text : List ℕ) → Costs (λ local. length (locals_bytes local)) 1 text (optional local_front text)
 local_cost =
@@ -229,17 +144,10 @@ local_cost =
 
 blanks_within : (text : List ℕ) → length (without_blanks text) ≤ length text
 blanks_within [] = omega arith
-blanks_within (byte ∷ text) = elim (cases_Bool (is_blank byte)) [
-  | inl is ↦ rw is (omega (arith, blanks_within text))
-  | inr other ↦ rw other (omega arith)
-]
+blanks_within (byte ∷ text) = grind (arith, common_steps, blanks_within text, cases_Bool)
 
 v_within : (text : List ℕ) → length (without_v text) ≤ length text
-v_within text = by (after_word (codes "v") text) (word_length (codes "v") text)
-  where
-    by : (o : Option (List ℕ)) → IfSome o (λ rest. length text ≡ 1 + length rest) → length (unwrap_or o text) ≤ length text
-    by None e = omega arith
-    by (Some rest) e = omega (arith, e)
+v_within text = grind (arith, common_steps)
 
 pypi_costs : FrontCosts (λ v. length (pypi_bytes v)) 7 pypi_front
 pypi_costs text = by (release_front start) refl (release_costs start)

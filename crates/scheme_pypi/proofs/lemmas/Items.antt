@@ -1,12 +1,7 @@
 -- Words, what may be absent, and lists of items in the texts of Python's versions.
-use Rattle.std.proofs.Common.{◌≡◌, ◌⊎◌, ◌∙◌, ◌≤◌, ◌&&◌, ◌==◌, ℕ, Bool, true, false, List, [], ◌∷◌, length, Option, Some, None, ap, arith, inl, inr, refl, sym}
-use Rattle.std.proofs.lemmas.Bool.{cases_Bool, eqb-true}
-use Rattle.std.proofs.lemmas.List.{nil_from_length}
-use Rattle.std.specs.Cmp.{first_so, second_so}
-use Rattle.std.specs.Option.{option_map, option_map_or, option_or}
-use Rattle.std.specs.Ordering.{is_ne, ordering_then}
-use Rattle.std.specs.declared.cmp.Ordering.{Ordering}
-use Rattle.std.specs.declared.cmp.Ordering.TheVariants.{Less, Equal, Greater}
+use Rattle.std.proofs.Common.{[], ◌≡◌, ◌⊎◌, ◌∙◌, ◌≤◌, ◌==◌, ℕ, Bool, true, false, List, ◌∷◌, length, Option, Some, None, arith, inl, inr, refl, sym}
+use Rattle.std.proofs.lemmas.{Bool.eqb-true, Grind.common_steps, List.nil_from_length}
+use Rattle.std.specs.{Option.option_map, Option.option_or, Ordering.is_ne, Ordering.ordering_then, declared.cmp.Ordering.Ordering, declared.cmp.Ordering.TheVariants.Equal}
 use Rattle.version_order.proofs.lemmas.Front.{Shrinks, repeated-None, repeated-next}
 use Rattle.version_order.specs.texts.Front.{Consumes, Front, begins, repeated, map_value, optional}
 use Rattle.scheme_pypi.specs.Texts.{after_byte, items_at, joined, next_item, after_any, number_or_zero, numbered, without_separator}
@@ -61,19 +56,11 @@ pub record Reads {X : Type 0} (starts : ℕ → Bool) (front : Front X) : Type 0
 -- the next item begins so, or there is none
 pub next_begins : (between starts : ℕ → Bool) (text : List ℕ)
     → (next_item between starts text ≡ []) ⊎ (begins starts (next_item between starts text) ≡ true)
-next_begins between starts [] = inl refl
-next_begins between starts (byte ∷ text) = elim (cases_Bool (between byte && begins starts text)) [
-  | inl goes ↦ rw goes (inr (second_so _ _ goes))
-  | inr ends ↦ rw ends (inl refl)
-]
+next_begins between starts text = grind (arith, common_steps)
 
 -- it is no longer than the text
 pub next_shorter : (between starts : ℕ → Bool) (text : List ℕ) → length (next_item between starts text) ≤ length text
-next_shorter between starts [] = omega arith
-next_shorter between starts (byte ∷ text) = elim (cases_Bool (between byte && begins starts text)) [
-  | inl goes ↦ rw goes (omega arith)
-  | inr ends ↦ rw ends (omega arith)
-]
+next_shorter between starts text = grind (arith, common_steps)
 
 pub is_nil : (l : List ℕ) → (length l == 0) ≡ true → l ≡ []
 is_nil l e = nil_from_length l (eqb-true (length l) 0 e)
@@ -81,41 +68,21 @@ is_nil l e = nil_from_length l (eqb-true (length l) 0 e)
 -- a next item that is not empty begins so
 pub next_goes : (between starts : ℕ → Bool) (text more : List ℕ) → more ≡ next_item between starts text
     → (length more == 0) ≡ false → begins starts more ≡ true
-next_goes between starts text more e some = elim (next_begins between starts text) [
-  | inl none ↦ let empty : true ≡ false = rw (e, none) at some in absurd (cc empty)
-  | inr begun ↦ rw e begun
-]
+next_goes between starts text more e some = grind (arith, common_steps)
 
 module _ {X : Type 0} (between starts : ℕ → Bool) (front : Front X) (reads : Reads starts front) where
   abbrev next : List ℕ → List ℕ
   next = next_item between starts
 
   after_shrinks : Shrinks (after_byte between front)
-  after_shrinks [] x rest e = cc e
-  after_shrinks (byte ∷ text) x rest e = elim (cases_Bool (between byte)) [
-    | inl passes ↦ omega (arith, reads.consumes text x rest (rw passes at e))
-    | inr fails ↦ cc (rw fails at e)
-  ]
+  after_shrinks = grind (arith, common_steps)
 
   -- what a front after a byte reads is the next item, if there is one
   after_next : (text : List ℕ) → begins starts (next text) ≡ true → after_byte between front text ≡ front (next text)
-  after_next [] e = absurd (cc e)
-  after_next (byte ∷ text) e = elim (cases_Bool (between byte && begins starts text)) [
-    | inl goes ↦ let marked : between byte ≡ true = first_so _ _ goes in rw (goes, marked) refl
-    | inr ends ↦ let none : false ≡ true = rw ends at e in absurd (cc none)
-  ]
+  after_next text e = grind (arith, common_steps)
 
   after_none : (text : List ℕ) → next text ≡ [] → after_byte between front text ≡ None
-  after_none [] e = refl
-  after_none (byte ∷ text) e = elim (cases_Bool (between byte)) [
-    | inl passes ↦ elim (cases_Bool (begins starts text)) [
-      | inl goes ↦
-          let none : text ≡ [] = rw (passes, goes) at e in
-          cc (rw none at goes)
-      | inr ends ↦ rw passes (reads.none text ends)
-    ]
-    | inr fails ↦ rw fails refl
-  ]
+  after_none text e = grind (arith, common_steps)
 
   pub joined-None : (text : List ℕ) → begins starts text ≡ false → joined between front text ≡ None
   unfolding joined
@@ -132,11 +99,7 @@ module _ {X : Type 0} (between starts : ℕ → Bool) (front : Front X) (reads :
       → joined between front text
       ≡ option_map (λ (read : List X × List ℕ). (x ∷ read.0, read.1)) (joined between front (next rest))
   unfolding joined
-  joined-more text x rest e goes =
-      let one = reads.some (next rest) goes in
-      let more = repeated-next (after_byte between front) after_shrinks rest one.0.0 one.0.1
-      (after_next rest goes ∙ one.1) in
-      rw (e, one.1) (rw more refl)
+  joined-more text x rest e goes = grind (arith, common_steps, repeated-next, after_shrinks, after_next)
 
   -- a list is read where an item begins
   pub joined-some : (text : List ℕ) → begins starts text ≡ true
@@ -173,13 +136,7 @@ module _ {X : Type 0} (between starts : ℕ → Bool) (front : Front X) (reads :
   pub by_rest : (text rest : List ℕ)
       → Some rest ≡ option_map (λ (read : List X × List ℕ). read.1) (joined between front text)
       → joined between front text ≡ Some (items_at between front text, rest)
-  by_rest text rest e = by (joined between front text) e
-    where
-      by : (o : Option (List X × List ℕ)) → Some rest ≡ option_map (λ (read : List X × List ℕ). read.1) o
-          → o ≡ Some (option_map_or (λ (read : List X × List ℕ). read.0) o [], rest)
-      by None e = cc e
-      by (Some read) e = let same : rest ≡ read.1 = cc e in
-          ap (λ (l : List ℕ). Some (read.0, l)) (sym same)
+  by_rest text rest e = grind (arith, common_steps)
 
   pub items-none : (text : List ℕ) → begins starts text ≡ false → items_at between front text ≡ []
   items-none text e = rw (joined-None text e) refl
@@ -197,26 +154,16 @@ module _ {X : Type 0} (between starts : ℕ → Bool) (front : Front X) (reads :
 -- the rests of two equal reads
 pub rest_same : {X : Type 0} (a x : X) (r s : List ℕ)
     → ◌≡◌ {A = Option (X × List ℕ)} (Some (a, r)) (Some (x, s)) → r ≡ s
-rest_same {X} a x r s e = ap second e
-  where
-    second : Option (X × List ℕ) → List ℕ
-    second None = []
-    second (Some read) = read.1
+rest_same a x r s hyp1 = grind (arith, common_steps)
 
 -- ---- lists compared item by item
 
 -- an order that decides, or leaves it to the next
 pub decided : (o first second : Ordering) → o ≡ first → is_ne o ≡ true → o ≡ ordering_then first second
-decided Less first second e ne = rw (← e) refl
-decided Equal first second e ne = cc ne
-decided Greater first second e ne = rw (← e) refl
+decided o first second e ne = grind (arith, common_steps)
 
 pub left_over : (o first second : Ordering) → o ≡ first → is_ne o ≡ false → ordering_then first second ≡ second
-left_over Less first second e ne = cc ne
-left_over Equal first second e ne = rw (← e) refl
-left_over Greater first second e ne = cc ne
+left_over o first second e ne = grind (arith, common_steps)
 
 pub is_equal : (o : Ordering) → is_ne o ≡ false → o ≡ Equal
-is_equal Less e = cc e
-is_equal Equal e = refl
-is_equal Greater e = cc e
+is_equal o e = grind (arith, common_steps)

@@ -1,24 +1,13 @@
 -- The pieces of the local versions of Python: their front, their order and their bytes.
-use Rattle.std.proofs.Common.{◌≡◌, ◌∙◌, ◌<◌, ◌≤◌, ◌+◌, ◌||◌, ◌==◌, ℕ, zero, suc, Bool, true, false, List, [], ◌∷◌, drop, length, length-append, map, take, Some, None, ap, arith, refl, sym}
-use Rattle.std.proofs.lemmas.Bool.{eqb-false, ne_eqb}
-use Rattle.std.proofs.lemmas.Bool.Decides.{nat_tests}
-use Rattle.std.proofs.lemmas.List.{length-drop, take-append-drop}
-use Rattle.std.specs.Char.{is_ascii_alphanumeric, is_ascii_digit, to_ascii_lowercase}
-use Rattle.std.specs.Cmp.{second_so}
-use Rattle.std.specs.List.{prefix_len, take_while}
-use Rattle.std.specs.Ordering.{bool_cmp}
-use Rattle.std.specs.Str.Parse.{digits_value}
+use Rattle.std.proofs.Common.{[], ◌≡◌, ◌∙◌, ◌<◌, ◌≤◌, ◌||◌, ◌==◌, ℕ, Bool, true, false, List, ◌∷◌, drop, length, length-append, map, Some, None, ap, arith, refl, sym}
+use Rattle.std.proofs.lemmas.{Bool.eqb-false, Bool.Decides.nat_tests, Grind.common_steps, List.length-drop, List.take-append-drop}
+use Rattle.std.specs.{Char.is_ascii_alphanumeric, Char.is_ascii_digit, Char.to_ascii_lowercase, Cmp.second_so, List.prefix_len, List.take_while, Ordering.bool_cmp, Str.Parse.digits_value}
 use Rattle.std.specs.declared.cmp.Ordering.TheVariants.{Less, Greater}
 use Rattle.version_order.proofs.lemmas.Front.{run_front-empty, run_front-some, take_while-all}
-use Rattle.version_order.specs.texts.Bytes.{plus}
-use Rattle.version_order.specs.texts.DigitRun.{is_digits, run_value}
-use Rattle.version_order.specs.texts.Front.{begins}
-use Rattle.version_order.specs.keys.NumberBytes.{number_bytes, text_byte, text_bytes}
-use Rattle.version_order.specs.keys.Lists.{ended_cmp}
+use Rattle.version_order.specs.{keys.Codes.number_bytes, keys.Codes.text_byte, keys.Codes.text_bytes, keys.Lists.ended_cmp, texts.Bytes.plus, texts.Front.is_digits, texts.Front.run_value, texts.Front.begins}
 use Rattle.scheme_pypi.specs.Order.{Local, Number, Text, local_bytes, local_cmp}
 use Rattle.scheme_pypi.specs.Texts.{is_separator, local_front, local_of, piece_front, pieces_front, pieces_of, next_piece}
 use Rattle.scheme_pypi.proofs.lemmas.Items.{Reads, items-none, items-step, joined-None, next_shorter, rest_same}
-use Rattle.version_order.proofs.lemmas.Runs.{run_cons}
 
 -- the letters and digits that a text begins with, and what follows them
 abbrev pub run_of : List ℕ → List ℕ
@@ -33,9 +22,7 @@ no_run starts (byte ∷ text) e = rw e refl
 
 pub some_run : (starts : ℕ → Bool) (text : List ℕ) → begins starts text ≡ true
     → (length (take_while starts text) == 0) ≡ false
-some_run starts [] e = cc e
-some_run starts (byte ∷ text) e =
-    rw (run_cons starts byte text e).0 (ne_eqb (suc (length (take_while starts text))) 0 (omega arith))
+some_run starts text e = grind (arith, common_steps)
 
 pub piece-some : (text : List ℕ) → (length (run_of text) == 0) ≡ false
     → piece_front text ≡ Some (local_of (run_of text), after_run text)
@@ -74,29 +61,13 @@ pieces_step text piece rest more run left next some =
     (rw (run, left) (piece-some text (rw run at some))) next
 
 pub no_pieces : (text piece : List ℕ) → piece ≡ run_of text → (length piece == 0) ≡ true → pieces_of text ≡ []
-no_pieces text piece run none = by (begins is_ascii_alphanumeric text) refl (rw run at none)
-  where
-    by : (starts : Bool) → begins is_ascii_alphanumeric text ≡ starts → (length (run_of text) == 0) ≡ true
-        → pieces_of text ≡ []
-    by true e none = cc (sym (some_run is_ascii_alphanumeric text e) ∙ none)
-    by false e none = items-none is_separator is_ascii_alphanumeric piece_front pieces_read text e
+no_pieces text piece run none = grind (arith, common_steps, some_run, items-none, pieces_read)
 
 -- after a piece less is left
 pub piece_falls : (text piece rest more : List ℕ) → piece ≡ run_of text → rest ≡ after_run text → more ≡ next_piece rest
     → (length piece == 0) ≡ false → length more < length text
 piece_falls text piece rest more run left next some =
-    let n = prefix_len is_ascii_alphanumeric text in
-    let parted : length (take n text) + length (drop n text) ≡ length text =
-    sym (length-append (take n text) (drop n text)) ∙ ap length (take-append-drop n text) in
-    omega (
-      arith,
-      parted,
-      ap length run,
-      ap length left,
-      ap length next,
-      next_shorter is_separator is_ascii_alphanumeric rest,
-      eqb-false _ 0 some,
-    )
+    grind (arith, common_steps, length-append, take-append-drop, next_shorter, eqb-false)
 
 -- ---- a local version after its plus
 
@@ -127,17 +98,7 @@ below (Text text) pieces = refl
 pub lists_end : (a b piece other : List ℕ) → piece ≡ run_of a → other ≡ run_of b → (p q : Bool)
     → p ≡ (length piece == 0) → q ≡ (length other == 0) → (p || q) ≡ true
     → bool_cmp q p ≡ ended_cmp local_cmp (pieces_of a) (pieces_of b)
-lists_end a b piece other run run_too true true e f some =
-    sym (λ i. ended_cmp local_cmp (no_pieces a piece run (sym e) i) (no_pieces b other run_too (sym f) i))
-lists_end a b piece other run run_too true false e f some =
-    let pieces = pieces_step b other _ _ run_too refl refl (sym f) in
-    sym ((λ i. ended_cmp local_cmp (no_pieces a piece run (sym e) i) (pieces i))
-    ∙ below (local_of other) (pieces_of (next_piece (after_run b))))
-lists_end a b piece other run run_too false true e f some =
-    let pieces = pieces_step a piece _ _ run refl refl (sym e) in
-    sym ((λ i. ended_cmp local_cmp (pieces i) (no_pieces b other run_too (sym f) i))
-    ∙ above (local_of piece) (pieces_of (next_piece (after_run a))))
-lists_end a b piece other run run_too false false e f some = cc some
+lists_end a b piece other run run_too p q e f some = search (arith, no_pieces, pieces_step, below, above)
 
 -- one of two tests
 pub or_first : (p q : Bool) → p ≡ true → (p || q) ≡ true
@@ -166,9 +127,7 @@ high : (byte : ℕ) → is_ascii_alphanumeric byte ≡ true → 2 ≤ to_ascii_l
 high byte e = grind (arith, nat_tests)
 
 one_byte : (byte : ℕ) → 2 ≤ byte → text_byte (Some byte) ≡ byte ∷ []
-one_byte zero e = absurd (omega arith)
-one_byte (suc zero) e = absurd (omega arith)
-one_byte (suc (suc byte)) e = refl
+one_byte byte e = grind (arith, common_steps)
 
 pub text_step : (byte : ℕ) (text : List ℕ) → is_ascii_alphanumeric byte ≡ true
     → text_bytes (map to_ascii_lowercase (byte ∷ text))

@@ -1,20 +1,10 @@
 -- Releases of Python's versions, number by number: their order, and their bytes.
-use Rattle.std.proofs.Common.{◌≡◌, ◌⊎◌, ◌∙◌, ◌<◌, ◌≤◌, ◌+◌, ◌-◌, ◌==◌, ◌++◌, ℕ, zero, suc, Bool, true, false, List, [], ◌∷◌, length, Some, None, ap, append-nil, arith, inl, inr, refl, replicate}
-use Rattle.std.proofs.lemmas.Bool.{ne_eqb}
-use Rattle.std.proofs.lemmas.Bool.Decides.{nat_tests}
-use Rattle.std.proofs.lemmas.List.{length-drop}
-use Rattle.std.specs.Char.{is_ascii_digit}
-use Rattle.std.specs.List.{prefix_len}
-use Rattle.std.specs.Option.{option_cmp}
-use Rattle.std.specs.Ordering.{is_eq, nat_cmp, ordering_then}
-use Rattle.std.specs.declared.cmp.Ordering.{Ordering}
-use Rattle.std.specs.declared.cmp.Ordering.TheVariants.{Equal, Greater}
-use Rattle.version_order.specs.texts.DigitRun.{behind_digits, number_front, run_value, starts_with_digit}
-use Rattle.version_order.specs.keys.Codes.{items_bytes, list_bytes}
-use Rattle.version_order.specs.keys.NumberBytes.{number_bytes}
-use Rattle.version_order.specs.keys.Lists.{ended_cmp}
-use Rattle.scheme_pypi.specs.Order.{number_or_end_bytes}
+use Rattle.std.proofs.Common.{[], ◌≡◌, ◌⊎◌, ◌<◌, ◌≤◌, ◌+◌, ◌-◌, ◌==◌, ◌++◌, ℕ, zero, suc, Bool, true, false, List, ◌∷◌, length, Some, None, ap, append-nil, arith, inl, inr, refl, replicate}
+use Rattle.std.proofs.lemmas.{Bool.ne_eqb, Grind.common_steps, List.length-drop}
+use Rattle.std.specs.{Char.is_ascii_digit, List.prefix_len, Option.option_cmp, Ordering.is_eq, Ordering.nat_cmp, Ordering.ordering_then, declared.cmp.Ordering.Ordering, declared.cmp.Ordering.TheVariants.Equal}
+use Rattle.version_order.specs.{keys.Codes.items_bytes, keys.Codes.list_bytes, keys.Codes.number_bytes, keys.Lists.ended_cmp, texts.Front.behind_digits, texts.Front.number_front, texts.Front.run_value, texts.Front.starts_with_digit}
 use Rattle.scheme_pypi.specs.Texts.{before_zeros, is_dot, joined, numbers_of, release_of, without_zeros, next_number}
+use Rattle.scheme_pypi.specs.Order.{number_or_end_bytes}
 use Rattle.scheme_pypi.proofs.lemmas.Items.{Reads, is_nil, items-step, joined-None, next_begins, next_shorter, rest_same}
 use Rattle.version_order.proofs.lemmas.Runs.{run_cons}
 
@@ -52,24 +42,12 @@ number_read text rest e left = rw (e, left) refl
 -- after a number less is left
 pub number_falls : (text rest more : List ℕ) → starts_with_digit text ≡ true → rest ≡ behind_digits text
     → more ≡ next_number rest → length more < length text
-number_falls [] rest more begins left next = cc begins
-number_falls (byte ∷ text) rest more begins left next =
-    let behind = (run_cons is_ascii_digit byte text begins).1 in
-    omega (
-      arith,
-      ap length next,
-      ap length left,
-      ap length behind,
-      length-drop (prefix_len is_ascii_digit text) text,
-      next_shorter is_dot is_ascii_digit rest,
-    )
+number_falls text rest more begins left next = grind (arith, common_steps, run_cons, length-drop, next_shorter)
 
 -- the numbers of a text: the first one and those of the next, or none
 pub numbers_step : (text rest more : List ℕ) → starts_with_digit text ≡ true → rest ≡ behind_digits text
     → more ≡ next_number rest → numbers_of text ≡ run_value text ∷ numbers_of more
-numbers_step text rest more e left next =
-    items-step is_dot is_ascii_digit number_front numbers_read text (run_value text) rest more
-    (number_read text rest e left) next
+numbers_step text rest more e left next = search (arith, items-step, numbers_read, number_read)
 
 no_list : joined is_dot number_front [] ≡ None
 no_list = joined-None is_dot is_ascii_digit number_front numbers_read [] refl
@@ -79,27 +57,14 @@ no_list = joined-None is_dot is_ascii_digit number_front numbers_read [] refl
 -- where nothing is left, one zero more changes no release
 release_step : (text rest more : List ℕ) → IsLeft text → rest ≡ behind_digits text → more ≡ next_number rest
     → release_of text ≡ without_zeros (run_value text ∷ numbers_of more)
-release_step text rest more (inl none) left next =
-    let nothing : more ≡ [] = next ∙ ap next_number (left ∙ ap behind_digits none) in
-    rw (none, nothing, no_list) refl
-release_step text rest more (inr begins) left next = ap without_zeros (numbers_step text rest more begins left next)
+release_step text rest more hyp1 left next = grind (arith, common_steps, no_list, numbers_step)
 
 abbrev pub releases_cmp : List ℕ → List ℕ → Ordering
 releases_cmp = ended_cmp (option_cmp nat_cmp)
 
 both_step : (m n : ℕ) (xs ys : List ℕ)
     → releases_cmp (before_zeros m xs) (before_zeros n ys) ≡ ordering_then (nat_cmp m n) (releases_cmp xs ys)
-both_step m n (x ∷ xs) (y ∷ ys) = refl
-both_step zero zero [] [] = refl
-both_step zero (suc n) [] [] = grind (arith, nat_tests)
-both_step (suc m) zero [] [] = grind (arith, nat_tests)
-both_step (suc m) (suc n) [] [] = grind (arith, nat_tests)
-both_step zero zero [] (y ∷ ys) = refl
-both_step zero (suc n) [] (y ∷ ys) = grind (arith, nat_tests)
-both_step (suc m) n [] (y ∷ ys) = grind (arith, nat_tests)
-both_step zero zero (x ∷ xs) [] = refl
-both_step (suc m) zero (x ∷ xs) [] = grind (arith, nat_tests)
-both_step m (suc n) (x ∷ xs) [] = grind (arith, nat_tests)
+both_step m n xs ys = grind (arith, common_steps)
 
 -- two releases by their first numbers, and what follows these
 pub releases_step : (a b rest other more others : List ℕ) → IsLeft a → IsLeft b → rest ≡ behind_digits a
@@ -107,9 +72,7 @@ pub releases_step : (a b rest other more others : List ℕ) → IsLeft a → IsL
     → releases_cmp (release_of a) (release_of b)
     ≡ ordering_then (nat_cmp (run_value a) (run_value b)) (releases_cmp (release_of more) (release_of others))
 releases_step a b rest other more others is is_too left left_too next next_too =
-    (λ i. releases_cmp (release_step a rest more is left next i)
-    (release_step b other others is_too left_too next_too i))
-    ∙ both_step (run_value a) (run_value b) _ _
+    search (arith, release_step, both_step)
 
 -- two whose numbers have ended
 pub ended_equal : (a b : List ℕ) → (length a == 0) ≡ true → (length b == 0) ≡ true
@@ -128,11 +91,7 @@ zeros_step (suc n) e = let before : suc n - 1 ≡ n = omega arith in rw before r
 -- zeros that are held back are kept if a number follows them, and dropped at the end
 kept : (held n : ℕ) (numbers : List ℕ) → (n == 0) ≡ false
     → without_zeros (replicate held 0 ++ (n ∷ numbers)) ≡ replicate held 0 ++ (n ∷ without_zeros numbers)
-kept zero n numbers e = first n (without_zeros numbers) e
-  where
-    first : (n : ℕ) (numbers : List ℕ) → (n == 0) ≡ false → before_zeros n numbers ≡ n ∷ numbers
-    first n [] e = rw e refl
-    first n (next ∷ numbers) e = refl
+kept zero n numbers e = grind (arith, common_steps)
 kept (suc held) n numbers e = rw (kept held n numbers e) (ahead held n (without_zeros numbers))
   where
     ahead : (held n : ℕ) (numbers : List ℕ)
@@ -160,35 +119,19 @@ release_end held left e = rw (is_nil left e, no_list, append-nil, dropped) refl
 -- one zero more is held back
 pub one_more : (held : ℕ) (left rest more : List ℕ) → IsLeft left → (length left == 0) ≡ false → run_value left ≡ 0
     → rest ≡ behind_digits left → more ≡ next_number rest → left_bytes held left ≡ left_bytes (held + 1) more
-one_more held text rest more is some zero_is left next =
-    ap (λ (l : List ℕ). list_bytes number_or_end_bytes (without_zeros l))
-    (ap (λ (l : List ℕ). replicate held 0 ++ l) (numbers_step text rest more (begun text is some) left next
-    ∙ ap (λ (n : ℕ). n ∷ numbers_of more) zero_is)
-    ∙ shifted held (numbers_of more))
-  where
-    shifted : (held : ℕ) (numbers : List ℕ) → replicate held 0 ++ (0 ∷ numbers) ≡ replicate (held + 1) 0 ++ numbers
-    shifted zero numbers = refl
-    shifted (suc held) numbers =
-        let one : suc held + 1 ≡ suc (held + 1) = omega arith in
-        rw one (ap (λ (l : List ℕ). 0 ∷ l) (shifted held numbers))
+one_more held left rest more is some zero_is hyp1 next = grind (arith, common_steps, numbers_step, begun)
 
 -- a number that is not zero, and none is held back behind it
 pub one_written : (held : ℕ) (left rest more : List ℕ) → IsLeft left → (length left == 0) ≡ false
     → (run_value left == 0) ≡ false → rest ≡ behind_digits left → more ≡ next_number rest
     → left_bytes held left
     ≡ items_bytes number_or_end_bytes (replicate held 0) ++ ((2 ∷ number_bytes (run_value left)) ++ left_bytes 0 more)
-one_written held text rest more is some positive left next =
-    ap (λ (l : List ℕ). list_bytes number_or_end_bytes (without_zeros (replicate held 0 ++ l)))
-    (numbers_step text rest more (begun text is some) left next)
-    ∙ ap (list_bytes number_or_end_bytes) (kept held (run_value text) (numbers_of more) positive)
-    ∙ bytes_apart held _
+one_written held left rest more is some positive hyp1 next =
+    grind (arith, common_steps, numbers_step, begun, kept, bytes_apart)
 
 -- the test for a number that is zero
 pub is_zero : (n : ℕ) (o : Ordering) → o ≡ nat_cmp n 0 → is_eq o ≡ true → (n ≡ 0) × (o ≡ Equal)
-is_zero zero o e same = (refl, e)
-is_zero (suc n) o e same =
-    let greater : nat_cmp (suc n) 0 ≡ Greater = grind (arith, nat_tests) in
-    let none : false ≡ true = rw (e, greater) at same in absurd (cc none)
+is_zero n o e same = grind (arith, common_steps)
 
 pub is_positive : (n : ℕ) (o : Ordering) → o ≡ nat_cmp n 0 → is_eq o ≡ false → (n == 0) ≡ false
 is_positive zero o e other = let none : true ≡ false = rw e at other in absurd (cc none)

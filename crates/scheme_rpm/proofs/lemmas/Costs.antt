@@ -1,47 +1,26 @@
 -- How long the key of a version of RPM may be.
-use Rattle.std.proofs.Common.{◌==◌, ◌≡◌, ◌≤◌, ◌<◌, ◌+◌, ◌*◌, ◌++◌, ◌∷◌, [], ℕ, Bool, true, List, Option, None, Some, IfSome, ap, arith, drop, inl, inr, length, refl}
-use Rattle.std.proofs.lemmas.Bool.{cases_Bool, eqb-false, eqb-true}
-use Rattle.std.proofs.lemmas.List.{length-append, take-append-drop}
-use Rattle.std.specs.Char.{is_ascii_alphabetic, is_ascii_digit}
-use Rattle.std.specs.List.{prefix_len, take_while}
+use Rattle.std.proofs.Common.{◌==◌, ◌≡◌, ◌≤◌, ◌<◌, ◌+◌, ◌*◌, ◌++◌, ◌∷◌, [], ℕ, Bool, true, List, Option, None, Some, IfSome, arith, drop, inl, inr, length, refl}
+use Rattle.std.proofs.lemmas.{Bool.cases_Bool, Bool.eqb-false, Bool.eqb-true, Grind.common_steps, List.length-append, List.take-append-drop}
+use Rattle.std.specs.{Char.is_ascii_alphabetic, Char.is_ascii_digit, List.prefix_len, List.take_while}
 use Rattle.version_order.proofs.lemmas.Costs.{HasNext, ends_cost, epoch_costs, pieces_cost, some_if, some_map, some_then, where_cut}
-use Rattle.version_order.proofs.lemmas.Front.{list_all-take_while}
-use Rattle.version_order.proofs.lemmas.NumberBytes.{number_length}
-use Rattle.version_order.proofs.lemmas.Runs.{run_cons}
-use Rattle.version_order.specs.Facts.{key_room}
-use Rattle.version_order.specs.Keyed.{AreWithin}
-use Rattle.version_order.specs.keys.Codes.{list_bytes}
-use Rattle.version_order.specs.keys.NumberBytes.{number_bytes, text_bytes}
-use Rattle.version_order.specs.texts.DigitRun.{run_value, behind_digits}
+use Rattle.version_order.proofs.lemmas.{Front.list_all-take_while, NumberBytes.number_length, Runs.run_cons}
+use Rattle.version_order.specs.{Facts.key_room, Keyed.AreWithin, keys.Codes.list_bytes, keys.Codes.number_bytes, keys.Codes.text_bytes, texts.Front.run_value, texts.Front.behind_digits}
 use Rattle.scheme_rpm.proofs.lemmas.Rpm.{IsRank, caret_first, digit_of, letter_of, letters_bytes, letters_first, no_end, number_first, ranks, separated, tilde_first}
 use Rattle.scheme_rpm.specs.Order.{Caret, Item, Letters, Number, PlainRpm, Tilde, item_bytes, release_bytes, rpm_bytes}
-use Rattle.scheme_rpm.specs.Rpm.{rpm_facts, rpm_rules}
 use Rattle.scheme_rpm.specs.Texts.{behind_epoch, byte_rank, is_version, items_in, items_of, of_cut, rpm_of}
+use Rattle.scheme_rpm.specs.Rpm.{rpm_facts, rpm_rules}
 
 -- letters have one byte more in a key
 letters_length : (text : List ℕ)
     → length (text_bytes (take_while is_ascii_alphabetic text)) ≡ length (take_while is_ascii_alphabetic text) + 1
-letters_length text =
-    omega (
-      arith,
-      ap (λ (l : List ℕ). length l) (letters_bytes text),
-      length-append (take_while is_ascii_alphabetic text) (0 ∷ []),
-    )
+letters_length text = grind (arith, common_steps, letters_bytes, length-append)
 
 -- a run that begins has a byte or more, and with the rest it is as long as the text
 run_length : (kind : ℕ → Bool) (byte : ℕ) (text : List ℕ) → kind byte ≡ true
     → (0 < length (take_while kind (byte ∷ text)))
     × (length (take_while kind (byte ∷ text)) + length (drop (prefix_len kind (byte ∷ text)) (byte ∷ text))
     ≡ length (byte ∷ text))
-run_length kind byte text is =
-    let whole = byte ∷ text in (
-      omega (arith, ap length (run_cons kind byte text is).0),
-      omega (
-        arith,
-        length-append (take_while kind whole) (drop (prefix_len kind whole) whole),
-        ap length (take-append-drop (prefix_len kind whole) whole),
-      ),
-    )
+run_length kind byte text is = grind (arith, common_steps, run_cons, length-append, take-append-drop)
 
 -- each piece costs at most three bytes for each byte that it has
 next : (text : List ℕ) → HasNext items_in item_bytes 3 text

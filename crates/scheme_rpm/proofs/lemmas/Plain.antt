@@ -1,7 +1,7 @@
 -- Versions of RPM without a colon, behind an epoch or none.
 use Rattle.std.proofs.Common.{◌≡◌, ◌==◌, ◌<◌, ◌++◌, ◌∙◌, ◌∷◌, [], ℕ, List, None, Some, ap, drop, false, get_or, length, refl, true}
 use Rattle.std.specs.List.{list_all, prefix_len, take_while}
-use Rattle.version_order.proofs.lemmas.Plain.{behind, cut_plain, not_all_pass, not_cut_plain, run_and_rest}
+use Rattle.version_order.proofs.lemmas.Cuts.{behind, cut_plain, not_all_pass, not_cut_plain, run_and_rest}
 use Rattle.version_order.specs.texts.Cuts.{cut_first}
 use Rattle.scheme_rpm.specs.Texts.{behind_epoch, is_of_rpm, is_version, items_in, of_cut}
 

@@ -1,23 +1,13 @@
 -- What is left of a text as a version of RPM.
 use Rattle.std.proofs.Common.{◌≡◌, ◌==◌, ◌&&◌, ◌||◌, ◌∙◌, ℕ, Bool, true, false, List, [], ◌∷◌, ◌++◌, Option, None, Some, ap, append-nil, append_assoc, arith, drop, inl, inr, length, not, refl, subst, sym}
+use Rattle.std.proofs.lemmas.{Bool.cases_Bool, Bool.Decides.nat_tests, Grind.common_steps, List.Folds.list_all-append}
 use Rattle.std.proofs.Math.Dec.{eqb-suc-zero}
-use Rattle.std.proofs.lemmas.Bool.{cases_Bool}
-use Rattle.std.proofs.lemmas.Bool.Decides.{nat_tests}
-use Rattle.std.proofs.lemmas.List.Folds.{list_all-append}
-use Rattle.std.specs.Char.{is_ascii_digit}
-use Rattle.std.specs.Cmp.{first_so, second_so}
-use Rattle.std.specs.List.{list_all, prefix_len, take_while}
-use Rattle.std.specs.Option.{is_some}
-use Rattle.version_order.proofs.lemmas.Cuts.{cut_last-whole, not_cut}
-use Rattle.version_order.proofs.lemmas.Front.{all_weaker, begins-drop}
-use Rattle.version_order.proofs.lemmas.Plain.{run_and_rest}
+use Rattle.std.specs.{Char.is_ascii_digit, Cmp.first_so, Cmp.second_so, List.list_all, List.prefix_len, List.take_while, Option.is_some}
 use Rattle.version_order.proofs.lemmas.Viable.Epochs.{last_behind, not_all, with_front, by_cut, one_part, two_parts, is_plain}
 use Rattle.version_order.proofs.lemmas.Viable.Left.{behind, empty_run, run_left, same, stays}
-use Rattle.version_order.specs.Viable.{IsLeft}
-use Rattle.version_order.specs.texts.Bytes.{hyphen}
-use Rattle.version_order.specs.texts.Cuts.{cut_first, cut_last}
-use Rattle.version_order.specs.texts.Front.{begins, is_run}
-use Rattle.scheme_rpm.specs.Texts.{behind_epoch, is_behind_epoch, is_of_rpm, is_version, items_in, of_cut}
+use Rattle.version_order.proofs.lemmas.{Cuts.cut_last-whole, Cuts.not_cut, Cuts.run_and_rest, Front.all_weaker, Front.begins-drop}
+use Rattle.version_order.specs.{Viable.IsLeft, texts.Bytes.hyphen, texts.Cuts.cut_first, texts.Cuts.cut_last, texts.Front.begins, texts.Front.is_run}
+use Rattle.scheme_rpm.specs.Texts.{behind_epoch, is_behind_epoch, is_of_rpm, is_version}
 use Rattle.scheme_rpm.proofs.lemmas.Plain.{all_of_version, some_version, wrong_bytes}
 
 -- a version is a run of its bytes
@@ -38,11 +28,7 @@ cut_test text None = is_version text
 cut_test text (Some cut) = is_version cut.0 && is_version cut.1
 
 behind_test : (epoch : ℕ) (text : List ℕ) → is_some (behind_epoch epoch text) ≡ cut_test text (cut_last 45 text)
-behind_test epoch text = by (cut_last 45 text)
-  where
-    by : (cut : Option (List ℕ × List ℕ)) → is_some (of_cut epoch text cut) ≡ cut_test text cut
-    by None = one_part (is_version text) (items_in text) _
-    by (Some cut) = two_parts (is_version cut.0) (is_version cut.1) (items_in cut.0) (items_in cut.1) _
+behind_test epoch text = grind (arith, common_steps, one_part, two_parts)
 
 pub any_epoch : (epoch : ℕ) (text : List ℕ) → is_some (behind_epoch epoch text) ≡ is_behind_epoch text
 any_epoch epoch text = behind_test epoch text ∙ sym (behind_test 0 text)
@@ -103,16 +89,7 @@ version_behind run all good =
 
 pub digits_behind : (digits : List ℕ) → list_all is_ascii_digit digits ≡ true
     → is_behind_epoch (digits ++ 48 ∷ []) ≡ true
-digits_behind digits all =
-    let digits_zero = digits ++ 48 ∷ [] in
-    let joined : list_all is_ascii_digit digits_zero ≡ true =
-    list_all-append is_ascii_digit digits (48 ∷ []) ∙ rw all refl in
-    let bytes = all_weaker is_ascii_digit is_of_rpm (λ byte e. grind (arith, nat_tests)) digits_zero joined in
-    version_behind digits_zero bytes (some digits bytes)
-  where
-    some : (l : List ℕ) → list_all is_of_rpm (l ++ 48 ∷ []) ≡ true → is_version (l ++ 48 ∷ []) ≡ true
-    some [] e = refl
-    some (byte ∷ l) e = e
+digits_behind digits all = grind (arith, common_steps, list_all-append, all_weaker, nat_tests, version_behind)
 
 module _ (text run rest : List ℕ) (run_is : run ≡ take_while is_of_rpm text)
     (rest_is : rest ≡ drop (prefix_len is_of_rpm text) text) where

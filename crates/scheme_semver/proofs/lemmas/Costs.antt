@@ -1,30 +1,17 @@
 -- How many bytes a key takes: at most two for each byte of its text.
 use Rattle.std.proofs.Common.{◌≡◌, ◌∙◌, ◌==◌, ◌+◌, ◌*◌, ◌<◌, ◌≤◌, ◌∷◌, ◌++◌, [], ℕ, Bool, true, false, List, Option, Some, None, IfSome, ap, arith, if◌then◌else◌, length, map, not, refl, subst, sym}
 use Rattle.std.proofs.lemmas.List.{length-append, take-append-drop}
-use Rattle.std.specs.Char.{is_ascii_digit}
-use Rattle.std.specs.Cmp.{first_so, second_so}
-use Rattle.std.specs.List.{list_all, onto_first, prefix_len, take_while}
-use Rattle.std.specs.Prelude.{option_and_then}
-use Rattle.std.specs.Str.Parse.{digits_value}
-use Rattle.version_order.proofs.lemmas.Bytes.{identifier_no_dot}
-use Rattle.version_order.proofs.lemmas.Costs.{KeysCost}
-use Rattle.version_order.proofs.lemmas.Cuts.{cut_first-length}
-use Rattle.version_order.proofs.lemmas.NumberBytes.{number_length}
-use Rattle.version_order.proofs.lemmas.Runs.{split_some}
-use Rattle.version_order.specs.keys.NumberBytes.{number_bytes}
-use Rattle.version_order.specs.texts.Bytes.{hyphen, is_identifier_byte, plus}
-use Rattle.version_order.specs.texts.Cuts.{cut_first, is_dot, pieces}
-use Rattle.version_order.specs.texts.DigitRun.{is_digits, starts_with_digit}
-use Rattle.version_rules.specs.grammar.Chunk.{PlainChunk}
-use Rattle.version_rules.specs.grammar.SemVer.{PlainSemVer}
-use Rattle.version_rules.specs.order.Parts.{chunk_bytes, release_bytes}
+use Rattle.std.specs.{Char.is_ascii_digit, Cmp.first_so, Cmp.second_so, List.list_all, List.onto_first, List.prefix_len, List.take_while, Prelude.option_and_then, Str.Parse.digits_value}
+use Rattle.version_order.proofs.lemmas.{Bytes.identifier_no_dot, Costs.KeysCost, Cuts.cut_first-length, NumberBytes.number_length, Runs.split_some}
+use Rattle.version_order.specs.{keys.Codes.number_bytes, texts.Bytes.hyphen, texts.Bytes.is_identifier_byte, texts.Bytes.plus, texts.Cuts.cut_first, texts.Cuts.is_dot, texts.Cuts.pieces, texts.Front.is_digits, texts.Front.starts_with_digit}
+use Rattle.version_rules.specs.{grammar.Chunk.PlainChunk, grammar.SemVer.PlainSemVer, order.Parts.chunk_bytes, order.Parts.release_bytes}
 use Rattle.version_texts.proofs.lemmas.key.Pieces.{more_items, text_chunk}
 use Rattle.version_texts.specs.Key.{chunk_of, chunks_of}
 use Rattle.scheme_semver.proofs.lemmas.Reading.{semver_read}
-use Rattle.scheme_semver.specs.declared.reader.Section.TheVariants as section
-use Rattle.scheme_semver.specs.Order.{pre_release_bytes, semver_bytes}
 use Rattle.scheme_semver.specs.Reading.{before_metadata, behind_core, core_pieces, is_of_core, pre_release_of, tail_of}
 use Rattle.scheme_semver.specs.Texts.{is_chunk, is_identifier, is_number, is_section, of_numbers, of_three, semver_of}
+use Rattle.scheme_semver.specs.Order.{pre_release_bytes, semver_bytes}
+use Rattle.scheme_semver.specs.declared.reader.Section.TheVariants as section
 
 -- the bytes of pieces, and one for each
 abbrev joined : List (List ℕ) → ℕ

@@ -1,23 +1,13 @@
 -- The numbers of a version of SemVer, read one after another.
 use Rattle.std.proofs.Common.{◌≡◌, ◌∙◌, ℕ, Bool, true, false, List, [], ◌∷◌, Option, Some, None, ap, arith, drop, refl, sym}
 use Rattle.std.proofs.lemmas.Bool.Decides.{nat_tests}
-use Rattle.std.specs.Char.{is_ascii_digit}
-use Rattle.std.specs.Cmp.{first_so, second_so}
-use Rattle.std.specs.List.{list_all, prefix_len, take_while}
-use Rattle.std.specs.Prelude.{option_and_then}
-use Rattle.std.specs.Str.Parse.{digits_value}
-use Rattle.version_order.proofs.lemmas.Front.{take_while-all}
-use Rattle.version_order.specs.texts.Bytes.{dot}
-use Rattle.version_rules.specs.grammar.Chunk.{PlainChunk}
-use Rattle.version_order.specs.texts.DigitRun.{is_digits, run_value, starts_with_digit}
-use Rattle.version_order.specs.texts.Front.{begins}
-use Rattle.version_rules.specs.grammar.SemVer.{PlainSemVer}
-use Rattle.version_order.proofs.lemmas.Bytes.{digit_no_dot}
+use Rattle.std.specs.{Char.is_ascii_digit, Cmp.first_so, Cmp.second_so, List.list_all, List.prefix_len, List.take_while, Prelude.option_and_then, Str.Parse.digits_value}
 use Rattle.version_order.proofs.lemmas.Runs.{and-false, last_piece, next_piece, other_piece, run_cons, no_run, rest_within}
-use Rattle.version_order.specs.texts.Cuts.{is_dot}
+use Rattle.version_order.proofs.lemmas.{Bytes.digit_no_dot, Front.take_while-all}
+use Rattle.version_order.specs.texts.{Bytes.dot, Cuts.is_dot, Front.is_digits, Front.run_value, Front.starts_with_digit, Front.begins}
+use Rattle.version_rules.specs.grammar.{Chunk.PlainChunk, SemVer.PlainSemVer}
 use Rattle.scheme_semver.proofs.lemmas.Reading.{semver_read}
-use Rattle.scheme_semver.specs.Reading.{behind_core, core_pieces, is_of_core, tail_of}
-use Rattle.scheme_semver.specs.Texts.{is_number, of_numbers, semver_of}
+use Rattle.scheme_semver.specs.{Reading.behind_core, Reading.core_pieces, Reading.is_of_core, Reading.tail_of, Texts.is_number, Texts.of_numbers, Texts.semver_of}
 
 digit_core : (byte : ℕ) → is_ascii_digit byte ≡ true → is_of_core byte ≡ true
 digit_core byte is = grind (arith, nat_tests)

@@ -1,21 +1,13 @@
 -- A version of SemVer that is cut at its plus and its hyphen is the one that is read from the beginning on.
 use Rattle.std.proofs.Common.{◌≡◌, ◌==◌, ◌∙◌, ℕ, Bool, true, false, List, [], ◌∷◌, ◌++◌, Option, Some, None, ap, append-nil, if◌then◌else◌, refl, sym}
-use Rattle.std.proofs.lemmas.Bool.{eqb-true}
-use Rattle.std.proofs.lemmas.List.{take-append-drop}
-use Rattle.std.specs.Cmp.{first_so, second_so}
-use Rattle.std.specs.List.{list_all, prefix_len, take_while}
-use Rattle.std.specs.Option.{option_map}
-use Rattle.std.specs.Prelude.{option_and_then}
+use Rattle.std.proofs.lemmas.{Bool.eqb-true, List.take-append-drop}
+use Rattle.std.specs.{Cmp.first_so, Cmp.second_so, List.list_all, List.prefix_len, List.take_while, Option.option_map, Prelude.option_and_then}
 use Rattle.version_order.proofs.lemmas.Front.{begins-drop, list_all-take_while}
-use Rattle.version_order.specs.texts.Bytes.{hyphen, plus}
-use Rattle.version_rules.specs.grammar.Chunk.{PlainChunk}
-use Rattle.version_order.specs.texts.Front.{begins}
-use Rattle.version_rules.specs.grammar.SemVer.{PlainSemVer}
+use Rattle.version_order.specs.texts.{Bytes.hyphen, Bytes.plus, Cuts.pieces, Cuts.cut_first, Front.begins}
+use Rattle.version_rules.specs.grammar.{Chunk.PlainChunk, SemVer.PlainSemVer}
 use Rattle.version_texts.specs.Key.{chunks_of}
-use Rattle.version_order.specs.texts.Cuts.{pieces, cut_first}
-use Rattle.scheme_semver.specs.declared.reader.Section.TheVariants.{PreRelease, Metadata}
 use Rattle.scheme_semver.specs.Reading.{before_metadata, behind_core, core_pieces, is_of_core, pre_release_of, tail_of}
-use Rattle.scheme_semver.specs.Texts.{is_section, of_numbers, semver_of, without_metadata}
+use Rattle.scheme_semver.specs.{Texts.is_section, Texts.of_numbers, Texts.semver_of, Texts.without_metadata, declared.reader.Section.TheVariants.PreRelease, declared.reader.Section.TheVariants.Metadata}
 
 -- a cut, with a text before it
 abbrev with_front : List ℕ → Option (List ℕ × List ℕ) → Option (List ℕ × List ℕ)

@@ -1,15 +1,10 @@
 -- Sections of SemVer's versions: identifiers with dots between.
 use Rattle.std.proofs.Common.{◌≡◌, ◌==◌, ◌&&◌, ℕ, Bool, true, false, List, [], ◌∷◌, if◌then◌else◌, length, not, refl}
 use Rattle.std.proofs.lemmas.Bool.{eqb-true}
-use Rattle.std.specs.Cmp.{first_so, second_so}
-use Rattle.std.specs.List.{list_all, onto_first}
-use Rattle.version_order.specs.texts.Bytes.{dot, is_identifier_byte, is_metadata_byte}
-use Rattle.version_order.proofs.lemmas.Bytes.{identifier_no_dot}
-use Rattle.version_order.proofs.lemmas.Runs.{and-false, split_some}
-use Rattle.version_order.specs.texts.Cuts.{pieces, is_dot}
-use Rattle.scheme_semver.specs.declared.reader.Section.{Section}
-use Rattle.scheme_semver.specs.declared.reader.Section.TheVariants.{Metadata, PreRelease}
-use Rattle.scheme_semver.specs.Texts.{allows, is_identifier, is_section}
+use Rattle.std.specs.{Cmp.first_so, Cmp.second_so, List.list_all, List.onto_first}
+use Rattle.version_order.specs.texts.{Bytes.dot, Bytes.is_identifier_byte, Bytes.is_metadata_byte, Cuts.pieces, Cuts.is_dot}
+use Rattle.version_order.proofs.lemmas.{Bytes.identifier_no_dot, Runs.and-false, Runs.split_some}
+use Rattle.scheme_semver.specs.{Texts.allows, Texts.is_identifier, Texts.is_section, declared.reader.Section.Section, declared.reader.Section.TheVariants.Metadata, declared.reader.Section.TheVariants.PreRelease}
 
 -- an identifier has no other bytes
 pub allows_no_other : (section : Section) (text : List ℕ) → list_all is_identifier_byte text ≡ false

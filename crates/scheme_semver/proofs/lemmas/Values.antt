@@ -1,18 +1,10 @@
 -- Numbers without a leading zero, compared by the count of their digits and then by these.
 use Rattle.std.proofs.Common.{◌≡◌, ◌∙◌, ◌<◌, ◌⊎◌, ℕ, Bool, true, false, suc, List, [], ◌∷◌, ap, arith, drop, inl, inr, length, refl, sym}
-use Rattle.std.proofs.lemmas.Bool.{eqb-true}
-use Rattle.std.proofs.lemmas.Bool.Decides.{nat_tests}
-use Rattle.std.specs.Char.{is_ascii_digit}
-use Rattle.std.specs.Cmp.{first_so, nat_cmp_is, second_so}
-use Rattle.std.specs.List.{list_all, prefix_len}
-use Rattle.std.specs.Ordering.{nat_cmp, ordering_then}
-use Rattle.std.specs.declared.cmp.Ordering.{Ordering}
+use Rattle.std.proofs.lemmas.{Bool.eqb-true, Bool.Decides.nat_tests}
+use Rattle.std.specs.{Char.is_ascii_digit, Cmp.first_so, Cmp.nat_cmp_is, Cmp.second_so, List.list_all, List.prefix_len, Ordering.nat_cmp, Ordering.ordering_then, declared.cmp.Ordering.Ordering}
 use Rattle.std.specs.declared.cmp.Ordering.TheVariants.{Less, Equal, Greater}
-use Rattle.version_order.proofs.lemmas.NumberBytes.{is_zero}
-use Rattle.version_order.proofs.lemmas.NumberOrder.{numbers_compared}
-use Rattle.version_order.specs.texts.DigitRun.{is_digits, run_value}
-use Rattle.version_order.specs.keys.Lists.{bytes_cmp}
-use Rattle.version_order.proofs.lemmas.Runs.{not_true}
+use Rattle.version_order.proofs.lemmas.{NumberBytes.is_zero, NumberBytes.numbers_compared, Runs.not_true}
+use Rattle.version_order.specs.{keys.Lists.bytes_cmp, texts.Front.is_digits, texts.Front.run_value}
 use Rattle.scheme_semver.proofs.lemmas.Numbers.{all_digits, value}
 use Rattle.scheme_semver.specs.Texts.{is_number}
 

@@ -1,38 +1,22 @@
 -- Where a walk over a text stops as a version of SemVer 2.0.0, and what is left of texts that are none.
 use Rattle.std.proofs.Common.{◌≡◌, ◌==◌, ◌&&◌, ◌||◌, ◌-◌, ◌∙◌, ℕ, zero, suc, Bool, true, false, List, [], ◌∷◌, ◌++◌, Option, None, Some, ap, append-nil, append_assoc, arith, drop, length, not, refl, subst, sym, take, inl, inr, if◌then◌else◌, map}
 use Rattle.std.proofs.lemmas.Bool.{and_from, cases_Bool, eqb-true, ne_eqb, or_right}
-use Rattle.std.proofs.lemmas.Bool.Decides.{nat_tests}
-use Rattle.std.proofs.lemmas.List.Folds.{list_all-append}
-use Rattle.std.specs.Char.{is_ascii_digit}
-use Rattle.std.specs.Cmp.{first_so, second_so}
-use Rattle.std.specs.List.{list_all, prefix_len, take_while}
-use Rattle.std.specs.Option.{is_some, option_map}
-use Rattle.std.specs.Prelude.{option_and_then}
-use Rattle.std.specs.Str.Parse.{digits_value}
-use Rattle.version_order.proofs.lemmas.Bytes.{digit_no_dot, dot_no_identifier, identifier_no_dot}
-use Rattle.version_order.proofs.lemmas.Cuts.{not_cut}
-use Rattle.version_order.proofs.lemmas.Front.{all_weaker, list_all-take_while}
+use Rattle.std.proofs.lemmas.{Bool.Decides.nat_tests, List.Folds.list_all-append}
+use Rattle.std.specs.{Char.is_ascii_digit, Cmp.first_so, Cmp.second_so, List.list_all, List.prefix_len, List.take_while, Option.is_some, Option.option_map, Prelude.option_and_then, Str.Parse.digits_value}
 use Rattle.version_order.proofs.lemmas.Runs.{and-false, not_false, run_cons, run_none, split_some}
-use Rattle.version_order.proofs.lemmas.Viable.Epochs.{first_behind, with_front}
 use Rattle.version_order.proofs.lemmas.Viable.Left.{after_run, alone, behind, grown, is_nothing, longest, nothing_apart, run_is_run, same, stays}
 use Rattle.version_order.proofs.lemmas.Viable.Walks.{IsSplit, cut_at, cut_behind, stops_at_piece, stops_begun, stops_in_next, stops_in_tail, stops_nothing, stops_passes}
+use Rattle.version_order.proofs.lemmas.{Bytes.digit_no_dot, Bytes.dot_no_identifier, Bytes.identifier_no_dot, Cuts.not_cut, Front.all_weaker, Front.list_all-take_while, Viable.Epochs.first_behind, Viable.Epochs.with_front}
 use Rattle.version_order.proofs.lemmas.Viable.Pieces.{and-assoc, and-true, split_pieces}
-use Rattle.version_order.specs.Viable.{IsLeft, IsLongestViable, IsCut, Stops}
 use Rattle.version_order.specs.texts.Bytes.{dot, hyphen, is_identifier_byte, is_metadata_byte, plus}
-use Rattle.version_order.specs.texts.Cuts.{cut_first, is_dot, pieces}
-use Rattle.version_order.specs.texts.DigitRun.{behind_digits}
-use Rattle.version_order.specs.texts.Front.{begins}
-use Rattle.version_rules.specs.grammar.Chunk.{PlainChunk}
-use Rattle.version_rules.specs.grammar.SemVer.{PlainSemVer}
+use Rattle.version_order.specs.{Viable.IsLeft, Viable.IsLongestViable, Viable.IsCut, Viable.Stops, texts.Cuts.cut_first, texts.Cuts.is_dot, texts.Cuts.pieces, texts.Front.behind_digits, texts.Front.begins}
+use Rattle.version_rules.specs.grammar.{Chunk.PlainChunk, SemVer.PlainSemVer}
 use Rattle.version_texts.proofs.lemmas.Viable.{no_digits, some_bytes}
 use Rattle.version_texts.specs.Key.{chunks_of}
-use Rattle.scheme_semver.proofs.lemmas.Numbers.{last_number, next_number, other_number}
-use Rattle.scheme_semver.proofs.lemmas.Reading.{semver_read}
-use Rattle.scheme_semver.proofs.lemmas.SemVer.{allows_no_other, section_bytes}
+use Rattle.scheme_semver.proofs.lemmas.{Numbers.last_number, Numbers.next_number, Numbers.other_number, Reading.semver_read, SemVer.allows_no_other, SemVer.section_bytes}
 use Rattle.scheme_semver.specs.Reading.{before_metadata, behind_core, core_pieces, is_core, is_of_core, is_pre_release, is_tail, pre_release_of, tail_of}
 use Rattle.scheme_semver.specs.Texts.{allows, is_chunk, is_number, is_section, of_numbers, of_three, semver_of}
-use Rattle.scheme_semver.specs.declared.reader.Section.{Section}
-use Rattle.scheme_semver.specs.declared.reader.Section.TheVariants.{Metadata, PreRelease}
+use Rattle.scheme_semver.specs.declared.reader.{Section.Section, Section.TheVariants.Metadata, Section.TheVariants.PreRelease}
 
 -- ---- sections
 

@@ -1,48 +1,22 @@
 -- What `compare --explain` shows of a version is what its key holds, and decides between two.
-use Rattle.std.proofs.Common.{◌≡◌, ◌↔◌, ◌∙◌, ◌==◌, ◌-◌, if◌then◌else◌, ℕ, zero, suc, true, List, [], ◌∷◌, ◌++◌, Option, None, Some, IfSome, codes, drop, length, take, refl, sym, ap, subst, arith, length-append}
+use Rattle.std.proofs.Common.{◌≡◌, ◌↔◌, ◌∙◌, ◌==◌, ◌-◌, if◌then◌else◌, ℕ, zero, suc, true, List, [], ◌∷◌, ◌++◌, Option, None, Some, IfSome, codes, drop, length, take, refl, sym, ap, arith, length-append}
 use Rattle.std.proofs.Math.Dec.{eqb-suc-zero}
-use Rattle.std.proofs.lemmas.Cmp.{nat_cmp_total, tied_itself}
-use Rattle.std.proofs.lemmas.List.{drop_at, take_at}
-use Rattle.std.proofs.lemmas.Option.{slice_get-map}
-use Rattle.std.specs.Char.{is_ascii_digit}
-use Rattle.std.specs.Cmp.{first_so, second_so}
-use Rattle.std.specs.FinMap.{nat_cmp-IsAntisymmetric}
-use Rattle.std.specs.List.{list_all, prefix_len, slice_get}
-use Rattle.std.specs.Option.{option_map, option_map_or}
-use Rattle.std.specs.Ordering.{nat_cmp, ordering_then}
-use Rattle.std.specs.Str.Parse.{digits_value}
-use Rattle.std.specs.declared.cmp.Ordering.{Ordering}
-use Rattle.std.specs.declared.cmp.Ordering.TheVariants.{Less, Equal, Greater}
-use Rattle.version_answers.specs.two.Explain.{behind_epoch, behind_parts, part_at, parts_text, tail_of}
-use Rattle.version_rules.proofs.lemmas.Versioning.{strict_is_general, versioning_of-Some, versioning_printed}
+use Rattle.std.proofs.lemmas.{Cmp.nat_cmp_total, Cmp.tied_itself, List.drop_at, List.take_at, Option.slice_get-map}
+use Rattle.std.specs.{Char.is_ascii_digit, Cmp.first_so, Cmp.second_so, FinMap.nat_cmp-IsAntisymmetric, List.list_all, List.prefix_len, List.slice_get, Option.option_map, Option.option_map_or, Ordering.nat_cmp, Ordering.ordering_then}
+use Rattle.std.specs.{Str.Parse.digits_value, declared.cmp.Ordering.Ordering, declared.cmp.Ordering.TheVariants.Less, declared.cmp.Ordering.TheVariants.Equal, declared.cmp.Ordering.TheVariants.Greater}
+use Rattle.version_answers.specs.Two.{behind_epoch, behind_parts, part_at, parts_text, tail_of}
+use Rattle.version_rules.proofs.lemmas.{Key.lists_same, SemVer.optional_begins, Versioning.strict_is_general, Versioning.versioning_of-Some, Versioning.versioning_printed}
 use Rattle.version_order.proofs.lemmas.Front.{all_weaker, prefix_len-append}
-use Rattle.version_rules.proofs.lemmas.Key.{lists_same}
-use Rattle.version_rules.proofs.lemmas.SemVer.{optional_begins}
-use Rattle.version_order.specs.declared.class.Class.TheVariants.{NotSign}
-use Rattle.version_order.specs.texts.Bytes.{colon, hyphen, is_section_byte}
-use Rattle.version_order.specs.texts.Class.{contains}
-use Rattle.version_rules.specs.grammar.Conversions.{version_of_semver}
-use Rattle.version_order.specs.texts.DigitRun.{is_digits}
-use Rattle.version_order.specs.texts.Grammar.{SpellsEach, EndsRun, sep_byte}
-use Rattle.version_rules.specs.grammar.Mess.{Further, PlainMess, SpellsFurther}
-use Rattle.version_rules.specs.grammar.Release.{SpellsRelease, release_text}
-use Rattle.version_rules.specs.grammar.Version.{PlainVersion, SpellsVersion}
+use Rattle.version_order.specs.{declared.class.Class.TheVariants.NotSign, texts.Bytes.colon, texts.Bytes.hyphen, texts.Bytes.is_section_byte, texts.Class.contains, texts.Front.is_digits, texts.Grammar.SpellsEach, texts.Grammar.EndsRun}
 use Rattle.version_rules.specs.grammar.Versioning.{PlainVersioning, Ideal, General, Complex, SpellsVersioning}
-use Rattle.version_rules.specs.key.Key.{Key, key_of, key_of_mess, precedence, sections_tail, versioning_epoch}
-use Rattle.version_rules.specs.key.PartKey.{PartKey, list_cmp, part_cmp, part_key}
-use Rattle.version_rules.specs.key.Tail.{Tail, PreReleased, Bare, Released, tail_cmp}
-use Rattle.version_rules.specs.laws.Part.{part_total, parts_same}
-use Rattle.version_texts.proofs.lemmas.versioning_ref.VersioningRef.{versioning_fits, versioning_key}
+use Rattle.version_rules.specs.key.Key.{Key, key_of, key_of_mess, precedence, sections_tail, versioning_epoch, Tail, PreReleased, Bare, Released, tail_cmp}
+use Rattle.version_rules.specs.grammar.{Body.SpellsRelease, Body.release_text, Conversions.version_of_semver, Mess.Further, Mess.PlainMess, Mess.SpellsFurther, Version.PlainVersion, Version.SpellsVersion}
+use Rattle.version_rules.specs.{key.PartKey.PartKey, key.PartKey.list_cmp, key.PartKey.part_cmp, key.PartKey.part_key, laws.Part.parts_same, laws.Part.part_total}
 use Rattle.version_texts.proofs.lemmas.scan.Complex.{further_text-is, no_further, section_no_sep, sections_are, sign_bytes, mess_cut}
-use Rattle.version_texts.proofs.lemmas.order.Difference.{epoch_law, part_law}
 use Rattle.version_texts.proofs.lemmas.scan.Shape.{IsCounted, body_taken, epoch_taken, no_epoch_taken, no_meta, version_cut, IsCut}
-use Rattle.version_texts.proofs.lemmas.versioning_ref.Field.{spelled_counts}
+use Rattle.version_texts.proofs.lemmas.{order.Difference.epoch_law, order.Difference.part_law, versioning_ref.Field.spelled_counts, versioning_ref.VersioningRef.versioning_fits, versioning_ref.VersioningRef.versioning_key}
+use Rattle.version_texts.specs.{Key.parts_of, Key.sections_of, Key.tail_of_sections, Order.difference_of, Scan.body_start, VersioningRef.field_text}
 use Rattle.version_texts.specs.declared.order.difference.Difference.TheVariants.{Epoch, Part}
-use Rattle.version_texts.specs.Key.{parts_of, sections_of, tail_of_sections}
-use Rattle.version_order.specs.texts.Cuts.{pieces}
-use Rattle.version_texts.specs.Order.{difference_of}
-use Rattle.version_texts.specs.Scan.{body_start}
-use Rattle.version_texts.specs.VersioningRef.{field_text}
 use Rattle.version_texts.specs.declared.versioning_ref.field.Field.TheVariants as field
 
 -- ---- where the texts of versions are cut
@@ -137,15 +111,11 @@ module _ (text : List ℕ) (v : PlainVersioning) (s : SpellsVersioning text v) w
 
   -- the parts are the body of the text
   parts_text-is : parts_text v ≡ c.body
-  parts_text-is =
-      (λ i. take (unsigned_length i) (behind_epoch-is i))
-      ∙ take_at c.body c.rest (length c.body) refl
+  parts_text-is = grind (arith, unsigned_length, behind_epoch-is, take_at)
 
   -- and what follows them the rest
   behind_parts-is : behind_parts v ≡ c.rest
-  behind_parts-is =
-      (λ i. drop (unsigned_length i) (behind_epoch-is i))
-      ∙ drop_at c.body c.rest (length c.body) refl
+  behind_parts-is = grind (arith, unsigned_length, behind_epoch-is, drop_at)
 
   -- the parts of the key are those of the body
   key_body : (key_of v).body ≡ parts_of c.body
@@ -156,10 +126,7 @@ module _ (text : List ℕ) (v : PlainVersioning) (s : SpellsVersioning text v) w
   -- the part that is shown at a place is that of the key
   pub shown_part : (place : ℕ)
       → option_map part_key (part_at v place) ≡ slice_get (key_of v).body place
-  shown_part place =
-      ap (λ (t : List ℕ). option_map part_key (slice_get (pieces t) place)) parts_text-is
-      ∙ sym (slice_get-map part_key (pieces c.body) place)
-      ∙ ap (λ (l : List PartKey). slice_get l place) (sym key_body)
+  shown_part place = grind (arith, parts_text-is, slice_get-map, key_body)
 
 -- ---- the epoch
 
@@ -170,9 +137,7 @@ module _ (text body rest : List ℕ) where
   unfolding body_start
   some_digits [] cut all =
       let none : 1 ≡ 0 = sym cut.starts ∙ ap body_start cut.whole in cc none
-  some_digits (d ∷ digits) cut all =
-      let first : is_ascii_digit d ≡ true = first_so _ _ all in
-      rw first (second_so _ _ all)
+  some_digits (d ∷ digits) cut all = grind (arith, first_so, second_so)
 
   -- the epoch that is shown is digits, and has the value of the epoch of the text, or that is 0
   epoch_shown : (epoch : List ℕ) → IsCut text epoch body rest
@@ -181,15 +146,10 @@ module _ (text body rest : List ℕ) where
       → (option_map_or (digits_value 10) digits 0
       ≡ digits_value 10 (take (body_start text - 1) text))
       × IfSome digits (λ shown. is_digits shown ≡ true)
-  epoch_shown epoch cut all None None s =
-      let here = subst (λ (l : List ℕ). IsCut text l body rest) s cut in
-      (sym (ap (digits_value 10) (no_epoch_taken text body rest here)), tt)
+  epoch_shown epoch cut all None None s = grind (arith, body, rest, cut, no_epoch_taken)
   epoch_shown epoch cut all None (Some n) s = absurd s
   epoch_shown epoch cut all (Some digits) None s = absurd s
-  epoch_shown epoch cut all (Some digits) (Some n) s =
-      let here = subst (λ (l : List ℕ). IsCut text l body rest) s.0 cut in
-      let taken = epoch_taken text digits body rest here in
-      (sym (ap (digits_value 10) taken), some_digits digits here (rw taken at all))
+  epoch_shown epoch cut all (Some digits) (Some n) s = grind (arith, body, rest, cut, epoch_taken, some_digits)
 
 -- the epoch that is shown is digits, and has the value of that of the key, which is 0 if none is
 -- shown
@@ -226,14 +186,7 @@ sections_shown : (rest : List ℕ) (more : List Further) → SpellsEach SpellsFu
     → (option_map_or after_sign (some_text rest) Bare ≡ sections_tail more)
     × ((some_text rest ≡ None) ↔ (sections_tail more ≡ Bare))
 sections_shown rest [] s = rw (no_further rest s) (refl, (λ e. refl, λ e. refl))
-sections_shown rest (f ∷ more) s =
-    let next = further_text-is rest f more s in
-    let text = sep_byte f.0 ∷ (next.0 ++ next.1) in
-    let some : some_text text ≡ Some text = rw (eqb-suc-zero (length (next.0 ++ next.1))) refl in
-    rw (next.2, some) (
-      ap tail_of_sections (sections_are next.0 next.1 f.1 more next.3 next.4),
-      (λ e. cc e, λ e. cc e),
-    )
+sections_shown rest (f ∷ more) s = grind (arith, further_text-is, rest, eqb-suc-zero, sections_are)
 
 -- what is shown of the tail of a messy version, and the tail of its key
 messy_tail : (text : List ℕ) (m : PlainMess) (s : SpellsVersioning text (Complex m))

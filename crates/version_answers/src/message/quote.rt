@@ -1,7 +1,7 @@
 //! What a message shows of a text that it quotes: a line, a word or the name of a file.
 ghost use Rattle.std.specs.Prelude.{◌≡◌, Some, string_bytes, IfOk};
 ghost use Rattle.std.specs.Fmt.{DisplaysOnOk};
-ghost use Rattle.version_answers.specs.message.Quote.{quoted, quoted_character, shown_front, text_in_front};
+ghost use Rattle.version_answers.specs.Message.{quoted, quoted_character, shown_front, text_in_front};
 
 use std::alloc::{AllocError, Global};
 use std::fmt;
@@ -35,6 +35,7 @@ pub fn quoted(alloc: Global, text: &[u8]) -> Result<String, AllocError>
 }
 
 /// Returns as much of a text as a message shows.
+#[tactic(auto, using(std::proofs::lemmas::List::take_min))]
 pub fn shown_front(text: &[u8]) -> &str
     ensures { result.now ≡ shown_front text.now }
 {

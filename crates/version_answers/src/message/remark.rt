@@ -1,9 +1,8 @@
 //! What a message adds to a text that has no version: why, and where it points at that, or the option that finds one.
 ghost use Rattle.std.specs.Prelude.{◌≡◌, ◌≤◌, length, Some};
-ghost use Rattle.std.specs.Fmt.{DisplaysOnOk};
-ghost use Rattle.std.specs.List.{list_all};
+ghost use Rattle.std.specs.{Fmt.DisplaysOnOk, List.list_all};
 ghost use Rattle.std.proofs.Math.ListN.{replicate};
-ghost use Rattle.version_answers.specs.message.Remark.{begins_plain, digit_place, is_plain, no_version_text, others_text, pointed_place, pointer_line, prefix_length, remark_on_none, IsFlawOfRest, IsRemark};
+ghost use Rattle.version_answers.specs.Message.{begins_plain, digit_place, is_plain, no_version_text, others_text, pointed_place, pointer_line, prefix_length, remark_on_none, IsFlawOfRest, IsRemark};
 
 use crate::message::quote::{SHOWN, Shown};
 use crate::message::schemes::SchemeNames;

@@ -9,7 +9,7 @@ pub struct SchemeNames;
 
 impl fmt::Display for SchemeNames {
     ghost use Rattle.std.specs.Prelude.{Some};
-    ghost use Rattle.version_answers.specs.message.Schemes.{scheme_names};
+    ghost use Rattle.version_answers.specs.Message.{scheme_names};
 
     ghost output = { λ _. Some scheme_names };
 
@@ -31,7 +31,7 @@ struct NamesOf {
 
 impl fmt::Display for NamesOf {
     ghost use Rattle.std.specs.Prelude.{Some};
-    ghost use Rattle.version_answers.specs.message.Schemes.{names_of};
+    ghost use Rattle.version_answers.specs.Message.{names_of};
 
     ghost output = { λ names. Some (names_of names.scheme) };
 
@@ -56,7 +56,7 @@ struct MoreNames {
 
 impl fmt::Display for MoreNames {
     ghost use Rattle.std.specs.Prelude.{Some, map};
-    ghost use Rattle.version_answers.specs.message.Schemes.{more_names};
+    ghost use Rattle.version_answers.specs.Message.{more_names};
 
     ghost output = { λ more. Some (more_names (map (λ name. name.now) more.names.now)) };
 

@@ -2,9 +2,8 @@
 
 ghost use Rattle.std.specs.Prelude.{◌≡◌, ◌++◌, false, OnOk};
 ghost use Rattle.std.specs.Option.{option_map};
-ghost use Rattle.serde_json.specs.View.{view};
-ghost use Rattle.serde_json.specs.Written.{compact_text, has_float};
-ghost use Rattle.version_answers.specs.one.Json.{json_line, json_of, number_or_null, text_or_null};
+ghost use Rattle.serde_json.specs.{View.view, Written.compact_text, Written.has_float};
+ghost use Rattle.version_answers.specs.One.{json_line, json_of, number_or_null, text_or_null};
 ghost use Rattle.version_texts.specs.VersioningRef.{plain_versioning_ref};
 
 use crate::one::show::{epoch_of, field_of, kind_name, number_at, stability_name};

@@ -1,7 +1,7 @@
 //! The command `key`: the sort keys of versions.
 
 ghost use Rattle.std.specs.Prelude.{◌≡◌, ◌++◌, OnOk};
-ghost use Rattle.version_answers.specs.one.Key.{key_line};
+ghost use Rattle.version_answers.specs.One.{key_line};
 ghost use Rattle.version_schemes.specs.any.AnyVersion.{plain_any};
 
 use crate::pieces::add_pieces;

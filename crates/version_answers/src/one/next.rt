@@ -2,8 +2,7 @@
 
 ghost use Rattle.std.specs.Prelude.{◌≡◌, false, string_bytes, IfOk, IsTrue, MatchOption};
 ghost use Rattle.std.specs.Option.{option_map};
-ghost use Rattle.version_answers.specs.one.Next.{IsNextBy, NoNextBy, WritesNext};
-ghost use Rattle.version_answers.specs.Pieces.{Adds};
+ghost use Rattle.version_answers.specs.One.{IsNextBy, NoNextBy, WritesNext, Adds};
 ghost use Rattle.version_rules.specs.grammar.Versioning.{versioning_text, PlainVersioning};
 ghost use Rattle.version_texts.specs.VersioningRef.{plain_versioning_ref};
 

@@ -1,9 +1,8 @@
 //! The command `show`: the kind of a version, its numbers and its other fields, in lines.
 
 ghost use Rattle.std.specs.Prelude.{◌≡◌, ◌++◌, OnOk};
-ghost use Rattle.std.specs.Fmt.{decimal};
-ghost use Rattle.std.specs.Option.{option_map};
-ghost use Rattle.version_answers.specs.one.Show.{field_line, kind_name, show_text, shown_epoch, stability_name};
+ghost use Rattle.std.specs.{Fmt.decimal, Option.option_map};
+ghost use Rattle.version_answers.specs.One.{field_line, kind_name, show_text, shown_epoch, stability_name};
 ghost use Rattle.version_rules.specs.grammar.Versioning.{versioning_nth};
 ghost use Rattle.version_texts.specs.VersioningRef.{field_text, plain_versioning_ref};
 

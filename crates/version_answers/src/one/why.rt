@@ -1,12 +1,9 @@
 //! The command `why`: which members of a set leave a version out.
 
 ghost use Rattle.std.specs.Prelude.{◌≡◌, ◌++◌, codes, List, OnOk, Some};
-ghost use Rattle.version_answers.specs.Pieces.{Adds};
-ghost use Rattle.version_answers.specs.one.Why.{head_text, members_text, why_text, IsWhyLine};
-ghost use Rattle.version_sets.specs.Excluding.{leave_out};
-ghost use Rattle.version_sets.specs.Form.{between, has};
+ghost use Rattle.version_answers.specs.One.{head_text, members_text, why_text, Adds, IsWhyLine};
 ghost use Rattle.version_answers.specs.Sets.{keys_of, set_of};
-ghost use Rattle.version_sets.specs.Reading.{Member};
+ghost use Rattle.version_sets.specs.{Excluding.leave_out, Form.between, Form.has, Reading.Member};
 ghost use Rattle.version_schemes.specs.any.AnyVersion.{plain_any};
 
 use crate::pieces::add_pieces;

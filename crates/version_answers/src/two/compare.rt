@@ -1,7 +1,7 @@
 //! How two versions compare, as `compare` and `test` have it.
 
 ghost use Rattle.std.specs.Prelude.{◌≡◌};
-ghost use Rattle.version_answers.specs.two.Compare.{holds, sign_text};
+ghost use Rattle.version_answers.specs.Two.{holds, sign_text};
 
 use std::cmp::Ordering;
 

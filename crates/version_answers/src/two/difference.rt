@@ -1,7 +1,7 @@
 //! The command `diff`: where two versions differ first.
 
 ghost use Rattle.std.specs.Prelude.{◌≡◌, ◌++◌, OnOk};
-ghost use Rattle.version_answers.specs.two.Difference.{difference_line, difference_name};
+ghost use Rattle.version_answers.specs.Two.{difference_line, difference_name};
 ghost use Rattle.version_texts.specs.VersioningRef.{plain_versioning_ref};
 
 use crate::pieces::add_pieces;

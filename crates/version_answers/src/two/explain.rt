@@ -1,13 +1,10 @@
 //! The command `compare --explain`: which of two versions comes first, and by what.
 
 ghost use Rattle.std.specs.Prelude.{◌≡◌, ◌==◌, ◌++◌, codes, if◌then◌else◌, length, None, Some, OnOk};
-ghost use Rattle.std.specs.List.{slice_get};
-ghost use Rattle.std.specs.Option.{option_map, unwrap_or};
-ghost use Rattle.version_answers.specs.two.Explain.{beside, behind_epoch, behind_parts, explained_line, explanation, have_one_text, is_number, ordinals, part_at, part_text, piece_text, place_text, tail_of};
+ghost use Rattle.std.specs.{List.slice_get, Option.option_map, Option.unwrap_or};
+ghost use Rattle.version_answers.specs.Two.{beside, behind_epoch, behind_parts, explained_line, explanation, have_one_text, is_number, ordinals, part_at, part_text, piece_text, place_text, tail_of};
 ghost use Rattle.version_rules.specs.grammar.Versioning.{versioning_text};
-ghost use Rattle.version_texts.specs.declared.versioning_ref.field.Field.TheVariants.{Epoch};
-ghost use Rattle.version_texts.specs.Order.{difference_of};
-ghost use Rattle.version_texts.specs.VersioningRef.{field_text, plain_versioning_ref};
+ghost use Rattle.version_texts.specs.{Order.difference_of, VersioningRef.field_text, VersioningRef.plain_versioning_ref, declared.versioning_ref.field.Field.TheVariants.Epoch};
 
 use crate::one::show::field_of;
 use crate::pieces::add_pieces;

@@ -1,23 +1,13 @@
 -- Answers that follow one another, and the texts that are asked.
 use Rattle.std.proofs.Common.{◌≡◌, ◌≢◌, ◌==◌, ◌<◌, ℕ, suc, Bool, true, false, not, Bor, List, [], ◌∷◌, ◌++◌, ◌+◌, ◌-◌, ◌≤◌, get_or, length, map, take, Option, None, Some, is_some, Result, Ok, Err, OnOk, inl, inr, refl, sym, subst, ap, ◌∙◌, arith, append-nil, append_assoc}
-use Rattle.std.proofs.lemmas.List.{length-map, take_all}
-use Rattle.std.proofs.lemmas.List.Elements.{filter-append}
-use Rattle.std.proofs.lemmas.List.Filters.{length-filter_both}
-use Rattle.std.proofs.lemmas.Bool.{cases_Bool, ne_eqb}
-use Rattle.std.specs.List.{filter, list_all, list_any}
-use Rattle.version_answers.proofs.lemmas.Pieces.{texts-next}
-use Rattle.std.specs.Io.KnownBytes.{Consumes, IsAtEnd}
-use Rattle.version_commands.specs.faults.Cause.{ComesOfAnswering, ComesOfAsking}
-use Rattle.version_commands.specs.faults.Ends.{is_of_word}
-use Rattle.version_commands.specs.words.Each.{AnsweredOr, AreAnswered, AreTexts, AreTextsOf, HasNoNext, HasSet, HaveAnswered, IsAnswer, are_versions, has_version, is_version, others_among, version_asked, versions_among}
-use Rattle.version_answers.specs.Pieces.{Adds}
-use Rattle.version_commands.specs.lines.Place.{line_text}
-use Rattle.version_commands.specs.declared.words.each.Answers.{Answers}
-use Rattle.version_commands.specs.declared.faults.TaskFault.{TaskFault}
-use Rattle.version_commands.specs.declared.options.EachOptions.{EachOptions}
-use Rattle.version_answers.specs.declared.spelling.Naming.{Naming}
-use Rattle.version_commands.specs.declared.options.Question.{Question}
+use Rattle.std.proofs.lemmas.{Bool.cases_Bool, Bool.ne_eqb, List.length-map, List.take_all, List.Elements.filter-append, List.Filters.length-filter_both}
+use Rattle.std.specs.{Io.KnownBytes.Consumes, Io.KnownBytes.IsAtEnd, List.filter, List.list_all, List.list_any}
+use Rattle.version_answers.proofs.lemmas.One.{texts-next}
+use Rattle.version_commands.specs.Each.{AnsweredOr, AreAnswered, AreTexts, HasNoNext, HasSet, HaveAnswered, IsAnswer, are_versions, has_version, is_version, others_among, version_asked, versions_among}
 use Rattle.version_commands.specs.declared.options.Question.TheVariants.{Json, Key, Next, Show, Why}
+use Rattle.version_commands.specs.{Cause.ComesOfAnswering, Cause.ComesOfAsking, Run.is_of_word, declared.faults.TaskFault.TaskFault, declared.options.EachOptions.EachOptions, declared.options.Question.Question}
+use Rattle.version_commands.specs.{declared.words.each.Answers.Answers, lines.Picked.line_text}
+use Rattle.version_answers.specs.{One.Adds, declared.spelling.Naming.Naming}
 use Rattle.version_lines.specs.Lines.{lines_of, plain_end}
 use Rattle.version_schemes.specs.any.Order.{PlainAny}
 
@@ -66,15 +56,7 @@ pub have-none : (first now after : Answers) (texts : List (List ℕ)) (text : Bo
     → after.question ≡ now.question → after.naming ≡ now.naming → after.end ≡ now.end → after.crlf ≡ now.crlf
     → after.unanswered ≡ Some text → HaveAnswered first after (texts ++ text.now ∷ [])
 have-none first now after texts text v have none some (answer, is, added) question naming end crlf unanswered =
-    let (answers, are, so_far) = rw none at have.answers_are in
-    let missing = no-next now.question now.naming now.end text.now v answer some is in
-    record {
-      question_is = question ∙ have.question_is;
-      naming_is = naming ∙ have.naming_is;
-      end_is = end ∙ have.end_is;
-      crlf_is = crlf ∙ have.crlf_is;
-      answers_are = rw unanswered (texts, [], answers, refl, are, rw have.naming_is at (rw have.question_is at missing));
-    }
+    grind (arith, no-next)
 
 -- or one before it has none
 still-unanswered : (question : Question) (naming : Naming) (end : ℕ) (head output : List ℕ) (texts : List (List ℕ))
@@ -103,11 +85,7 @@ pub word-texts : (question : Question) (options : EachOptions) (old : Option (Li
     (words : List (Bor (List ℕ))) → words ≡ options.versions.items → 0 < length words
     → AreTexts question options old old (versions_among question options.naming (map (λ word. word.now) words))
 word-texts question options old [] same some = absurd (omega (arith, some))
-word-texts question options old (word ∷ words) same some =
-    subst (λ (w : List (Bor (List ℕ))).
-    AreTextsOf question options old old
-    (versions_among question options.naming (map (λ t. t.now) (word ∷ words))) (map (λ t. t.now) w))
-    same (refl, refl)
+word-texts question options old (word ∷ words) same some = grind arith
 
 -- one word more is among those that pass a test if it does
 module _ (passes : List ℕ → Bool) (words : List (Bor (List ℕ))) (i : ℕ) (d : Bor (List ℕ)) (inside : i < length words) where
@@ -155,10 +133,7 @@ module _ (passes : List ℕ → Bool) where
 
   pub all-pass : (texts : List (List ℕ)) → (length (filter (λ text. not (passes text)) texts) == 0) ≡ list_all passes texts
   all-pass [] = refl
-  all-pass (text ∷ texts) = elim (cases_Bool (passes text)) [
-    | inl is ↦ rw is (all-pass texts)
-    | inr isnt ↦ rw isnt (ne_eqb _ _ (omega arith))
-  ]
+  all-pass (text ∷ texts) = grind (arith, cases_Bool, ne_eqb, all-pass texts)
 
 -- whether all words are versions, and whether any is, by those that are none
 module _ (question : Question) (options : EachOptions) (words others : List (Bor (List ℕ)))
@@ -197,8 +172,7 @@ line-texts question options old new input none read end = grind arith
 pub asking-answering : (question : Question) (options : EachOptions) (fails : Bool) (old new : Option (List ℕ))
     (texts : List (List ℕ)) → AreTexts question options old new texts → (fault : TaskFault)
     → ComesOfAnswering question options.naming options.end texts fault → ComesOfAsking question options fails old fault
-asking-answering question options fails old new texts are fault (inl memory) =
-    subst (ComesOfAsking question options fails old) (sym memory) tt
+asking-answering question options fails old new texts are fault (inl memory) = grind arith
 asking-answering question options fails old new texts are fault (inr (text, is, quotes)) =
     subst (ComesOfAsking question options fails old) (sym is) (new, texts, are, quotes)
 
@@ -211,8 +185,7 @@ answering-early question naming end texts fault (inr (text, is, quotes)) = ap is
 -- the answers so far, by another name
 pub still-held : (first now after : Answers) (texts : List (List ℕ)) → after ≡ now → HasSet now.question now.set
     → HaveAnswered first now texts → HasSet after.question after.set × HaveAnswered first after texts
-still-held first now after texts same set have =
-    subst (λ (a : Answers). HasSet a.question a.set × HaveAnswered first a texts) (sym same) (set, have)
+still-held first now after texts same set have = grind arith
 
 -- the last word apart
 pub last-apart : (words : List (Bor (List ℕ))) (d : Bor (List ℕ)) → 1 ≤ length words

@@ -1,19 +1,16 @@
 -- Inputs that were read in turn.
-use Rattle.std.proofs.Common.{◌≡◌, ◌<◌, ◌||◌, drop, ℕ, zero, suc, Bool, false, true, List, [], ◌∷◌, ◌++◌, length, get_or, map, take, Option, Some, refl, subst, ap, arith, ◌+◌, ◌∙◌, sym}
+use Rattle.std.proofs.Common.{◌≡◌, ◌<◌, ◌||◌, drop, ℕ, zero, suc, Bool, false, true, List, [], ◌∷◌, ◌++◌, length, get_or, map, take, Option, Some, refl, ap, arith, ◌+◌, ◌∙◌, sym}
 use Rattle.std.specs.List.{list_any}
 use Rattle.version_commands.specs.Files.{inputs_named, is_standard, reads_standard, AreInputs, IsInput, Reading}
-use Rattle.version_lines.specs.Inputs.{numbered, texts_of, PlainInput, PlainLine}
+use Rattle.version_lines.specs.{Inputs.numbered, Inputs.texts_of, Inputs.PlainInput, Inputs.PlainLine, Lines.ends_quoted, declared.lines.LineEnd.LineEnd}
 use Rattle.version_lines.proofs.lemmas.Sorting.{head-is, tail-is}
-use Rattle.version_lines.specs.Lines.{ends_quoted}
-use Rattle.version_lines.specs.declared.lines.LineEnd.{LineEnd}
 
 -- one more input was read after the others
 pub inputs-push : (reads : Reading) (old now new : Option (List ℕ))
     (names texts : List (List ℕ)) (name text : List ℕ) → AreInputs reads old now names texts
     → IsInput reads now new name text
     → AreInputs reads old new (names ++ name ∷ []) (texts ++ text ∷ [])
-inputs-push reads old now new [] [] name text none read =
-    (new, subst (λ (o : Option (List ℕ)). IsInput reads o new name text) none read, refl)
+inputs-push reads old now new [] [] name text none read = grind arith
 inputs-push reads old now new [] (t ∷ texts) name text none read = absurd none
 inputs-push reads old now new (n ∷ names) [] name text none read = absurd none
 inputs-push reads old now new (n ∷ names) (t ∷ texts) name text (between, here, more) read =
@@ -47,8 +44,7 @@ pub parts-around : {X : Type 0} (f : X → List ℕ) (names : List X) (i : ℕ) 
     → map f names ≡ map f (take i names) ++ f (get_or names i d) ∷ map f (drop (suc i) names)
 parts-around f [] i d inside = absurd (omega (arith, inside))
 parts-around f (name ∷ names) zero d inside = refl
-parts-around f (name ∷ names) (suc i) d inside =
-    ap (λ (others : List (List ℕ)). f name ∷ others) (parts-around f names i d (omega (arith, inside)))
+parts-around f (name ∷ names) (suc i) d inside = grind (arith, parts-around f names i d (omega (arith, inside)))
 
 -- where standard input is none of the inputs, the one at a place isn't
 pub none-standard : {X : Type 0} (f : X → List ℕ) (names : List X) (i : ℕ) (d : X)
@@ -63,8 +59,7 @@ none-standard f (name ∷ names) (suc k) d inside none =
 pub numbered-texts : (file : Option (List ℕ)) (before : ℕ) (texts : List (List ℕ))
     → texts_of (numbered file before texts) ≡ texts
 numbered-texts file before [] = refl
-numbered-texts file before (text ∷ texts) =
-    ap (λ (others : List (List ℕ)). text ∷ others) (numbered-texts file (suc before) texts)
+numbered-texts file before (text ∷ texts) = grind (arith, numbered-texts file (suc before) texts)
 
 -- and they are as many
 pub numbered-length : (file : Option (List ℕ)) (before : ℕ) (texts : List (List ℕ))
@@ -77,14 +72,9 @@ pub numbered-next : (file : Option (List ℕ)) (before total : ℕ) (texts : Lis
     (line : PlainLine) → left ≡ numbered file before texts → left ≡ line ∷ after → before + length texts ≡ total
     → (others : List (List ℕ)) × (after ≡ numbered file line.number others) × (line.number + length others ≡ total)
 numbered-next file before total [] left after line is next all = let e : [] ≡ line ∷ after = sym is ∙ next in cc
-numbered-next file before total (text ∷ texts) left after line is next all =
-    let e = sym next ∙ is in
-    let number : line.number ≡ suc before = ap (λ (l : PlainLine). l.number) (head-is e) in
-    (texts, tail-is e ∙ ap (λ (n : ℕ). numbered file n texts) (sym number), omega (arith, number, all))
+numbered-next file before total (text ∷ texts) left after line is next all = grind (arith, head-is, tail-is)
 
 -- where none is left, all came before
 pub numbered-all : (file : Option (List ℕ)) (before total : ℕ) (texts : List (List ℕ)) (left : List PlainLine)
     → left ≡ numbered file before texts → left ≡ [] → before + length texts ≡ total → before ≡ total
-numbered-all file before total texts left is none all =
-    let few : length (numbered file before texts) ≡ 0 = ap length (sym is ∙ none) in
-    omega (arith, few, numbered-length file before texts, all)
+numbered-all file before total texts left is none all = grind (arith, numbered-length)

@@ -1,30 +1,14 @@
 -- Hints that are so of a part of a run are so of the whole.
-use Rattle.std.proofs.Common.{◌≡◌, inl, inr, ◌+◌, ◌-◌, ℕ, Bool, true, List, [], ◌∷◌, Bor, length, Option, None, Some, arith, refl, sym, subst}
+use Rattle.std.proofs.Common.{◌≡◌, inl, inr, ◌+◌, ◌-◌, ℕ, Bool, true, List, [], ◌∷◌, Bor, length, Option, None, Some, arith, refl}
 use Rattle.std.specs.Option.{option_map}
 use Rattle.version_commands.proofs.lemmas.lines.Ordered.{lines-alike}
-use Rattle.version_commands.specs.faults.Cause.{ComesOfArranging, ComesOfFirst}
-use Rattle.version_commands.specs.lines.FirstWord.{without_set, Finding, HoldsByWords}
 use Rattle.version_commands.specs.Hints.{first_of, IfTags, IsOfArranged, IsOfArranging, IsOfBody, IsOfEach, IsOfInput, IsOfLines, IsOfRun, TagsMatter}
-use Rattle.version_commands.specs.Files.{inputs_of, Reading}
-use Rattle.version_commands.specs.Lists.{named_in}
-use Rattle.version_commands.specs.lines.Ordered.{arranged_in, body_of, options_in, ordered_in}
-use Rattle.version_commands.specs.lines.Picked.{bad_lines}
-use Rattle.version_commands.specs.lines.Place.{reads_of}
-use Rattle.version_commands.specs.declared.faults.TaskFault.{TaskFault}
-use Rattle.version_commands.specs.declared.faults.TaskFault.TheVariants.{NotVersion, NotRequirement, NotSet, NotTested, NotTestedSet, BadLine, NoNext, NoColumn, Unclosed, Memory, Read, Write}
-use Rattle.version_commands.specs.declared.files.Hint.{Hint}
 use Rattle.version_commands.specs.declared.files.Hint.TheVariants.{NoFile, Tags, WholeLines, Repeated, NothingKept}
-use Rattle.version_commands.specs.declared.options.Arrangement.{Arrangement}
-use Rattle.version_commands.specs.declared.options.Arrangement.TheVariants.{Sort, Newest, Filter}
-use Rattle.version_commands.specs.declared.options.EachOptions.{EachOptions}
-use Rattle.version_commands.specs.declared.options.LineOptions.{LineOptions}
-use Rattle.version_commands.specs.declared.options.Lists.{Lists}
-use Rattle.version_commands.specs.declared.options.Question.{Question}
-use Rattle.version_lines.specs.Inputs.{lines_of_inputs, texts_of, PlainLine}
-use Rattle.version_lines.specs.Newest.{rows_in}
-use Rattle.version_lines.specs.Sort.{version_in}
-use Rattle.version_schemes.specs.any.Order.{PlainAny}
-use Rattle.version_schemes.specs.declared.scheme.Scheme.TheVariants.{Mixed}
+use Rattle.version_commands.specs.{Cause.ComesOfArranging, Cause.ComesOfFirst, Files.inputs_of, Files.Reading, Lists.named_in, declared.faults.TaskFault.TaskFault, declared.files.Hint.Hint, declared.options.Arrangement.Arrangement}
+use Rattle.version_commands.specs.declared.options.{EachOptions.EachOptions, LineOptions.LineOptions, Lists.Lists, Question.Question}
+use Rattle.version_commands.specs.lines.{Choice.without_set, Choice.Finding, Choice.HoldsByWords, Ordered.arranged_in, Ordered.body_of, Ordered.options_in, Ordered.ordered_in, Picked.bad_lines, Picked.reads_of}
+use Rattle.version_lines.specs.{Inputs.lines_of_inputs, Inputs.texts_of, Inputs.PlainLine, Newest.rows_in, Sort.version_in}
+use Rattle.version_schemes.specs.{any.Order.PlainAny, declared.scheme.Scheme.TheVariants.Mixed}
 use Rattle.version_commands.specs.declared.files.Hint.TheVariants as told
 
 -- the one line of a list of one or none
@@ -40,53 +24,27 @@ module _ (options : LineOptions) (keeps : PlainAny → Bool) (input : List Plain
       → IsOfLines options (λ v. true) input
       (arranged_in (record { scheme = Mixed; text_of = λ line. line }) (λ v. true) options input) hint
       → IsOfLines options keeps input (arranged_in (reads_of options.place) keeps options input) hint
-  hints-alike hint so =
-      let kept : keeps ≡ (λ v. true) = λ i v. all v i in
-      subst (λ (k : PlainAny → Bool). IsOfLines options k input (arranged_in (reads_of options.place) keeps options input) hint)
-      (sym kept)
-      (subst (λ (lines : List (List ℕ)). IsOfLines options (λ v. true) input lines hint)
-      (lines-alike options keeps input whole all) so)
+  hints-alike hint so = grind (arith, lines-alike)
 
 -- what is so by the columns of the names in a header is so of the whole input
 pub hints-in : (options made : LineOptions) (keeps : PlainAny → Bool) (whole body : List PlainLine)
     → made ≡ options_in options whole → body ≡ body_of options whole → (hint : Hint)
     → IsOfBody keeps made body hint → IsOfInput keeps options whole hint
-hints-in options made keeps whole body made_is body_is hint so =
-    subst (λ (b : List PlainLine). IsOfBody keeps (options_in options whole) b hint) body_is
-    (subst (λ (o : LineOptions). IsOfBody keeps o body hint) made_is so)
+hints-in options made keeps whole body made_is body_is hint so = grind arith
 
 -- a fault that comes of the words of a run over lines comes of it
 pub comes-of-first : (finds : Finding) (options : LineOptions) (names : List (List ℕ)) (reads : Reading) (fails : Bool)
     (old : Option (List ℕ)) (Refuses : List ℕ → Type 0) (fault : TaskFault)
     → HoldsByWords finds (λ with given. ComesOfArranging with given reads fails old Refuses fault) options names
     → ComesOfFirst finds options names reads fails old Refuses fault
-comes-of-first finds options names reads fails old Refuses (NotVersion text remark) comes = comes
-comes-of-first finds options names reads fails old Refuses (NotRequirement text) comes = comes
-comes-of-first finds options names reads fails old Refuses (NotSet wrong) comes = comes
-comes-of-first finds options names reads fails old Refuses (NotTested text remark) comes = comes
-comes-of-first finds options names reads fails old Refuses (NotTestedSet wrong) comes = comes
-comes-of-first finds options names reads fails old Refuses (BadLine bad) comes = comes
-comes-of-first finds options names reads fails old Refuses (NoNext text) comes = comes
-comes-of-first finds options names reads fails old Refuses (NoColumn name) comes = comes
-comes-of-first finds options names reads fails old Refuses (Unclosed name number) comes = comes
-comes-of-first finds options names reads fails old Refuses Memory comes = tt
-comes-of-first finds options names reads fails old Refuses (Read name) comes = comes
-comes-of-first finds options names reads fails old Refuses (Write name) comes = comes
+comes-of-first finds options names reads fails old Refuses fault comes = grind arith
 
 -- each line of a list has no version, or is a row
 rows-and-bad : (lists : Lists) (lines : List PlainLine)
     → length lines
     ≡ length (bad_lines (version_in (reads_of lists.place)) lines) + length (named_in lists (texts_of lines))
 rows-and-bad lists [] = refl
-rows-and-bad lists (line ∷ lines) = by (version_in (reads_of lists.place) line.text) refl (rows-and-bad lists lines)
-  where
-    by : (found : Option PlainAny) → version_in (reads_of lists.place) line.text ≡ found
-        → length lines
-        ≡ length (bad_lines (version_in (reads_of lists.place)) lines) + length (named_in lists (texts_of lines))
-        → length (line ∷ lines) ≡ length (bad_lines (version_in (reads_of lists.place)) (line ∷ lines))
-        + length (named_in lists (texts_of (line ∷ lines)))
-    by None is others = rw is (omega (arith, others))
-    by (Some v) is others = rw is (omega (arith, others))
+rows-and-bad lists (line ∷ lines) = grind (arith, rows-and-bad lists lines)
 
 pub rows-left : (lists : Lists) (lines : List PlainLine)
     → length lines - length (bad_lines (version_in (reads_of lists.place)) lines) ≡ length (named_in lists (texts_of lines))
@@ -94,35 +52,21 @@ rows-left lists lines = omega (arith, rows-and-bad lists lines)
 
 -- what makes a hint of tags so, from something else
 pub if-tags : {A B : Type 0} → (A → B) → (hint : Hint) → IfTags A hint → IfTags B hint
-if-tags makes Tags so = makes so
-if-tags makes (told.NotVersion word remark) so = absurd so
-if-tags makes (NoFile word) so = absurd so
-if-tags makes WholeLines so = absurd so
-if-tags makes (Repeated name count) so = absurd so
-if-tags makes (NothingKept returns) so = absurd so
+if-tags makes hint so = grind arith
 
 -- where a hint of tags is so of a question's words, it is one of the question
 pub tags-of-each : (question : Question) (options : EachOptions) (hint : Hint) → IfTags (TagsMatter question options) hint
     → IsOfEach question options hint
-tags-of-each question options Tags so = so
-tags-of-each question options (told.NotVersion word remark) so = absurd so
-tags-of-each question options (NoFile word) so = absurd so
-tags-of-each question options WholeLines so = absurd so
-tags-of-each question options (Repeated name count) so = absurd so
-tags-of-each question options (NothingKept returns) so = absurd so
+tags-of-each question options hint so = grind arith
 
 -- what is so of the lines of a run is neither of its options alone nor of a file
 module _ (options : LineOptions) (keeps : PlainAny → Bool) (input : List PlainLine) where
   no-whole : (arrangement : Arrangement) (lines : List (List ℕ)) → IsOfArranged options keeps input arrangement lines WholeLines → ⊥
-  no-whole (Sort reverse unique) lines so = so
-  no-whole (Newest count group) lines so = so
-  no-whole (Filter set inverted) lines so = so
+  no-whole arrangement lines so = grind arith
 
   no-file : (name : Bor (List ℕ)) (arrangement : Arrangement) (lines : List (List ℕ))
       → IsOfArranged options keeps input arrangement lines (NoFile name) → ⊥
-  no-file name (Sort reverse unique) lines so = so
-  no-file name (Newest count group) lines so = so
-  no-file name (Filter set inverted) lines so = so
+  no-file name arrangement lines so = grind arith
 
 -- a hint that is so of no lines is so of no run
 module _ (hint : Hint) (never : (options : LineOptions) (keeps : PlainAny → Bool) (input : List PlainLine) (lines : List (List ℕ))
@@ -146,9 +90,7 @@ pub of-run : (options : LineOptions) (names : List (List ℕ)) (reads : Reading)
     → IsOfArranging options names reads finds Refuses fails old hint
 of-run options names reads finds Refuses fails old Tags so = so
 of-run options names reads finds Refuses fails old (told.NotVersion word remark) so = so
-of-run options names reads finds Refuses fails old (NoFile name) so =
-    absurd (never-by-words (NoFile name) (λ o k i l. no-file o k i name o.arrangement l) reads old finds options names so)
-of-run options names reads finds Refuses fails old WholeLines so =
-    absurd (never-by-words WholeLines (λ o k i l. no-whole o k i o.arrangement l) reads old finds options names so)
+of-run options names reads finds Refuses fails old (NoFile name) so = grind (arith, never-by-words, no-file)
+of-run options names reads finds Refuses fails old WholeLines so = grind (arith, never-by-words, no-whole)
 of-run options names reads finds Refuses fails old (Repeated name count) so = so
 of-run options names reads finds Refuses fails old (NothingKept returns) so = so

@@ -1,35 +1,13 @@
 -- The first row of each name, one row after another, and two lists that were read in turn.
 use Rattle.std.proofs.Common.{◌≡◌, ◌∙◌, ℕ, Bool, true, false, List, [], ◌∷◌, ◌++◌, ◌⊎◌, ◌≤◌, drop, length, Option, Some, None, append_assoc, append-nil, if◌then◌else◌, is_some, map, refl, ap, arith, sym}
-use Rattle.std.proofs.lemmas.Bool.{cases_Bool}
-use Rattle.std.proofs.lemmas.List.{drop_all, map-append}
-use Rattle.std.proofs.lemmas.List.Folds.{flat_map-map}
-use Rattle.std.proofs.lemmas.Slice.Eq.{bytes_eq-Decides}
-use Rattle.std.specs.BTreeMap.{get_by}
-use Rattle.std.specs.Cmp.Lexicographic.{slice_cmp}
-use Rattle.std.specs.List.{flat_map}
-use Rattle.std.specs.Map.{update}
-use Rattle.std.specs.Option.{option_map, option_or}
-use Rattle.std.specs.Ordering.{nat_cmp}
-use Rattle.std.specs.Str.{bytes_eq}
+use Rattle.std.proofs.lemmas.{Bool.cases_Bool, List.drop_all, List.map-append, List.Folds.flat_map-map, Slice.Eq.bytes_eq-Decides}
+use Rattle.std.specs.{BTreeMap.get_by, Cmp.Lexicographic.slice_cmp, List.flat_map, Map.update, Option.option_map, Option.option_or, Ordering.nat_cmp, Str.bytes_eq}
 use Rattle.version_commands.specs.Lists.{AreNames, Row, first_after, first_rows, lines_against, plain_row, rows_of_line, version_of, bad_lines_of, names_of}
-use Rattle.version_commands.specs.lines.Picked.{has, kept_lines}
-use Rattle.version_commands.specs.lines.Place.{reads_of}
-use Rattle.version_commands.specs.declared.options.Lists.{Lists}
-use Rattle.version_commands.specs.declared.lists.Named.{Named}
-use Rattle.version_commands.specs.declared.lists.Names.{Names}
-use Rattle.version_lines.specs.Sort.{version_in}
-use Rattle.version_schemes.specs.any.AnyVersion.{plain_any}
-use Rattle.version_schemes.specs.any.Order.{PlainAny}
-use Rattle.version_schemes.specs.declared.any.AnyVersion.{AnyVersion}
-use Rattle.version_commands.specs.faults.Cause.{ComesOfChanges, ComesOfEither}
-use Rattle.version_commands.specs.faults.Fault.{ComesOfBad, ComesOfReading}
-use Rattle.version_commands.specs.Files.{IsInput, Reading}
-use Rattle.version_commands.specs.declared.faults.TaskFault.{TaskFault}
-use Rattle.version_commands.specs.declared.faults.TaskFault.TheVariants.{BadLine}
-use Rattle.version_commands.specs.declared.options.Invalid.TheVariants.{Fail}
+use Rattle.version_commands.specs.{Cause.ComesOfChanges, Cause.ComesOfEither, Fault.ComesOfBad, Fault.ComesOfReading, Files.IsInput, Files.Reading, declared.faults.TaskFault.TaskFault, declared.faults.TaskFault.TheVariants.BadLine}
+use Rattle.version_commands.specs.{declared.lists.Named.Named, declared.lists.Names.Names, declared.options.Invalid.TheVariants.Fail, declared.options.Lists.Lists, lines.Picked.has, lines.Picked.kept_lines, lines.Picked.reads_of}
+use Rattle.version_lines.specs.{Inputs.plain_line, Inputs.PlainLine, Sort.version_in, declared.inputs.Line.Line}
+use Rattle.version_schemes.specs.{any.AnyVersion.plain_any, any.Order.PlainAny, declared.any.AnyVersion.AnyVersion}
 use Rattle.version_commands.proofs.lemmas.Faults.{bad-cases, reading-cases}
-use Rattle.version_lines.specs.Inputs.{plain_line, PlainLine}
-use Rattle.version_lines.specs.declared.inputs.Line.{Line}
 
 -- the version of a name, if a row has it
 abbrev pub version_at : Row → List ℕ → Option PlainAny
@@ -45,10 +23,7 @@ chosen false v o other = refl
 pub version_of-more : (rows : List Row) (row : Row) (name : List ℕ)
     → version_of (rows ++ row ∷ []) name ≡ option_or (version_of rows name) (version_at row name)
 version_of-more [] row name = refl
-version_of-more (first ∷ rows) row name =
-    ap (λ (o : Option PlainAny). if bytes_eq first.0 name then Some first.1 else o)
-    (version_of-more rows row name)
-    ∙ chosen (bytes_eq first.0 name) first.1 (version_of rows name) (version_at row name)
+version_of-more (first ∷ rows) row name = grind (arith, chosen, version_of-more rows row name)
 
 -- and it is a first row if none has it
 abbrev pub first_at : List Row → Row → List Row
@@ -57,25 +32,9 @@ first_at before row = if is_some (version_of before row.0) then [] else row ∷ 
 first_after-more : (before rows : List Row) (row : Row)
     → first_after before (rows ++ row ∷ [])
     ≡ first_after before rows ++ first_at (before ++ rows) row
-first_after-more before [] row = rw (append-nil before) (by (is_some (version_of before row.0)))
-  where
-    by : (test : Bool) → (if test then [] else row ∷ []) ≡ (if test then [] else row ∷ [])
-    by test = refl
+first_after-more before [] row = grind (arith, append-nil, is_some)
 first_after-more before (first ∷ rows) row =
-    rw (first_after-more (before ++ first ∷ []) rows row)
-    (rw (append_assoc before (first ∷ []) rows) (by (is_some (version_of before first.0))))
-  where
-    by : (test : Bool)
-        → (if test
-        then first_after (before ++ first ∷ []) rows ++ first_at (before ++ first ∷ rows) row
-        else first ∷ (first_after (before ++ first ∷ []) rows
-        ++ first_at (before ++ first ∷ rows) row))
-        ≡ (if test
-        then first_after (before ++ first ∷ []) rows
-        else first ∷ first_after (before ++ first ∷ []) rows)
-        ++ first_at (before ++ first ∷ rows) row
-    by true = refl
-    by false = refl
+    grind (arith, append_assoc, is_some, first_after-more (before ++ first ∷ []) rows row)
 
 pub first_rows-more : (rows : List Row) (row : Row)
     → first_after [] (rows ++ row ∷ []) ≡ first_after [] rows ++ first_at rows row
@@ -113,16 +72,7 @@ has_name row name = grind (arith, cases_Bool, bytes_eq-Decides)
 pub names_kept : (rows : List Row) (row : Row) (names : Names) → AreNames rows names
     → is_some (held names row.0) ≡ true → AreNames (rows ++ row ∷ []) names
 names_kept rows row names are has =
-    grind (
-      arith,
-      is_some-mapped,
-      first_rows-more,
-      append-nil,
-      version_of-more,
-      has_name,
-      or_kept,
-      or_none,
-    )
+    grind (arith, is_some-mapped, first_rows-more, append-nil, version_of-more, has_name, or_kept, or_none)
 
 -- a row whose name is not held is added
 pub names_added : (rows : List Row) (named : Named) (names more : Names) → AreNames rows names
@@ -133,27 +83,17 @@ pub names_added : (rows : List Row) (named : Named) (names more : Names) → Are
     ≡ update bytes_eq (held names) named.name.now (Some named.version) name)
     → AreNames (rows ++ plain_row named ∷ []) more
 names_added rows named names more are lacks items put =
-    let row = plain_row named in
-    let none : version_of rows row.0 ≡ None =
-    none_held _ (ap is_some (sym (are.versions row.0)) ∙ is_some-mapped (held names row.0) ∙ lacks) in
-    record {
-      order = ap (map plain_row) items ∙ map-append plain_row names.rows.items (named ∷ [])
-          ∙ ap (λ (l : List Row). l ++ row ∷ []) are.order
-          ∙ sym (first_rows-more rows row ∙ rw none refl);
-      versions = λ name. ap (option_map plain_any) (put name)
-          ∙ by name none (bytes_eq row.0 name) refl ∙ sym (version_of-more rows row name);
-    }
-  where
-    by : (name : List ℕ) → version_of rows (plain_row named).0 ≡ None → (test : Bool)
-        → bytes_eq (plain_row named).0 name ≡ test
-        → option_map plain_any (update bytes_eq (held names) named.name.now (Some named.version) name)
-        ≡ option_or (version_of rows name) (version_at (plain_row named) name)
-    by name none true same =
-        let one : (plain_row named).0 ≡ name = (bytes_eq-Decides _ _).0 same in
-        let unread : version_of rows name ≡ None = ap (version_of rows) (sym one) ∙ none in
-        rw (same, unread) refl
-    by name none false other =
-        rw other (are.versions name ∙ sym (or_none (version_of rows name)))
+    grind (
+      arith,
+      none_held,
+      is_some,
+      is_some-mapped,
+      map-append,
+      first_rows-more,
+      version_of-more,
+      bytes_eq-Decides,
+      or_none,
+    )
 
 -- ---- line by line
 
@@ -168,8 +108,7 @@ pub all_lines : (line : Row → Option PlainAny → List ℕ) (others rows : Lis
     → now ++ flat_map (named_line line others) (drop i names.rows.items)
     ≡ before ++ flat_map (named_line line others) names.rows.items
     → now ≡ before ++ lines_against line others (first_rows rows)
-all_lines line others rows names i before now are end whole =
-    grind (arith, drop_all, append-nil, flat_map-map)
+all_lines line others rows names i before now are end whole = grind (arith, drop_all, append-nil, flat_map-map)
 
 -- ---- a list, read line by line
 
@@ -180,17 +119,14 @@ row-kept : (lists : Lists) (line : List ℕ) (others : List (List ℕ)) (v : Opt
     → flat_map (rows_of_line lists) (kept_lines (version_in (reads_of lists.place)) (λ w. true) (line ∷ others))
     ≡ flat_map (rows_of_line lists) (line ∷ others)
 row-kept lists line others None is rest = rw is rest
-row-kept lists line others (Some v) is rest =
-    let kept : has (λ w. true) (version_in (reads_of lists.place)) line ≡ true = rw is refl in
-    rw kept (ap (λ (l : List Row). rows_of_line lists line ++ l) rest)
+row-kept lists line others (Some v) is rest = grind arith
 
 -- lines without a version name nothing
 pub rows-kept : (lists : Lists) (lines : List (List ℕ))
     → flat_map (rows_of_line lists) (kept_lines (version_in (reads_of lists.place)) (λ w. true) lines)
     ≡ flat_map (rows_of_line lists) lines
 rows-kept lists [] = refl
-rows-kept lists (line ∷ lines) =
-    row-kept lists line lines (version_in (reads_of lists.place) line) refl (rows-kept lists lines)
+rows-kept lists (line ∷ lines) = grind (arith, row-kept, rows-kept lists lines)
 
 -- where none is left, each line of a list has a version
 pub input-good : (lists : Lists) (name text : List ℕ) (bad : List Line)
@@ -219,6 +155,4 @@ changes-bad lists reads fails old between new first second bad one other of_eith
 -- the faults of reading the two lists are among those of the whole
 pub changes-reading : (lists : Lists) (reads : Reading) (fails : Bool) (old : Option (List ℕ)) (fault : TaskFault)
     → ComesOfReading lists.end reads fails old (names_of lists) fault → ComesOfChanges lists reads fails old fault
-changes-reading lists reads fails old =
-    reading-cases (ComesOfChanges lists reads fails old) lists.end reads fails old (names_of lists) tt (λ name is. is)
-    (λ name number is. is)
+changes-reading lists reads fails old = grind (arith, reading-cases)

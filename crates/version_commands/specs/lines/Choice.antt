@@ -1,21 +1,18 @@
--- Which versions are kept.
+-- Which versions are kept, and a first word of `filter` that is no set and names a file.
 use Rattle.version_order.specs.texts.Front.{◌>>=◌}
-use Rattle.std.proofs.Common.{Bor}
-use Rattle.std.specs.Prelude.{◌&&◌, ℕ, Bool, true, List, Option, Some, None, is_some, nat_le, not, if◌then◌else◌}
+use Rattle.std.specs.Prelude.{◌&&◌, ℕ, Bool, true, List, Option, Some, None, is_some, nat_le, not, if◌then◌else◌, ◌≡◌, ◌⊎◌, ◌∷◌, ◌||◌, false, IfSome, IsSome}
 use Rattle.std.specs.Option.{option_map, option_map_or, option_or}
-use Rattle.version_commands.specs.declared.lines.choice.Chooser.{Chooser}
-use Rattle.version_commands.specs.declared.lines.choice.Filter.{Filter}
-use Rattle.version_commands.specs.declared.options.Arrangement.{Arrangement}
-use Rattle.version_commands.specs.declared.options.Arrangement.TheVariants as arrangement
-use Rattle.version_commands.specs.declared.options.Choice.{Choice}
-use Rattle.version_answers.specs.Sets.{keys_of}
+use Rattle.version_commands.specs.{Files.is_standard, declared.lines.choice.Chooser.Chooser, declared.lines.choice.Filter.Filter, declared.options.Arrangement.Arrangement, declared.options.Choice.Choice}
+use Rattle.version_commands.specs.declared.options.LineOptions.{LineOptions}
+use Rattle.version_answers.specs.{Sets.keys_of, Sets.IsWrongSet, declared.set.WrongSet.WrongSet}
 use Rattle.version_rules.specs.grammar.Versioning.{versioning_of}
-use Rattle.version_schemes.specs.any.Order.{PlainAny}
-use Rattle.version_schemes.specs.declared.scheme.Scheme.{Scheme}
-use Rattle.version_schemes.specs.declared.scheme.Scheme.TheVariants.{Mixed, SemVer}
+use Rattle.version_schemes.specs.{any.Order.PlainAny, declared.scheme.Scheme.Scheme, declared.scheme.Scheme.TheVariants.Mixed, declared.scheme.Scheme.TheVariants.SemVer}
 use Rattle.version_sets.specs.Form.{has}
-use Rattle.version_tasks.specs.Stability.{of_text, rank, stability_of}
-use Rattle.version_tasks.specs.declared.stability.Stability.{Stability}
+use Rattle.version_tasks.specs.{Stability.of_text, Stability.rank, Stability.stability_of, declared.stability.Stability.Stability, declared.stability.Stability.TheVariants.Dev}
+use Rattle.std.proofs.Common.{Bor}
+use Rattle.version_commands.specs.declared.options.Arrangement.TheVariants as arrangement
+
+-- ---- which versions are kept
 
 -- how stable a version is: by the words of its text. In the schemes mixed and semver also a pre-release without
 -- words counts, if the text is a version of mixed.
@@ -84,3 +81,54 @@ passes (Some filter) v = is_of_or_not filter.inverted (has filter.set) v
 abbrev pub is_kept : Chooser → PlainAny → Bool
 is_kept chooser v =
     is_stable_enough chooser.least v && is_wanted chooser.wanted v && passes chooser.filter v
+
+-- ---- a first word of `filter` that is no set, and names a file
+
+-- whether this level leaves no version out
+abbrev pub is_least : Stability → Bool
+is_least Dev = true
+is_least other = false
+
+-- whether a choice asks for some versions alone
+abbrev pub asks : Choice → Bool
+asks choice = is_some choice.wanted || (if is_least choice.least then false else true)
+
+-- the first word of `filter`, if it may name a file in place of a set: something else says which versions are kept
+abbrev pub word_for_file : Arrangement → Choice → Option (Bor (List ℕ))
+word_for_file (arrangement.Filter word false) choice = if asks choice then word else None
+word_for_file other choice = None
+
+-- whether it may name standard input
+abbrev pub may_be_standard : Arrangement → Choice → Bool
+may_be_standard arrangement choice =
+    option_map_or (λ word. is_standard word.now) (word_for_file arrangement choice) false
+
+-- what asking whether the file of a name is there may answer
+abbrev pub Finding : Type 1
+Finding = List ℕ → Bool → Type 0
+
+-- what a name stands for is there: standard input always is
+abbrev pub IsThere : Finding → List ℕ → Type 0
+IsThere finds name = (is_standard name ≡ true) ⊎ finds name true
+
+-- the first word stays one: it may not name a file, it is a set, or no file of its name is there
+abbrev pub StaysWord : Finding → LineOptions → Type 0
+StaysWord finds options = IfSome (word_for_file options.arrangement options.choice) (λ word.
+    IsSome (keys_of options.place.spelling.scheme word.now) ⊎ ((is_standard word.now ≡ false) × finds word.now false))
+
+-- it is no set, and names a file that is there
+pub record IsFirstFile (finds : Finding) (options : LineOptions) (word : Bor (List ℕ)) : Type 0 where
+  pub word_is : word_for_file options.arrangement options.choice ≡ Some word
+  pub wrong : WrongSet
+  pub no_set : IsWrongSet options.place.spelling.scheme word.now wrong
+  pub there : IsThere finds word.now
+
+-- the options without a set
+abbrev pub without_set : LineOptions → LineOptions
+without_set options = record options { arrangement = arrangement.Filter None false }
+
+-- this holds of the options and the names of the files as they are, where the first word stays one; or with it as the
+-- first file, and without a set
+abbrev pub HoldsByWords : Finding → (LineOptions → List (List ℕ) → Type 0) → LineOptions → List (List ℕ) → Type 0
+HoldsByWords finds Holds options names = (StaysWord finds options × Holds options names)
+    ⊎ ((word : Bor (List ℕ)) × IsFirstFile finds options word × Holds (without_set options) (word.now ∷ names))

@@ -1,8 +1,7 @@
 //! The fault of lines that have no version.
 ghost use Rattle.std.specs.Prelude.{◌≡◌, [], map, string_bytes, IfErr, IfOk, OnOk};
-ghost use Rattle.version_commands.specs.lines.Arranged.{policy};
-ghost use Rattle.version_commands.specs.faults.Fault.{ends_in_return, scheme_at, Tells, ComesOfBad};
-ghost use Rattle.version_answers.specs.message.Quote.{shown_front};
+ghost use Rattle.version_commands.specs.{Fault.ends_in_return, Fault.scheme_at, Fault.Tells, Fault.ComesOfBad, lines.Arranged.policy};
+ghost use Rattle.version_answers.specs.Message.{shown_front};
 ghost use Rattle.version_lines.specs.Inputs.{plain_line};
 
 use crate::faults::TaskFault;
@@ -34,7 +33,7 @@ pub struct Blamed<'w> {
 
 impl fmt::Display for Blamed<'_> {
     ghost use Rattle.std.specs.Prelude.{Some};
-    ghost use Rattle.version_commands.specs.faults.Fault.{bad_line_text};
+    ghost use Rattle.version_commands.specs.Fault.{bad_line_text};
 
     ghost output = { λ bad. Some (bad_line_text bad) };
 
@@ -64,7 +63,7 @@ struct OfFile<'w> {
 
 impl fmt::Display for OfFile<'_> {
     ghost use Rattle.std.specs.Prelude.{Some};
-    ghost use Rattle.version_commands.specs.faults.Fault.{file_text};
+    ghost use Rattle.version_commands.specs.Fault.{file_text};
 
     ghost output = { λ of. Some (file_text of.file) };
 

@@ -1,12 +1,9 @@
 //! Reading the inputs in turn.
 ghost use Rattle.std.specs.Prelude.{◌≡◌, ◌++◌, ◌∷◌, [], ℕ, List, false, length, map, true, IfErr, IfOk, OnOk};
-ghost use Rattle.std.specs.Io.KnownBytes.{Consumes, IsAtEnd};
-ghost use Rattle.std.specs.List.{list_any};
-ghost use Rattle.std.specs.Option.{option_map};
-ghost use Rattle.version_commands.specs.faults.Fault.{not_read, ComesOfReading, ComesOfReadingOne, ComesOfStandard, ComesOfText};
+ghost use Rattle.std.specs.{Io.KnownBytes.Consumes, Io.KnownBytes.IsAtEnd, List.list_any, Option.option_map};
+ghost use Rattle.version_commands.specs.Fault.{not_read, ComesOfReading, ComesOfReadingOne, ComesOfStandard, ComesOfText};
 ghost use Rattle.version_commands.specs.Files.{inputs_named, inputs_of, is_standard, names_read, reads_standard, AreInputs, IsInput};
-ghost use Rattle.version_lines.specs.Inputs.{plain_input};
-ghost use Rattle.version_lines.specs.Lines.{ends_quoted, lines_of};
+ghost use Rattle.version_lines.specs.{Inputs.plain_input, Lines.ends_quoted, Lines.lines_of};
 
 use crate::faults::TaskFault;
 use crate::files::Files;

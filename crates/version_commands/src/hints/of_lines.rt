@@ -1,13 +1,11 @@
 //! What a run over lines tells beside: it may not have done what was meant.
 
-ghost use Rattle.std.proofs.Common.{Bor};
 ghost use Rattle.std.specs.Prelude.{◌≡◌, ◌<◌, ℕ, List, Option, is_some, map, true, IfErr, IsTrue};
-ghost use Rattle.std.specs.List.{list_any};
-ghost use Rattle.std.specs.Option.{option_map};
+ghost use Rattle.std.proofs.Common.{Bor};
+ghost use Rattle.std.specs.{List.list_any, Option.option_map};
 ghost use Rattle.version_commands.specs.Hints.{another_is_newest, asks_by_name, is_another_newest, is_kept_by, is_kept_otherwise, is_newer, keeps_otherwise, line_kept_otherwise, stands_otherwise, takes_whole_lines, StandOtherwise, first_of, is_filter, IsOfFilter, IsOfLines, IsOfNewest, MayTell};
 ghost use Rattle.version_answers.specs.Tags.{begins_with_number, begins_with_v, is_bare, order_of_tags, tagged};
-ghost use Rattle.version_lines.specs.KeyedLines.{lines_in};
-ghost use Rattle.version_lines.specs.Inputs.{lines_left, texts_of};
+ghost use Rattle.version_lines.specs.{Entry.lines_in, Inputs.lines_left, Inputs.texts_of};
 ghost use Rattle.version_schemes.specs.any.Order.{any_of};
 
 use crate::faults::TaskFault;

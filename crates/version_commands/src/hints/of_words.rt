@@ -1,15 +1,10 @@
 //! What a run over words tells beside: it may not have done what was meant.
 
-ghost use Rattle.std.proofs.Common.{Bor};
 ghost use Rattle.std.specs.Prelude.{◌≡◌, ◌<◌, ℕ, List, Option, Some, map, true};
+ghost use Rattle.std.proofs.Common.{Bor};
 ghost use Rattle.std.specs.List.{list_any};
-ghost use Rattle.version_commands.specs.lines.Choice.{is_of};
-ghost use Rattle.version_commands.specs.words.Each.{HasSet};
-ghost use Rattle.version_answers.specs.Spelling.{spelled};
-ghost use Rattle.version_answers.specs.message.Remark.{IsRemark};
-ghost use Rattle.version_answers.specs.Tags.{begins_with_v, compare_otherwise, is_bare, is_tested_otherwise};
-ghost use Rattle.version_commands.specs.Hints.{is_kept_otherwise, IfTags, IsOfEach, MayTell};
-ghost use Rattle.version_answers.specs.declared.message.remark.Remark.{Remark};
+ghost use Rattle.version_commands.specs.{Each.HasSet, Hints.is_kept_otherwise, Hints.IfTags, Hints.IsOfEach, Hints.MayTell, lines.Choice.is_of};
+ghost use Rattle.version_answers.specs.{Message.IsRemark, Spelling.spelled, Tags.begins_with_v, Tags.compare_otherwise, Tags.is_bare, Tags.is_tested_otherwise, declared.message.remark.Remark.Remark};
 ghost use Rattle.version_sets.specs.Form.{has};
 
 use crate::faults::TaskFault;

@@ -1,20 +1,11 @@
 //! The commands over lines: `sort`, `newest` and `filter`.
 ghost use Rattle.std.specs.Prelude.{◌≡◌, ℕ, List, false, map, None, IsTrue, OnOk};
-ghost use Rattle.version_commands.specs.lines.Arranged.{arranged, is_reversed};
-ghost use Rattle.version_commands.specs.lines.BySchemes.{arranged_by_schemes, version_by};
-ghost use Rattle.version_commands.specs.faults.Cause.{ComesOfArranging, ComesOfInput};
-ghost use Rattle.version_commands.specs.lines.Choice.{is_kept};
-ghost use Rattle.version_commands.specs.faults.Ends.{IfOfWord, Ends};
 ghost use Rattle.version_commands.specs.Hints.{first_of, IsOfBody, IsOfFilter, IsOfInput, IsOfLines, IsOfNewest, IsOfRun, MayTell};
-ghost use Rattle.version_commands.specs.Files.{names_read, reads_standard};
-ghost use Rattle.version_commands.specs.lines.LineRun.{head_lines, Arranges, Finishes};
+ghost use Rattle.version_commands.specs.Run.{head_lines, IfOfWord, Ends, Arranges, Finishes};
 ghost use Rattle.version_commands.specs.lines.Ordered.{body_of, head_of, arranged_in, ordered_in, versions_in, IsArrangedIn, IsOrdered};
-ghost use Rattle.version_commands.specs.lines.Picked.{kept_of};
-ghost use Rattle.version_commands.specs.lines.Place.{group_text, reads_of};
-ghost use Rattle.version_lines.specs.Inputs.{lines_left, PlainLine};
-ghost use Rattle.version_lines.specs.KeyedLines.{lines_in, AreRead};
-ghost use Rattle.version_lines.specs.Newest.{newest_alone};
-ghost use Rattle.version_lines.specs.Sort.{version_in};
+ghost use Rattle.version_commands.specs.{Cause.ComesOfArranging, Cause.ComesOfInput, Files.names_read, Files.reads_standard};
+ghost use Rattle.version_commands.specs.lines.{Arranged.arranged, Arranged.is_reversed, Arranged.arranged_by_schemes, Arranged.version_by, Choice.is_kept, Picked.kept_of, Picked.group_text, Picked.reads_of};
+ghost use Rattle.version_lines.specs.{Entry.lines_in, Entry.AreRead, Inputs.lines_left, Inputs.PlainLine, Newest.newest_alone, Sort.version_in};
 
 use crate::faults::TaskFault;
 use crate::faults::bad::refuse_bad;

@@ -1,11 +1,9 @@
 //! `sort` and `newest` of a list with versions of many systems, whose schemes a column names.
 ghost use Rattle.std.specs.Prelude.{◌≡◌, ◌++◌, [], map, true, IfOk, OnOk};
 ghost use Rattle.std.specs.Option.{option_map};
-ghost use Rattle.version_commands.specs.lines.Arranged.{is_reversed};
-ghost use Rattle.version_commands.specs.lines.BySchemes.{arranged_as, arranged_by_schemes, is_among, scheme_in, schemes_after, version_as, version_by, with_scheme};
-ghost use Rattle.version_commands.specs.lines.Picked.{kept_lines};
-ghost use Rattle.version_commands.specs.lines.Place.{reads_of};
-ghost use Rattle.version_lines.specs.KeyedLines.{lines_in, AreRead};
+ghost use Rattle.version_commands.specs.lines.Arranged.{is_reversed, arranged_as, arranged_by_schemes, is_among, scheme_in, schemes_after, version_as, version_by, with_scheme};
+ghost use Rattle.version_commands.specs.lines.Picked.{kept_lines, reads_of};
+ghost use Rattle.version_lines.specs.Entry.{lines_in, AreRead};
 ghost use Rattle.version_schemes.specs.any.AnyVersion.{plain_any};
 
 use crate::lines::arrange::{arrange, is_reversed};
@@ -28,7 +26,7 @@ pub struct LinesOfSchemes<'w, 'a> {
 
 impl<'a> Takes<'a> for LinesOfSchemes<'_, 'a> {
     ghost use Rattle.std.specs.Prelude.{◌≡◌, ⊤, map};
-    ghost use Rattle.version_commands.specs.lines.BySchemes.{version_by};
+    ghost use Rattle.version_commands.specs.lines.Arranged.{version_by};
 
     ghost versions = { λ kept. version_by kept.place kept.column };
 

@@ -1,9 +1,8 @@
 //! Which lines that have a version are kept.
 ghost use Rattle.std.specs.Prelude.{◌≡◌, true, None, Some, IfErr, IfOk, IsTrue, OnOk};
 ghost use Rattle.version_commands.specs.lines.Choice.{filter_word, is_kept, is_stable_enough, is_wanted, keeps_of, passes, passes_of, stability_by, wanted_of, wrong_set, wrong_word};
-ghost use Rattle.version_commands.specs.faults.Fault.{ComesOfSets};
-ghost use Rattle.version_schemes.specs.any.Order.{PlainAny};
-ghost use Rattle.version_schemes.specs.any.AnyVersion.{plain_any};
+ghost use Rattle.version_commands.specs.Fault.{ComesOfSets};
+ghost use Rattle.version_schemes.specs.any.{AnyVersion.plain_any, Order.PlainAny};
 
 use crate::faults::TaskFault;
 use crate::lines::pick::Chooses;

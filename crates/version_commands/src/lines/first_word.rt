@@ -1,12 +1,7 @@
 //! A first word of `filter` that is no set, and names a file.
 ghost use Rattle.std.specs.Prelude.{◌≡◌, ◌∷◌, false, map, IfNone, IfOk, IfSome};
-ghost use Rattle.version_commands.specs.faults.Cause.{ComesOfFirst};
-ghost use Rattle.version_commands.specs.faults.Ends.{IfOfWord};
-ghost use Rattle.version_commands.specs.lines.FirstWord.{asks, may_be_standard, without_set, word_for_file, HoldsByWords, IsFirstFile, StaysWord};
-ghost use Rattle.version_commands.specs.lines.LineRun.{Finishes};
-ghost use Rattle.version_commands.specs.Hints.{IsOfRun, MayTell};
-ghost use Rattle.version_commands.specs.Files.{names_read, reads_standard};
-ghost use Rattle.version_commands.specs.lines.Ordered.{IsOrdered};
+ghost use Rattle.version_commands.specs.lines.Choice.{asks, may_be_standard, without_set, word_for_file, HoldsByWords, IsFirstFile, StaysWord};
+ghost use Rattle.version_commands.specs.{Cause.ComesOfFirst, Files.names_read, Files.reads_standard, Hints.IsOfRun, Hints.MayTell, Run.IfOfWord, Run.Finishes, lines.Ordered.IsOrdered};
 
 use crate::faults::TaskFault;
 use crate::files::Files;

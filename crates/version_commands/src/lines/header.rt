@@ -1,7 +1,7 @@
 //! Columns that are asked for by their names in a header.
 ghost use Rattle.std.specs.Prelude.{◌≡◌, [], map, None, Some, IfErr, IsSomeAnd, OnOk};
-ghost use Rattle.version_commands.specs.lines.Header.{arrangement_by, by_name, first_unnamed, last_of, options_by, unless_named};
-ghost use Rattle.version_commands.specs.lines.Place.{line_text};
+ghost use Rattle.version_commands.specs.lines.Ordered.{arrangement_by, by_name, first_unnamed, last_of, options_by, unless_named};
+ghost use Rattle.version_commands.specs.lines.Picked.{line_text};
 ghost use Rattle.version_lines.specs.Inputs.{plain_line, texts_of};
 
 use crate::faults::TaskFault;

@@ -1,8 +1,6 @@
 //! The lines of standard input with the kinds of their versions.
 ghost use Rattle.std.specs.Prelude.{◌≡◌, ℕ, List};
-ghost use Rattle.version_commands.specs.faults.Ends.{Ends};
-ghost use Rattle.version_commands.specs.faults.Fault.{ComesOfStandard};
-ghost use Rattle.version_commands.specs.lines.Label.{label_of, labelled, AreLabelled};
+ghost use Rattle.version_commands.specs.{Fault.ComesOfStandard, Output.label_of, Output.labelled, Output.AreLabelled, Run.Ends};
 ghost use Rattle.version_lines.specs.Lines.{answer_text};
 
 use crate::faults::TaskFault;
@@ -36,7 +34,7 @@ pub fn write_labels<'w, R: Source, W: Write>(
 }
 
 impl LineCommand for Labels {
-    ghost use Rattle.version_commands.specs.lines.Label.{label_line};
+    ghost use Rattle.version_commands.specs.Output.{label_line};
 
     ghost line_output = { λ labels. label_line labels };
 

@@ -1,8 +1,6 @@
 //! The lines of standard input that a list of requirements matches.
 ghost use Rattle.std.specs.Prelude.{◌≡◌};
-ghost use Rattle.version_commands.specs.faults.Ends.{IfOfWord, Ends};
-ghost use Rattle.version_commands.specs.faults.Fault.{ComesOfMatching};
-ghost use Rattle.version_commands.specs.lines.Matched.{AreMatched};
+ghost use Rattle.version_commands.specs.{Fault.ComesOfMatching, Output.AreMatched, Run.IfOfWord, Run.Ends};
 
 use crate::faults::TaskFault;
 use crate::files::inputs::read_standard;
@@ -43,7 +41,7 @@ struct Listed<'c> {
 }
 
 impl LineCommand for Listed<'_> {
-    ghost use Rattle.version_commands.specs.lines.Matched.{matched_line};
+    ghost use Rattle.version_commands.specs.Output.{matched_line};
 
     ghost line_output = { λ listed. matched_line listed.list.now };
 

@@ -3,8 +3,7 @@ ghost use Rattle.std.specs.Prelude.{◌≡◌, ◌++◌, ◌∷◌, ℕ, Bool, L
 ghost use Rattle.std.specs.Option.{option_map};
 ghost use Rattle.version_commands.specs.lines.Picked.{bad_lines, kept_of, Versions};
 ghost use Rattle.version_lines.specs.Inputs.{lines_left, plain_line};
-ghost use Rattle.version_schemes.specs.any.AnyVersion.{plain_any};
-ghost use Rattle.version_schemes.specs.any.Order.{PlainAny};
+ghost use Rattle.version_schemes.specs.any.{AnyVersion.plain_any, Order.PlainAny};
 
 use std::alloc::{AllocError, Global};
 use version_answers::begins_with_v;
@@ -133,8 +132,7 @@ fn holds_v(line: &[u8]) -> bool {
 
 impl<'a, B: SortBy> Takes<'a> for KeyedLines<'a, B> {
     ghost use Rattle.std.specs.Prelude.{◌≡◌};
-    ghost use Rattle.version_lines.specs.KeyedLines.{lines_in, AreRead};
-    ghost use Rattle.version_lines.specs.Sort.{version_in};
+    ghost use Rattle.version_lines.specs.{Entry.lines_in, Entry.AreRead, Sort.version_in};
 
     ghost versions = { λ lines. version_in (B.reads lines.by) };
 
@@ -155,8 +153,7 @@ impl<'a, B: SortBy> Takes<'a> for KeyedLines<'a, B> {
 
 impl<'a, B: SortBy> Takes<'a> for NewestLine<'a, B> {
     ghost use Rattle.std.specs.Prelude.{◌≡◌, ⊤};
-    ghost use Rattle.version_lines.specs.Newest.{IsNewestOf};
-    ghost use Rattle.version_lines.specs.Sort.{version_in};
+    ghost use Rattle.version_lines.specs.{Newest.IsNewestOf, Sort.version_in};
 
     ghost versions = { λ newest. version_in (B.reads newest.by) };
 

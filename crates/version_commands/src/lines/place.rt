@@ -1,10 +1,9 @@
 //! Where the version of a line stands.
 ghost use Rattle.std.specs.Prelude.{◌≡◌, IsTrue};
 ghost use Rattle.std.specs.Option.{option_map};
-ghost use Rattle.version_commands.specs.lines.Place.{column_in, column_text, line_text, place_text, reads_of, text_of};
+ghost use Rattle.version_commands.specs.lines.Picked.{column_in, column_text, line_text, place_text, reads_of, text_of};
 ghost use Rattle.version_lines.specs.Sort.{version_in};
-ghost use Rattle.version_schemes.specs.any.AnyVersion.{plain_any};
-ghost use Rattle.version_schemes.specs.declared.scheme.Scheme.TheVariants.{Mixed};
+ghost use Rattle.version_schemes.specs.{any.AnyVersion.plain_any, declared.scheme.Scheme.TheVariants.Mixed};
 
 use crate::options::VersionPlace;
 use version_answers::{Naming, Spelling};
@@ -64,7 +63,7 @@ pub struct ByVersion<'w> {
 }
 
 impl SortBy for ByVersion<'_> {
-    ghost use Rattle.version_commands.specs.lines.Place.{reads_of};
+    ghost use Rattle.version_commands.specs.lines.Picked.{reads_of};
 
     ghost reads = { λ by. reads_of by.place };
 
@@ -94,7 +93,7 @@ pub struct ByColumn<'w> {
 }
 
 impl GroupBy for ByColumn<'_> {
-    ghost use Rattle.version_commands.specs.lines.Place.{group_text};
+    ghost use Rattle.version_commands.specs.lines.Picked.{group_text};
 
     ghost group_of = { λ by. group_text by.crlf by.column };
 

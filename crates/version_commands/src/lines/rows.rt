@@ -21,7 +21,7 @@ pub trait Rows {
 }
 
 impl<B: SortBy> Rows for KeyedLines<'_, B> {
-    ghost use Rattle.version_lines.specs.KeyedLines.{lines_in};
+    ghost use Rattle.version_lines.specs.Entry.{lines_in};
 
     ghost lines = { λ rows. lines_in rows };
 

@@ -1,6 +1,6 @@
 //! A run over the lines of an input.
 ghost use Rattle.std.specs.Prelude.{◌≡◌, ◌<◌, ◌+◌, [], drop, false, length, map, take, IfOk, IsTrue};
-ghost use Rattle.version_commands.specs.lines.LineRun.{head_lines};
+ghost use Rattle.version_commands.specs.Run.{head_lines};
 ghost use Rattle.version_lines.specs.Inputs.{lines_left, plain_line};
 
 use crate::files::{Files, Stage};

@@ -1,12 +1,7 @@
 //! Writing what a command answers.
 ghost use Rattle.std.specs.Prelude.{◌≡◌, ◌++◌, [], ℕ, List, map, if◌then◌else◌, IfErr, IfOk, OnErr, OnOk};
 ghost use Rattle.std.specs.Io.KnownBytes.{Appends};
-ghost use Rattle.version_commands.specs.lines.Arranged.{placed, policy};
-ghost use Rattle.version_commands.specs.faults.Ends.{Ends};
-ghost use Rattle.version_commands.specs.faults.Fault.{ComesOfPut};
-ghost use Rattle.version_commands.specs.Files.{AltersAtMost, Leaves};
-ghost use Rattle.version_commands.specs.lines.LineRun.{Finishes};
-ghost use Rattle.version_commands.specs.lines.Ordered.{bad_file, put_of, IsPlaced};
+ghost use Rattle.version_commands.specs.{Fault.ComesOfPut, Files.AltersAtMost, Files.Leaves, Run.Ends, Run.Finishes, lines.Arranged.placed, lines.Arranged.policy, lines.Ordered.bad_file, lines.Ordered.put_of, lines.Ordered.IsPlaced};
 ghost use Rattle.version_lines.specs.Lines.{answer_text, lines_output, output_by, whole_line, AppendsProperBeginning, AppendsUpTo};
 
 use crate::faults::TaskFault;

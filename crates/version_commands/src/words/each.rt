@@ -1,13 +1,9 @@
 //! The commands that ask the same of each of several versions: `show`, `key`, `why` and `next`.
 ghost use Rattle.std.specs.Prelude.{◌≡◌, ◌==◌, ◌<◌, ◌++◌, ◌∷◌, [], false, length, map, ℕ, Bool, List, Option, Some, IfErr, IfOk, OnOk};
 ghost use Rattle.std.specs.Io.KnownBytes.{Consumes, IsAtEnd};
-ghost use Rattle.version_commands.specs.faults.Cause.{ComesOfAnswering, ComesOfAsking, ComesOfQuestion};
-ghost use Rattle.version_commands.specs.declared.words.each.Answers.{Answers};
-ghost use Rattle.version_commands.specs.faults.Ends.{is_of_word, IfOfWord};
-ghost use Rattle.version_commands.specs.words.Each.{are_versions, others_among, place_of, scheme_of, spelling_of, version_asked, versions_among, AreAnswered, HasSet, HaveAnswered, IsAnswer, IsAnswered, IsAsked, IsHead};
-ghost use Rattle.version_commands.specs.Hints.{IsOfEach, MayTell};
-ghost use Rattle.version_answers.specs.Pieces.{Adds};
-ghost use Rattle.version_commands.specs.lines.Place.{line_text};
+ghost use Rattle.version_commands.specs.Each.{are_versions, others_among, place_of, scheme_of, spelling_of, version_asked, versions_among, AreAnswered, HasSet, HaveAnswered, IsAnswer, IsAnswered, IsAsked, IsHead};
+ghost use Rattle.version_commands.specs.{Cause.ComesOfAnswering, Cause.ComesOfAsking, Cause.ComesOfQuestion, Hints.IsOfEach, Hints.MayTell, Run.is_of_word, Run.IfOfWord, declared.words.each.Answers.Answers, lines.Picked.line_text};
+ghost use Rattle.version_answers.specs.One.{Adds};
 ghost use Rattle.version_lines.specs.Lines.{lines_of, plain_end};
 ghost use Rattle.version_schemes.specs.any.AnyVersion.{plain_any};
 
@@ -269,8 +265,7 @@ impl<'a> Answers<'_, 'a> {
 
 impl<'a> Takes<'a> for Answers<'_, 'a> {
     ghost use Rattle.std.specs.Prelude.{◌≡◌, ⊤, map};
-    ghost use Rattle.version_commands.specs.words.Each.{place_of, HasSet, HaveAnswered};
-    ghost use Rattle.version_commands.specs.lines.Place.{line_text, reads_of};
+    ghost use Rattle.version_commands.specs.{Each.place_of, Each.HasSet, Each.HaveAnswered, lines.Picked.line_text, lines.Picked.reads_of};
     ghost use Rattle.version_lines.specs.Sort.{version_in};
 
     ghost versions = { λ answers. version_in (reads_of (place_of answers.question answers.naming answers.crlf)) };

@@ -1,11 +1,9 @@
 //! The commands `test`, `implies` and `meets`, which answer by their status.
 
 ghost use Rattle.std.specs.Prelude.{◌≡◌, ◌∷◌, [], Bool, Some, true, IfErr, IfOk};
-ghost use Rattle.version_commands.specs.faults.Fault.{first_wrong, ComesOfTestOfSet, ComesOfTestOfSets, ComesOfTestOfTwo};
-ghost use Rattle.version_answers.specs.Tags.{is_bare, is_tested_otherwise};
-ghost use Rattle.version_commands.specs.Hints.{HasOtherwise, IfTags, MayTell};
-ghost use Rattle.version_answers.specs.Spelling.{spelled};
-ghost use Rattle.version_commands.specs.words.Test.{answer_line, answer_of_set, answer_of_two, AreSetsSo};
+ghost use Rattle.version_commands.specs.{Fault.first_wrong, Fault.ComesOfTestOfSet, Fault.ComesOfTestOfSets, Fault.ComesOfTestOfTwo, Hints.HasOtherwise, Hints.IfTags, Hints.MayTell};
+ghost use Rattle.version_commands.specs.Output.{answer_line, answer_of_set, answer_of_two, AreSetsSo};
+ghost use Rattle.version_answers.specs.{Spelling.spelled, Tags.is_bare, Tags.is_tested_otherwise};
 ghost use Rattle.version_sets.specs.Form.{IsPart, Meet};
 
 use crate::faults::TaskFault;

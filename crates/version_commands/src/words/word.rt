@@ -1,10 +1,7 @@
 //! Words that should be versions or sets.
 ghost use Rattle.std.specs.Prelude.{◌≡◌, Option, Some, None, IfErr, IfOk};
-ghost use Rattle.version_commands.specs.faults.Fault.{unless_version, ComesOfSet, ComesOfTestedSet, ComesOfWords};
-ghost use Rattle.version_answers.specs.Spelling.{mixed_spelling, spelled, spelled_mixed};
-ghost use Rattle.version_answers.specs.message.Remark.{IsRemark};
-ghost use Rattle.version_answers.specs.declared.message.remark.Remark.{Remark};
-ghost use Rattle.version_answers.specs.Sets.{keys_of};
+ghost use Rattle.version_commands.specs.Fault.{unless_version, ComesOfSet, ComesOfTestedSet, ComesOfWords};
+ghost use Rattle.version_answers.specs.{Message.IsRemark, Sets.keys_of, Spelling.mixed_spelling, Spelling.spelled, Spelling.spelled_mixed, declared.message.remark.Remark.Remark};
 ghost use Rattle.version_schemes.specs.any.AnyVersion.{plain_any};
 ghost use Rattle.version_sets.specs.Form.{has};
 ghost use Rattle.version_texts.specs.VersioningRef.{plain_versioning_ref};

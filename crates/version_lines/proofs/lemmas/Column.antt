@@ -1,13 +1,9 @@
 -- The columns of a line, cut off one after another.
 use Rattle.std.proofs.Common.{◌≡◌, ◌||◌, ◌<◌, ◌≤◌, ◌+◌, ◌-◌, ◌∙◌, ℕ, zero, suc, Bool, true, false, List, [], ◌∷◌, drop, get_or, length, not, take, add-one, ap, arith, inl, inr, refl, sym}
-use Rattle.std.proofs.lemmas.Bool.{cases_Bool, false_from_ne_true}
-use Rattle.std.proofs.lemmas.List.{drop-drop, take_rest}
-use Rattle.std.proofs.lemmas.List.Splits.{slice_split-cons_no, slice_split-cons_yes}
+use Rattle.std.proofs.lemmas.{Bool.cases_Bool, Bool.false_from_ne_true, Iterator.Adapters.position_from-zero, List.drop-drop, List.take_rest, List.Splits.slice_split-cons_no, List.Splits.slice_split-cons_yes}
+use Rattle.std.proofs.lemmas.List.Sums.{prefix_len-drop_yes, prefix_len_stops}
 use Rattle.std.specs.List.{filter, onto_first, prefix_len, slice_split}
-use Rattle.version_lines.specs.Column.{has_bytes, is_blank, words_of}
-use Rattle.version_lines.specs.Csv.{length_before, next, raw_fields, stops}
-use Rattle.version_lines.specs.declared.csv.FieldState.{FieldState}
-use Rattle.version_lines.specs.declared.csv.FieldState.TheVariants.{Start}
+use Rattle.version_lines.specs.{Column.has_bytes, Column.is_blank, Column.words_of, Csv.length_before, Csv.next, Csv.raw_fields, Csv.stops, declared.csv.FieldState.FieldState, declared.csv.FieldState.TheVariants.Start}
 
 -- ---- between separators
 
@@ -176,3 +172,13 @@ words-none (byte ∷ bytes) all =
           ∙ words-none bytes (omega (arith, all, longer is_blank byte bytes blank))
       | inr other ↦ absurd (omega (arith, all, ended is_blank byte bytes other))
     ]
+
+-- ---- what the functions that cut are proved by
+
+pub ruleset pieces_cut = (pieces-cut, pieces-last)
+
+pub ruleset fields_cut = (fields-cut, fields-last)
+
+pub ruleset words_cut = (words-between, words-none, prefix_len-drop_yes, prefix_len_stops)
+
+pub ruleset found_from_zero = (position_from-zero)

@@ -1,13 +1,10 @@
 -- The first of the elements that are the same.
 use Rattle.std.proofs.Common.{◌≡◌, ℕ, suc, ◌<◌, Bool, true, false, List, [], ◌∷◌, length, map, nat_lt, refl, sym, ap, ◌∙◌, arith}
-use Rattle.std.specs.Cmp.{IsTotalOrder}
-use Rattle.std.specs.List.{All, dedup, dedup_from, filter}
 use Rattle.std.specs.Ordering.{eq_by_cmp, is_eq, is_gt, is_lt, ordering_reverse}
-use Rattle.std.specs.declared.cmp.Ordering.{Ordering}
+use Rattle.std.specs.{Cmp.IsTotalOrder, List.All, List.dedup, List.dedup_from, List.filter, declared.cmp.Ordering.Ordering}
 use Rattle.std.specs.declared.cmp.Ordering.TheVariants.{Less, Equal, Greater}
-use Rattle.std.proofs.lemmas.Bool.{le-ltb, true≢false}
-use Rattle.std.proofs.lemmas.Cmp.{eq_by_cmp_equiv, tied_itself, upto}
 use Rattle.std.proofs.lemmas.List.Elements.{All-cons, All-head, All-nil, All-tail, All-weaker}
+use Rattle.std.proofs.lemmas.{Bool.le-ltb, Bool.true≢false, Cmp.eq_by_cmp_equiv, Cmp.tied_itself, Cmp.upto}
 use Rattle.version_lines.specs.Newest.{first_after, first_of_each}
 use Rattle.version_lines.proofs.lemmas.Sorting.{AtLeast, Rises, below, by_test}
 
@@ -67,10 +64,7 @@ module _ {X : Type 0} (R : X → X → Ordering) (total : IsTotalOrder R) where
   pub firsts-dedup : (xs : List X) → Rises (below R) xs
       → dedup (eq_by_cmp R) xs ≡ first_of_each 1 (eq_by_cmp R) xs
   firsts-dedup [] up = refl
-  firsts-dedup (x ∷ xs) (least, up) =
-      sym (firsts-after x (x ∷ []) xs (rw (ap is_eq (tied_itself total x)) (omega arith))
-      (All-cons (λ y. is_gt (R y x) ≡ false) x [] (ap is_gt (tied_itself total x))
-      (All-nil (λ y. is_gt (R y x) ≡ false))) least up)
+  firsts-dedup (x ∷ xs) (least, up) = grind (arith, firsts-after, tied_itself)
 
 -- elements that satisfy P may be judged by their images
 

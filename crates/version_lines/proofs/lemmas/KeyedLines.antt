@@ -1,33 +1,21 @@
 -- Lines with their keys.
 use Rattle.std.proofs.Common.{◌≡◌, ◌&&◌, not, ℕ, suc, ◌-◌, Bool, true, false, cond, nat_lt, List, [], ◌∷◌, length, take, refl, sym, ap, ◌∙◌, arith, ◌+◌, ◌<◌, ◌≤◌, ◌++◌, drop, map, subst, length-append, length-drop}
-use Rattle.version_lines.specs.declared.sort.keyed_lines.KeyedLines.{KeyedLines}
+use Rattle.version_lines.specs.Entry.{after_heads_cmp, entry_cmp, entry_key, entry_kind, entry_line, key_length, tie_cmp, version_cmp, AreRead, AreInTurn, HoldsKey, IsRead}
+use Rattle.version_lines.specs.Newest.{are_of_one_group, first_after, first_of_each, first_of_ties, group_place, newest, newest_cmp}
 use Rattle.version_lines.specs.Sort.{Reads, lines_precedence, version_in, lines_cmp, in_order, put_in_order, turned, turn}
-use Rattle.version_lines.specs.KeyedLines.{AreRead}
-use Rattle.std.specs.Cmp.{IsEquivalence, IsTotalOrder, IsStrictWeakOrder}
-use Rattle.std.specs.List.{All, filter, position_or_len}
-use Rattle.std.specs.List.Sorted.{ties}
+use Rattle.version_lines.specs.declared.sort.{entry.Entry.Entry, keyed_lines.KeyedLines.KeyedLines}
 use Rattle.std.specs.Ordering.{eq_by_cmp, is_eq, is_lt, nat_cmp, on, ordering_reverse, ordering_then, then_cmp}
-use Rattle.std.specs.Str.{bytes_eq}
-use Rattle.std.specs.declared.cmp.Ordering.{Ordering}
-use Rattle.std.specs.declared.cmp.Ordering.TheVariants.{Less, Equal, Greater}
-use Rattle.std.specs.Cmp.Lexicographic.{options_total, slice_cmp}
-use Rattle.std.proofs.lemmas.Bool.{ltb-false, ltb-true}
+use Rattle.std.specs.{Cmp.IsEquivalence, Cmp.IsTotalOrder, Cmp.IsStrictWeakOrder, Cmp.Lexicographic.options_total, Cmp.Lexicographic.slice_cmp, Int.from_be_bytes, Int.w64, List.All, List.filter, List.position_or_len, List.Sorted.ties}
+use Rattle.std.specs.{Str.bytes_eq, declared.cmp.Ordering.Ordering, declared.cmp.Ordering.TheVariants.Less, declared.cmp.Ordering.TheVariants.Equal, declared.cmp.Ordering.TheVariants.Greater}
 use Rattle.std.proofs.lemmas.Cmp.{eq_by_cmp_equiv, nat_cmp_total, nat_list_eq_equiv, on_equiv, on_total, then_total, tied_itself, nat_list_cmp_total}
 use Rattle.std.proofs.lemmas.List.{map-id, take_all, drop-append-le, drop_all, length-take, take-append-le}
-use Rattle.std.proofs.lemmas.List.Elements.{filter_passes}
-use Rattle.std.proofs.lemmas.List.Sorted.{ranks_by}
-use Rattle.std.proofs.lemmas.Slice.Eq.{bytes_eq-Decides}
-use Rattle.version_lines.specs.Newest.{are_of_one_group, first_after, first_of_each, first_of_ties, group_place, newest, newest_cmp}
+use Rattle.std.proofs.lemmas.{Bool.ltb-false, Bool.ltb-true, List.Elements.filter_passes, List.Quantifiers.all_pairs_push, List.Sorted.ranks_by, Slice.Eq.bytes_eq-Decides}
 use Rattle.version_lines.proofs.lemmas.Sorting.{AtLeast, Rises, below, by_test, in_order-map, in_order-rises, in_order-stable, turn-tie, turned_total, AreAlike}
 use Rattle.version_schemes.proofs.lemmas.Any.{any_precedence_total, any_total, in_one_scheme, is_of}
-use Rattle.std.specs.Int.{from_be_bytes, w64}
 use Rattle.std.proofs.Math.Seq.{drop-append_seam}
-use Rattle.std.proofs.lemmas.List.Quantifiers.{all_pairs_push}
-use Rattle.version_lines.specs.Entry.{after_heads_cmp, entry_cmp, entry_key, entry_kind, entry_line, key_length, tie_cmp, version_cmp, AreInTurn, HoldsKey, IsRead}
 use Rattle.version_rules.specs.declared.kind.Kind.TheVariants.{Ideal}
 use Rattle.version_texts.specs.Order.{kind_on, marked_number, texts_tie}
 use Rattle.version_texts.proofs.lemmas.order.Ties.{texts_tie_total}
-use Rattle.version_lines.specs.declared.sort.entry.Entry.{Entry}
 use Rattle.version_schemes.specs.any.Order.{PlainAny, any_precedence}
 use Rattle.version_order.proofs.lemmas.Bytes.{AreBytes, sixteen_first}
 
@@ -59,11 +47,7 @@ pub kept-first : {X : Type 0} (E : X → X → Bool) → IsEquivalence E → (co
     ≡ take (count - length (filter (E z) before)) (filter (E z) xs)
 kept-first E equiv count z before [] = sym (take_all _ [] (omega arith))
 kept-first E equiv count z before (x ∷ xs) =
-    let more = kept-first E equiv count z (x ∷ before) xs in
-    by_test (E z x)
-    (λ same. rw same (kept-next E equiv count z x before xs same (rw same at more)))
-    (λ apart. by_test (nat_lt (length (filter (E x) before)) count)
-    (λ few. rw (few, apart) (rw apart at more)) (λ enough. rw (enough, apart) (rw apart at more)))
+    grind (arith, by_test, kept-next, nat_lt, kept-first E equiv count z (x ∷ before) xs)
 
 pub first_of_each-first : {X : Type 0} (E : X → X → Bool) → IsEquivalence E → (count : ℕ) (z : X)
     (xs : List X) → filter (E z) (first_of_each count E xs) ≡ take count (filter (E z) xs)
@@ -91,10 +75,7 @@ put-before R x (y ∷ ys) (first, least) = rw first refl
 at_least-filter : {X : Type 0} (lt : X → X → Bool) (p : X → Bool) (x : X) (xs : List X)
     → AtLeast lt x xs → AtLeast lt x (filter p xs)
 at_least-filter lt p x [] least = tt
-at_least-filter lt p x (y ∷ ys) (first, least) =
-    by_test (p y)
-    (λ passes. rw passes (first, at_least-filter lt p x ys least))
-    (λ fails. rw fails (at_least-filter lt p x ys least))
+at_least-filter lt p x (y ∷ ys) (first, least) = grind (arith, by_test, at_least-filter lt p x ys least)
 
 at_least-after : {X : Type 0} (R : X → X → Ordering) → IsTotalOrder R → (x y : X) (ys : List X)
     → below R y x ≡ false → AtLeast (below R) y ys → AtLeast (below R) x ys
@@ -107,29 +88,13 @@ put-filter : {X : Type 0} (R : X → X → Ordering) → IsTotalOrder R → (p :
     → filter p (put_in_order R x xs) ≡ cond (p x) (put_in_order R x (filter p xs)) (filter p xs)
 put-filter R total p x [] up = refl
 put-filter {X} R total p x (y ∷ ys) (least, up) =
-    let more = put-filter R total p x ys up in
-    by_test (below R y x)
-    (λ before. by_test (p x)
-    (λ kept. by_test (p y)
-    (λ passes. rw (before, passes, kept, before) (ap (λ (l : List X). y ∷ l) (rw kept at more)))
-    (λ fails. rw (before, fails, kept) (rw kept at more)))
-    (λ left. by_test (p y)
-    (λ passes. rw (before, passes, left) (ap (λ (l : List X). y ∷ l) (rw left at more)))
-    (λ fails. rw (before, fails, left) (rw left at more))))
-    (λ other. let first : AtLeast (below R) x (filter p (y ∷ ys)) =
-    at_least-filter (below R) p x (y ∷ ys) (other, at_least-after R total x y ys other least) in
-    rw other (ap (λ (l : List X). cond (p x) l (filter p (y ∷ ys)))
-    (sym (put-before R x (filter p (y ∷ ys)) first))))
+    grind (arith, by_test, below, at_least-filter, at_least-after, cond, put-before, put-filter R total p x ys up)
 
 pub in_order-filter : {X : Type 0} (R : X → X → Ordering) → IsTotalOrder R → (p : X → Bool)
     (xs : List X) → filter p (in_order R xs) ≡ in_order R (filter p xs)
 in_order-filter R total p [] = refl
 in_order-filter R total p (x ∷ xs) =
-    let more = in_order-filter R total p xs in
-    put-filter R total p x (in_order R xs) (in_order-rises R (ranks_by total (λ w. w)) xs)
-    ∙ by_test (p x)
-    (λ passes. rw passes (ap (put_in_order R x) more))
-    (λ fails. rw fails more)
+    grind (arith, put-filter, in_order-rises, ranks_by, by_test, in_order-filter R total p xs)
 
 -- among elements that tie in the first order, the second order decides
 in_order-tied : {X : Type 0} (R S : X → X → Ordering) → IsTotalOrder R → (x : X) (run : List X)
@@ -235,13 +200,7 @@ length-is-some (b ∷ key) some = omega arith
 
 length-some : (reads : Reads) (keys : List ℕ) (entry : Entry)
     → IsRead reads keys entry → 0 < key_length entry
-length-some reads keys entry (v, here, held) =
-    omega (
-      arith,
-      length-is-some v.key (is_of reads.scheme (reads.text_of (entry_line entry)) v here).some,
-      ap length held.key,
-      length-take (key_length entry) (drop entry.start keys),
-    )
+length-some reads keys entry (v, here, held) = grind (arith, length-is-some, is_of, length-take)
 
 -- an entry after others, whose key lies after theirs, is in turn
 pub in_turn-added : (reads : Reads) (after entries : List Entry) (entry : Entry)

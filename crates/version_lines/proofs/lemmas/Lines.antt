@@ -1,17 +1,11 @@
 -- The first line of some bytes, and the lines after it.
-use Rattle.std.proofs.Common.{◌≡◌, ℕ, zero, suc, ◌<◌, ◌≤◌, true, false, List, [], ◌∷◌, ◌++◌, Option, None, Some, length, take, drop, get_or, append-nil, add-one, ◌+◌, ◌-◌, ap, ◌∙◌, arith, inl, inr, nat_eq, refl, sym, subst, take-append-drop, append_assoc, length-append}
-use Rattle.std.proofs.lemmas.Bool.{cases_Bool, false_from_ne_true}
-use Rattle.std.proofs.lemmas.List.{take_all, take_rest}
-use Rattle.std.proofs.Math.ListN.{drop_of_length-le}
-use Rattle.std.specs.Option.{unwrap_or}
+use Rattle.std.proofs.Common.{◌≡◌, ℕ, zero, suc, ◌<◌, ◌≤◌, true, false, List, [], ◌∷◌, ◌++◌, Option, None, Some, length, take, drop, get_or, append-nil, add-one, ◌+◌, ◌-◌, ap, ◌∙◌, arith, nat_eq, refl, sym, subst, take-append-drop, append_assoc, length-append}
+use Rattle.std.proofs.lemmas.{Bool.cases_Bool, Bool.false_from_ne_true, List.take_all, List.take_rest}
+use Rattle.std.proofs.{KnownBytes.Appends-trans, Math.ListN.drop_of_length-le}
+use Rattle.std.specs.{Io.KnownBytes.Appends, Option.unwrap_or}
 use Rattle.memchr.specs.Find.{is_byte, IsFirstByte}
-use Rattle.version_lines.specs.Csv.{length_before, next, stops}
 use Rattle.version_lines.specs.Lines.{before_lines, ends_quoted, lines_from, lines_of, lines_output, plain_end, AppendsUpTo, AppendsProperBeginning}
-use Rattle.version_lines.specs.declared.csv.FieldState.{FieldState}
-use Rattle.version_lines.specs.declared.csv.FieldState.TheVariants.{Start}
-use Rattle.version_lines.specs.declared.lines.LineEnd.{LineEnd}
-use Rattle.std.specs.Io.KnownBytes.{Appends}
-use Rattle.std.proofs.KnownBytes.{Appends-trans}
+use Rattle.version_lines.specs.{Csv.length_before, Csv.next, declared.csv.FieldState.FieldState, declared.csv.FieldState.TheVariants.Start, declared.lines.LineEnd.LineEnd}
 
 -- ---- lines that each such byte ends
 
@@ -67,11 +61,7 @@ plain-line end text (Some place) plain some (found, here) =
 -- in such lines nothing stands in quotes
 never-quoted : (end : ℕ) (bytes : List ℕ) → ends_quoted (plain_end end) bytes ≡ false
 never-quoted end [] = refl
-never-quoted end (byte ∷ bytes) =
-    elim (cases_Bool (stops end Start byte)) [
-      | inl here ↦ rw here (never-quoted end bytes)
-      | inr other ↦ rw other (never-quoted end bytes)
-    ]
+never-quoted end (byte ∷ bytes) = grind (arith, cases_Bool, never-quoted end bytes)
 
 pub plain-unquoted : (end : LineEnd) (bytes : List ℕ) → ((separator : ℕ) → end.csv ≡ Some separator → ⊥)
     → false ≡ ends_quoted end bytes
@@ -96,18 +86,9 @@ pub csv-first : (end separator : ℕ) (state : FieldState) (text : List ℕ) →
     → IsFirstFrom (csv_end end separator) state text (take (length_before end separator state text) text)
     (drop (suc (length_before end separator state text)) text)
 csv-first end separator state [] some = absurd (omega (arith, some))
-csv-first end separator state (byte ∷ []) some =
-    elim (cases_Bool (stops end state byte)) [
-      | inl here ↦ rw here refl
-      | inr other ↦ rw other refl
-    ]
+csv-first end separator state (byte ∷ []) some = grind (arith, cases_Bool)
 csv-first end separator state (byte ∷ following ∷ bytes) some =
-    elim (cases_Bool (stops end state byte)) [
-      | inl here ↦ rw here refl
-      | inr other ↦
-          rw other (ap (before_lines byte)
-          (csv-first end separator (next separator state byte) (following ∷ bytes) (omega arith)))
-    ]
+    grind (arith, cases_Bool, csv-first end separator (next separator state byte) (following ∷ bytes) (omega arith))
 
 pub csv-line : (end : LineEnd) (separator k : ℕ) (text : List ℕ) → end.csv ≡ Some separator
     → 0 < length text → k ≡ length_before end.byte separator Start text
@@ -119,11 +100,7 @@ pub length_before-within : (stop separator : ℕ) (state : FieldState) (text : L
     → length_before stop separator state text ≤ length text
 length_before-within stop separator state [] = omega arith
 length_before-within stop separator state (byte ∷ bytes) =
-    let more = length_before-within stop separator (next separator state byte) bytes in
-    elim (cases_Bool (stops stop state byte)) [
-      | inl here ↦ rw here (omega arith)
-      | inr other ↦ rw other (omega (arith, more))
-    ]
+    grind (arith, cases_Bool, length_before-within stop separator (next separator state byte) bytes)
 
 -- ---- lines one after another
 
@@ -240,3 +217,9 @@ AppendsProperBeginning-step a b c waiting more came later output before parts ne
     AppendsProperBeginning-after a b c (waiting ++ more) output before
     (subst (λ (l : List ℕ). AppendsProperBeginning b c (waiting ++ l)) (sym parts)
     (AppendsProperBeginning-with_more b c waiting came later next))
+
+-- ---- what the functions that find the first line are proved by
+
+pub ruleset line_found = (csv-line, length_before-within, plain-line)
+
+pub ruleset never_open = (plain-unquoted)

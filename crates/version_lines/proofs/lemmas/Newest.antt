@@ -1,34 +1,18 @@
 -- The newest of entries, and the first of entries that tie, are those of their lines.
 use Rattle.std.proofs.Common.{◌≡◌, ℕ, ◌+◌, ◌<◌, ◌≤◌, ◌-◌, ◌==◌, Bool, true, false, not, cond, List, [], ◌∷◌, ◌++◌, length, take, drop, set, get_or, map, nat_lt, Some, refl, sym, ap, ◌∙◌, subst, arith, append_assoc, length-append}
-use Rattle.std.specs.BTreeMap.{BTreeMap, get_by}
-use Rattle.std.specs.Cmp.{IsTotalOrder, both_ways}
-use Rattle.std.specs.Cmp.Lexicographic.{slice_cmp}
-use Rattle.std.specs.List.Sorted.{IsPermutation}
 use Rattle.std.specs.List.{All, AllPairs, filter, position, position_or_len, prefix_len}
-use Rattle.std.specs.Option.{unwrap_or}
-use Rattle.std.specs.Ordering.{eq_by_cmp, is_eq, nat_cmp}
-use Rattle.std.specs.Str.{bytes_eq}
+use Rattle.std.specs.{BTreeMap.BTreeMap, BTreeMap.get_by, Cmp.IsTotalOrder, Cmp.both_ways, Cmp.Lexicographic.slice_cmp, List.Sorted.IsPermutation, Option.unwrap_or, Ordering.eq_by_cmp, Ordering.is_eq, Ordering.nat_cmp, Str.bytes_eq}
 use Rattle.std.proofs.lemmas.Bool.{eq-eqb, eqb-true, le-ltb, lt-ltb, ltb-false, ltb-true, true≢false}
-use Rattle.std.proofs.lemmas.Bool.Decides.{nat_tests}
-use Rattle.std.proofs.lemmas.Cmp.{nat_cmp_total, nat_list_eq_equiv, on_total, then_total}
-use Rattle.std.proofs.lemmas.Grind.{get_or-set_at, get_or_default_zero}
 use Rattle.std.proofs.lemmas.List.{drop_more, get_or-map, get_or-set_other, map-append, length-map, length-set, length-take, take-append-drop, take_more}
-use Rattle.std.proofs.lemmas.List.Elements.{All-map}
-use Rattle.std.proofs.lemmas.List.Folds.{position_or_len_push, prefix_len-append}
-use Rattle.std.proofs.lemmas.List.Sorted.{All-permutation, length_permutation}
-use Rattle.std.proofs.lemmas.List.Sums.{fails_before_first, passes_at_first, prefix_len-drop_no, prefix_len-le-length}
-use Rattle.std.proofs.lemmas.Simd.{map-map}
-use Rattle.std.proofs.lemmas.Slice.Eq.{bytes_eq-Decides}
-use denote.Ref.{Bor}
-use Rattle.version_lines.specs.Entry.{entry_cmp, entry_line, AreInTurn, IsRead}
-use Rattle.version_lines.specs.Newest.{are_of_one_group, first_after, first_of_each, first_of_ties, group_place, newest, newest_cmp}
-use Rattle.version_lines.specs.Placed.{are_at_one_place, placed, placed_cmp, placed_entry, placed_start}
+use Rattle.std.proofs.lemmas.{Bool.Decides.nat_tests, Cmp.nat_cmp_total, Cmp.nat_list_eq_equiv, Cmp.on_total, Cmp.then_total, Grind.get_or-set_at, Grind.get_or_default_zero, List.Elements.All-map}
+use Rattle.std.proofs.lemmas.List.{Folds.position_or_len_push, Folds.prefix_len-append, Sorted.All-permutation, Sorted.length_permutation, Sums.fails_before_first, Sums.passes_at_first, Sums.prefix_len-drop_no, Sums.prefix_len-le-length}
+use Rattle.std.proofs.lemmas.{Simd.map-map, Slice.Eq.bytes_eq-Decides}
+use Rattle.version_lines.specs.Newest.{are_of_one_group, first_after, first_of_each, first_of_ties, group_place, newest, newest_cmp, are_at_one_place, placed, placed_cmp, placed_entry, placed_start}
 use Rattle.version_lines.specs.Sort.{Reads, lines_precedence, in_order, turn, turned}
-use Rattle.version_lines.specs.declared.sort.entry.Entry.{Entry}
-use Rattle.version_lines.specs.declared.sort.newest.Placed.{Placed}
-use Rattle.version_lines.proofs.lemmas.KeyedLines.{entry_total, keys_alike}
-use Rattle.version_lines.proofs.lemmas.FirstOfEach.{AreSame, first_of_each-map}
+use Rattle.version_lines.specs.{Entry.entry_cmp, Entry.entry_line, Entry.AreInTurn, Entry.IsRead, declared.sort.entry.Entry.Entry, declared.sort.newest.Placed.Placed}
 use Rattle.version_lines.proofs.lemmas.Sorting.{AreAlike, by_test, in_order-map, in_order-permutes, turned_total}
+use Rattle.version_lines.proofs.lemmas.{FirstOfEach.AreSame, FirstOfEach.first_of_each-map, KeyedLines.entry_total, KeyedLines.keys_alike}
+use denote.Ref.{Bor}
 
 -- of entries that tie, the first are the first of the lines that tie
 pub first_of_ties-entries : (reversed : Bool) (reads : Reads) (keys : List ℕ)
@@ -298,9 +282,7 @@ module _ (count : ℕ) (list : List Placed) (left : List ℕ) (kept : List Entry
 
   count-left : (more : ℕ) → more ≡ get_or left next.place more
       → more ≡ count - length (filter (are_at_one_place next) so_far.before)
-  count-left more read =
-      read ∙ get_or_default_zero left next.place more (omega (arith, so_far.length_is))
-      ∙ so_far.counted next within
+  count-left more read = grind (arith, read, get_or_default_zero, within)
 
   pub kept_to-stays : (more : ℕ) (after : List Entry) → more ≡ get_or left next.place more
       → 0 < more → after ≡ kept ++ next.entry ∷ []

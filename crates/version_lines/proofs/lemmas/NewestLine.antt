@@ -1,19 +1,12 @@
 -- The newest of lines that come one after another.
 use Rattle.std.proofs.Common.{◌≡◌, ℕ, true, false, cond, Bor, List, [], ◌∷◌, ◌++◌, take, Some, refl, sym, ap, ◌∙◌, arith}
-use Rattle.std.specs.Cmp.{IsStrictWeakOrder}
-use Rattle.std.specs.List.{filter}
-use Rattle.std.specs.Ordering.{is_gt, is_lt, ordering_reverse}
-use Rattle.std.specs.declared.cmp.Ordering.{Ordering}
+use Rattle.std.specs.{Cmp.IsStrictWeakOrder, List.filter, Ordering.is_gt, Ordering.is_lt, Ordering.ordering_reverse, declared.cmp.Ordering.Ordering}
 use Rattle.std.specs.declared.cmp.Ordering.TheVariants.{Less, Equal, Greater}
-use Rattle.std.proofs.lemmas.Bool.{true≢false}
-use Rattle.std.proofs.lemmas.List.Sorted.{ranks_by}
-use Rattle.version_lines.specs.Newest.{newest_alone, IsNewestOf}
+use Rattle.std.proofs.lemmas.{Bool.true≢false, List.Sorted.ranks_by}
 use Rattle.version_lines.specs.Sort.{Reads, lines_precedence, version_in, in_order, put_in_order, turned}
-use Rattle.version_lines.proofs.lemmas.KeyedLines.{newest-first, precedences_total}
-use Rattle.version_lines.proofs.lemmas.Sorting.{below, by_test, head-is, turned_total}
-use Rattle.version_schemes.specs.any.AnyVersion.{plain_any}
-use Rattle.version_schemes.specs.any.Order.{any_precedence}
-use Rattle.version_schemes.specs.declared.any.AnyVersion.{AnyVersion}
+use Rattle.version_lines.specs.Newest.{newest_alone, IsNewestOf}
+use Rattle.version_lines.proofs.lemmas.{KeyedLines.newest-first, KeyedLines.precedences_total, Sorting.below, Sorting.by_test, Sorting.head-is, Sorting.turned_total}
+use Rattle.version_schemes.specs.{any.AnyVersion.plain_any, any.Order.any_precedence, declared.any.AnyVersion.AnyVersion}
 
 -- the first of two in an order: the second only if it is below
 abbrev better : {X : Type 0} → (X → X → Ordering) → X → X → X

@@ -1,20 +1,13 @@
 -- A sorted list has the elements of the list, rises, and keeps the order of elements that tie; no
 -- other list does.
 use Rattle.std.proofs.Common.{◌≡◌, ℕ, zero, suc, ◌<◌, Bool, true, false, not, cond, ◌&&◌, List, [], ◌∷◌, length, map, get_or, refl, sym, ap, ◌∙◌, arith, add-one, subst}
-use Rattle.std.specs.Cmp.{IsStrictWeakOrder, IsTotalOrder, nat_cmp_is}
-use Rattle.std.specs.List.{All, filter, AllPairs}
-use Rattle.std.specs.List.Sorted.{IsPermutation, IsSortedBy, IsStableBy, ties}
 use Rattle.std.specs.Ordering.{is_lt, nat_cmp, on, ordering_reverse, ordering_then, then_cmp, is_eq}
-use Rattle.std.specs.declared.cmp.Ordering.{Ordering}
-use Rattle.std.proofs.lemmas.Bool.{false_from_ne_true, true≢false}
+use Rattle.std.specs.{Cmp.IsStrictWeakOrder, Cmp.IsTotalOrder, Cmp.nat_cmp_is, List.All, List.filter, List.AllPairs, List.Sorted.IsPermutation, List.Sorted.IsSortedBy, List.Sorted.IsStableBy, List.Sorted.ties}
+use Rattle.std.specs.declared.cmp.{Ordering.Ordering, Ordering.TheVariants.Less, Ordering.TheVariants.Equal, Ordering.TheVariants.Greater}
 use Rattle.std.proofs.lemmas.List.Elements.{All-head, All-tail, All-cons, All-filter, All-nil, filter_passes}
 use Rattle.std.proofs.lemmas.List.Sorted.{All-permutation, IsPermutation-cons, IsPermutation-middle, IsPermutation-refl, IsPermutation-sym, IsPermutation-trans, sorted_far, ranks_by, sum_by-IsPermutation}
+use Rattle.std.proofs.lemmas.{Bool.false_from_ne_true, Bool.true≢false, Cmp.nat_cmp_total, Cmp.on_total, Cmp.then_total, List.Kept.AllPairs-filter, List.Sums.length-filter, Map.Lookups.exact_unsigned}
 use Rattle.version_lines.specs.Sort.{put_in_order, in_order, turn, turned}
-use Rattle.std.specs.declared.cmp.Ordering.TheVariants.{Less, Equal, Greater}
-use Rattle.std.proofs.lemmas.Cmp.{nat_cmp_total, on_total, then_total}
-use Rattle.std.proofs.lemmas.List.Kept.{AllPairs-filter}
-use Rattle.std.proofs.lemmas.List.Sums.{length-filter}
-use Rattle.std.proofs.lemmas.Map.Lookups.{exact_unsigned}
 use Rattle.version_order.specs.keys.Codes.{then_second}
 
 -- no element is below x
@@ -92,20 +85,12 @@ filter-swap p x y xs apart =
 put-stable : {X : Type 0} (cmp : X → X → Ordering) → IsStrictWeakOrder (below cmp)
     → (x : X) (xs : List X) → IsStableBy (below cmp) (x ∷ xs) (put_in_order cmp x xs)
 put-stable cmp order x [] z = refl
-put-stable cmp order x (y ∷ ys) z =
-    let tie = ties (below cmp) z in
-    by_test (below cmp y x)
-    (λ up. rw up (ap (λ (l : List _). cond (tie y) (y ∷ l) l) (put-stable cmp order x ys z)
-    ∙ filter-swap tie x y ys (ties_apart cmp order z x y up)))
-    (λ other. rw other refl)
+put-stable cmp order x (y ∷ ys) z = grind (arith, by_test, cond, filter-swap, ties_apart, put-stable cmp order x ys z)
 
 pub in_order-stable : {X : Type 0} (cmp : X → X → Ordering) → IsStrictWeakOrder (below cmp)
     → (xs : List X) → IsStableBy (below cmp) xs (in_order cmp xs)
 in_order-stable cmp order [] z = refl
-in_order-stable cmp order (x ∷ xs) z =
-    let tie = ties (below cmp) z in
-    put-stable cmp order x (in_order cmp xs) z
-    ∙ ap (λ (l : List _). cond (tie x) (x ∷ l) l) (in_order-stable cmp order xs z)
+in_order-stable cmp order (x ∷ xs) z = grind (arith, put-stable, cond, in_order-stable cmp order xs z)
 
 -- the list in order rises
 
@@ -113,11 +98,7 @@ pub at_least-put : {X : Type 0} (cmp : X → X → Ordering) (z x : X) (xs : Lis
     → below cmp x z ≡ false → AtLeast (below cmp) z xs
     → AtLeast (below cmp) z (put_in_order cmp x xs)
 at_least-put cmp z x [] first others = (first, tt)
-at_least-put {X} cmp z x (y ∷ ys) first others =
-    by_test (below cmp y x)
-    (λ up. let P : List X → Type 0 =
-    AtLeast (below cmp) z in rw up (others.0, at_least-put cmp z x ys first others.1))
-    (λ other. rw other (first, others))
+at_least-put {X} cmp z x (y ∷ ys) first others = grind (arith, by_test, at_least-put cmp z x ys first others.1)
 
 -- not being below is transitive
 at_least-chain : {X : Type 0} (cmp : X → X → Ordering) → IsStrictWeakOrder (below cmp)
@@ -131,10 +112,7 @@ put-rises : {X : Type 0} (cmp : X → X → Ordering) → IsStrictWeakOrder (bel
     → (x : X) (xs : List X) → Rises (below cmp) xs → Rises (below cmp) (put_in_order cmp x xs)
 put-rises cmp order x [] up = (tt, tt)
 put-rises cmp order x (y ∷ ys) (first, up) =
-    by_test (below cmp y x)
-    (λ before. rw before
-    (at_least-put cmp y x ys (order.one_way y x before) first, put-rises cmp order x ys up))
-    (λ other. rw other ((other, at_least-chain cmp order x y ys other first), (first, up)))
+    grind (arith, by_test, at_least-put, at_least-chain, put-rises cmp order x ys up)
 
 pub in_order-rises : {X : Type 0} (cmp : X → X → Ordering) → IsStrictWeakOrder (below cmp)
     → (xs : List X) → Rises (below cmp) (in_order cmp xs)
@@ -150,8 +128,7 @@ sorted_from_rises cmp [] up k d least inside = absurd (omega arith)
 sorted_from_rises cmp (x ∷ []) up k d least inside = absurd (omega arith)
 sorted_from_rises cmp (x ∷ y ∷ ys) up zero d least inside = up.0.0
 sorted_from_rises cmp (x ∷ y ∷ ys) up (suc k) d least inside =
-    rw (add-one (suc k))
-    (rw (add-one k) at (sorted_from_rises cmp (y ∷ ys) up.1 k d (omega arith) (omega arith)))
+    grind (arith, add-one, sorted_from_rises cmp (y ∷ ys) up.1 k d (omega arith) (omega arith))
 
 at_least_from_get : {X : Type 0} (cmp : X → X → Ordering) (x : X) (xs : List X)
     → ((k : ℕ) → k < length xs → below cmp (get_or xs k x) x ≡ false) → AtLeast (below cmp) x xs
@@ -394,14 +371,7 @@ reversed_equal Greater same = cc
 pub turned_total : {X : Type 0} (reversed : Bool) (cmp : X → X → Ordering) → IsTotalOrder cmp
     → IsTotalOrder (turned reversed cmp)
 turned_total false cmp total = total
-turned_total true cmp total = record {
-  antisymm = λ x y. ap ordering_reverse (total.antisymm x y);
-  trans = λ x y z up next.
-      sym (total.antisymm z x)
-      ∙ total.trans z y x (total.antisymm z y ∙ next) (total.antisymm y x ∙ up);
-  congr = λ x y z tied.
-      ap ordering_reverse (total.congr x y z (reversed_equal (cmp x y) tied));
-}
+turned_total true cmp total = grind (arith, reversed_equal)
 
 -- elements that tie do so in reverse
 pub turn-tie : (reversed : Bool) (o : Ordering) → is_eq (turn reversed o) ≡ is_eq o

@@ -1,9 +1,7 @@
 //! A line as it is sorted.
 ghost use Rattle.std.specs.Prelude.{◌≡◌, ◌+◌, ◌++◌, ◌≤◌, drop, length, IfOk, IsTrue, OnErr, OnOk};
-ghost use Rattle.std.specs.Ordering.{on, then_cmp};
-ghost use Rattle.std.specs.declared.cmp.Ordering.TheVariants.{Equal};
-ghost use Rattle.version_lines.specs.Entry.{after_heads_cmp};
-ghost use Rattle.version_lines.specs.Sort.{Reads, turned};
+ghost use Rattle.std.specs.{Ordering.on, Ordering.then_cmp, declared.cmp.Ordering.TheVariants.Equal};
+ghost use Rattle.version_lines.specs.{Entry.after_heads_cmp, Sort.Reads, Sort.turned};
 ghost use Rattle.version_schemes.specs.any.AnyVersion.{plain_any};
 
 use crate::sort::by::{SortBy, turn};

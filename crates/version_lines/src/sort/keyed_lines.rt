@@ -1,11 +1,8 @@
 //! Lines with the sort keys of their versions.
 ghost use Rattle.std.specs.Prelude.{[], ◌≡◌, ◌<◌, ◌++◌, ◌∷◌, get_or, length, IfOk, OnErr, OnOk, Some};
-ghost use Rattle.std.specs.Option.{option_map};
-ghost use Rattle.std.specs.Ordering.{eq_by_cmp};
-ghost use Rattle.version_lines.specs.Entry.{entry_cmp, version_cmp, AreInTurn};
-ghost use Rattle.version_lines.specs.KeyedLines.{lines_in, AreRead};
-ghost use Rattle.version_lines.specs.Newest.{first_of_each, first_of_ties, newest};
-ghost use Rattle.version_lines.specs.Sort.{lines_cmp, version_in, in_order, turned};
+ghost use Rattle.std.specs.{Option.option_map, Ordering.eq_by_cmp};
+ghost use Rattle.version_lines.specs.Entry.{entry_cmp, version_cmp, lines_in, AreInTurn, AreRead};
+ghost use Rattle.version_lines.specs.{Newest.first_of_each, Newest.first_of_ties, Newest.newest, Sort.lines_cmp, Sort.version_in, Sort.in_order, Sort.turned};
 ghost use Rattle.version_schemes.specs.any.AnyVersion.{plain_any};
 
 use crate::sort::by::SortBy;

@@ -1,15 +1,8 @@
 //! The newest lines of each group.
 ghost use Rattle.std.specs.Prelude.{◌≡◌, ℕ, ◌<◌, length, map, unwrap_or, if◌then◌else◌, List, IfOk, OnErr, OnOk, Some};
-ghost use Rattle.std.specs.BTreeMap.{get_by};
-ghost use Rattle.std.specs.Cmp.Lexicographic.{slice_cmp};
-ghost use Rattle.std.specs.Str.{bytes_eq};
-ghost use Rattle.std.specs.List.{All, AllPairs};
-ghost use Rattle.std.specs.Ordering.{nat_cmp, on, then_cmp};
-ghost use Rattle.version_lines.specs.Entry.{entry_line, AreInTurn, IsRead};
-ghost use Rattle.version_lines.specs.Newest.{first_of_each, newest};
-ghost use Rattle.version_lines.specs.Placed.{are_at_one_place, placed, placed_cmp, placed_entry, placed_start};
-ghost use Rattle.version_lines.specs.Sort.{Reads, in_order};
-ghost use Rattle.version_lines.specs.declared.sort.newest.Placed.{Placed};
+ghost use Rattle.std.specs.{BTreeMap.get_by, Cmp.Lexicographic.slice_cmp, List.All, List.AllPairs, Ordering.nat_cmp, Ordering.on, Ordering.then_cmp, Str.bytes_eq};
+ghost use Rattle.version_lines.specs.Newest.{first_of_each, newest, are_at_one_place, placed, placed_cmp, placed_entry, placed_start};
+ghost use Rattle.version_lines.specs.{Entry.entry_line, Entry.AreInTurn, Entry.IsRead, Sort.Reads, Sort.in_order, declared.sort.newest.Placed.Placed};
 
 use crate::sort::entry::Entry;
 use std::alloc::{AllocError, Global};

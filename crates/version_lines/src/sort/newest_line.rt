@@ -1,8 +1,7 @@
 //! The newest line of an input, in one pass and without keys.
 ghost use Rattle.std.specs.Prelude.{◌≡◌, ◌∷◌, ◌++◌, [], ℕ, List, Some};
 ghost use Rattle.std.specs.Option.{option_map};
-ghost use Rattle.version_lines.specs.Sort.{version_in};
-ghost use Rattle.version_lines.specs.Newest.{newest_alone, rows_in, IsNewestOf};
+ghost use Rattle.version_lines.specs.{Newest.newest_alone, Newest.rows_in, Newest.IsNewestOf, Sort.version_in};
 ghost use Rattle.version_schemes.specs.any.AnyVersion.{plain_any};
 
 use crate::sort::by::SortBy;

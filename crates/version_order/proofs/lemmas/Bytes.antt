@@ -1,25 +1,13 @@
 -- Texts of ASCII.
 use Rattle.std.proofs.Common.{◌≡◌, ℕ, suc, zero, ◌<◌, lit<, Bool, true, List, [], ◌∷◌, arith, refl, false, ap, ◌∙◌, get_or, map, zero-add, ◌+◌, ◌*◌, ◌-◌, ◌≤◌, drop, length, length-drop, take, sym, subst}
-use Rattle.std.specs.Cmp.{first_so, second_so}
-use Rattle.std.specs.List.{list_all, range_with_len}
-use Rattle.std.specs.Str.{IsAscii}
+use Rattle.std.specs.{Char.is_ascii_alphanumeric, Char.is_ascii_alphabetic, Char.is_ascii_digit, Cmp.first_so, Cmp.second_so, Cmp.Lexicographic.slice_cmp, Int.from_be_bytes, Int.w64, List.list_all, List.range_with_len}
+use Rattle.std.specs.{Ordering.nat_cmp, Ordering.ordering_reverse, Ordering.ordering_then, Str.IsAscii, declared.cmp.Ordering.Ordering}
+use Rattle.std.specs.declared.cmp.Ordering.TheVariants.{Less, Equal, Greater}
 use Rattle.version_order.specs.texts.Bytes.{is_metadata_byte, is_identifier_byte, HasDigits, is_section_byte, dot}
 use Rattle.version_order.specs.texts.Grammar.{PlainSep, Colon, Hyphen, Plus, Underscore, Tilde, sep_byte}
-use Rattle.std.proofs.lemmas.Bool.Decides.{nat_tests}
-use Rattle.std.specs.Char.{is_ascii_alphanumeric, is_ascii_alphabetic, is_ascii_digit}
-use Rattle.version_order.specs.texts.Cuts.{is_dot}
-use Rattle.std.proofs.lemmas.Bool.{eqb-true}
-use Rattle.std.proofs.lemmas.List.FromFn.{get_or-map-range_with_len}
-use Rattle.std.specs.Cmp.Lexicographic.{slice_cmp}
-use Rattle.std.specs.Int.{from_be_bytes, w64}
-use Rattle.std.specs.Ordering.{nat_cmp, ordering_reverse, ordering_then}
-use Rattle.std.specs.declared.cmp.Ordering.{Ordering}
-use Rattle.std.specs.declared.cmp.Ordering.TheVariants.{Less, Equal, Greater}
-use Rattle.std.proofs.lemmas.Cmp.{by_ranked, nat_list_cmp_total, ranked}
-use Rattle.std.proofs.lemmas.List.{drop-drop, take_all}
-use Rattle.std.proofs.lemmas.Map.Lookups.{exact_unsigned}
+use Rattle.version_order.specs.{keys.Lists.bytes_cmp, texts.Cuts.is_dot}
+use Rattle.std.proofs.lemmas.{Bool.eqb-true, Bool.Decides.nat_tests, Cmp.by_ranked, Cmp.nat_list_cmp_total, Cmp.ranked, List.drop-drop, List.take_all, List.FromFn.get_or-map-range_with_len, Map.Lookups.exact_unsigned}
 use Rattle.version_order.proofs.lemmas.Orders.{then_assoc}
-use Rattle.version_order.specs.keys.Lists.{bytes_cmp}
 
 pub digits_alphanumeric : HasDigits is_ascii_alphanumeric
 digits_alphanumeric b digit = grind (arith, nat_tests)
@@ -134,9 +122,7 @@ numbers_first : (n v : ℕ) (xs ys : List ℕ) → AreBytes xs → AreBytes ys
 numbers_first zero v xs ys xs_bytes ys_bytes up rest = rest refl
 numbers_first (suc n) v [] [] xs_bytes ys_bytes up rest = rest refl
 numbers_first (suc n) v [] (y ∷ ys) xs_bytes ys_bytes up rest = refl
-numbers_first (suc n) v (x ∷ xs) [] xs_bytes ys_bytes up rest =
-    absurd (nothing_below (drop n xs)
-    (rest (omega (arith, number_from-least n (v * 256 + 0) (v * 256 + x) xs (omega arith)))))
+numbers_first (suc n) v (x ∷ xs) [] xs_bytes ys_bytes up rest = grind (arith, nothing_below, number_from-least)
 numbers_first (suc n) v (x ∷ xs) (y ∷ ys) xs_bytes ys_bytes up rest =
     by_ranked (x < y) (x ≡ y) (y < x) (nat_cmp x y) (ranked x y _ refl)
     (λ e less. rw e refl)
@@ -171,9 +157,7 @@ length_last : (xs ys : List ℕ) → ordering_then (bytes_cmp xs ys) (by_length 
 length_last [] [] = refl
 length_last [] (y ∷ ys) = refl
 length_last (x ∷ xs) [] = refl
-length_last (x ∷ xs) (y ∷ ys) =
-    then_assoc (nat_cmp x y) (bytes_cmp xs ys) (by_length xs ys)
-    ∙ ap (ordering_then (nat_cmp x y)) (length_last xs ys)
+length_last (x ∷ xs) (y ∷ ys) = grind (arith, then_assoc, length_last xs ys)
 
 -- the empty list is below any other
 
@@ -302,13 +286,4 @@ pub eight_same : (xs ys : List ℕ) → AreBytes xs → AreBytes ys → 8 ≤ le
     → bytes_cmp (take (length xs - 8) (drop 8 xs)) (take (length ys - 8) (drop 8 ys))
     ≡ bytes_cmp xs ys
 eight_same xs ys xs_bytes ys_bytes xs_long ys_long tie =
-    grind (
-      arith,
-      take_all,
-      length-drop,
-      nat_tests,
-      length_last,
-      lengths,
-      eight_tied,
-      exact_unsigned,
-    )
+    grind (arith, take_all, length-drop, nat_tests, length_last, lengths, eight_tied, exact_unsigned)

@@ -1,23 +1,14 @@
 -- What a code that writes an order gives, and how such codes are put together.
 use Rattle.std.proofs.Common.{◌≡◌, ◌↔◌, ℕ, List, [], ◌∷◌, ◌++◌, Option, Some, None, refl, sym, ap, ◌∙◌, append_assoc, arith, ◌≤◌, ◌+◌, IfSome, length, length-append, subst}
 use Rattle.std.proofs.lemmas.List.{append-nil}
-use Rattle.std.specs.Cmp.{tied_itself}
-use Rattle.std.specs.Cmp.Lexicographic.{nat_list_cmp_total, slice_cmp}
-use Rattle.std.specs.FinMap.{IsAntisymmetric, slice_cmp-IsAntisymmetric}
-use Rattle.std.specs.Option.{option_cmp, is_some, option_map}
-use Rattle.std.specs.Ordering.{on, ordering_then, then_cmp}
-use Rattle.std.specs.declared.cmp.Ordering.{Ordering}
-use Rattle.std.specs.declared.cmp.Ordering.TheVariants.{Equal}
-use Rattle.version_order.specs.keys.Codes.{Writes, list_bytes, items_bytes, options_same, then_equal, then_first}
-use Rattle.version_order.specs.keys.Lists.{bytes_cmp, ended_cmp, with_end}
-use Rattle.version_order.proofs.lemmas.Orders.{then_assoc, then_decided}
-use Rattle.std.specs.Prelude.{option_and_then}
-use Rattle.version_order.specs.Facts.{PlainFacts}
 use Rattle.version_order.specs.Keyed.{AreWithin, KeysAreWithin, PlainKeyed, by_key, end_of}
-use Rattle.version_order.specs.Rules.{ComparesByKeys, rules_of}
-use Rattle.version_order.specs.declared.ends.End.{End}
+use Rattle.version_order.specs.keys.Codes.{Writes, list_bytes, items_bytes, options_same, then_equal, then_first}
+use Rattle.version_order.specs.{Facts.PlainFacts, Rules.ComparesByKeys, Rules.rules_of, declared.ends.End.End}
+use Rattle.version_order.specs.{declared.facts.Operators.TheVariants.Doubled, declared.facts.Operators.TheVariants.Parts, declared.facts.Operators.TheVariants.Plain, keys.Lists.bytes_cmp, keys.Lists.ended_cmp, keys.Lists.with_end}
+use Rattle.version_order.proofs.lemmas.Orders.{then_assoc, then_decided}
+use Rattle.std.specs.{Cmp.tied_itself, Cmp.Lexicographic.nat_list_cmp_total, Cmp.Lexicographic.slice_cmp, FinMap.IsAntisymmetric, FinMap.slice_cmp-IsAntisymmetric, Option.option_cmp, Option.is_some, Option.option_map}
+use Rattle.std.specs.{Ordering.on, Ordering.ordering_then, Ordering.then_cmp, Prelude.option_and_then, declared.cmp.Ordering.Ordering, declared.cmp.Ordering.TheVariants.Equal}
 use Rattle.version_order.specs.declared.ends.End.TheVariants as variant
-use Rattle.version_order.specs.declared.facts.Operators.TheVariants.{Doubled, Parts, Plain}
 
 with_end-same : {A : Type 0} (xs ys : List A) → with_end xs ≡ with_end ys → xs ≡ ys
 with_end-same [] [] e = refl
@@ -48,10 +39,7 @@ in_turn c s x d t y a b z e =
 
 pub writes_then : {A : Type 0} {R S : A → A → Ordering} {c d : A → List ℕ}
     → Writes R c → Writes S d → Writes (then_cmp R S) (λ a. c a ++ d a)
-writes_then {R = R} {S} {c} {d} v w = record {
-  compares = λ a b x y. in_turn (c a) (d a) x (c b) (d b) y (R a b) (S a b) (bytes_cmp x y)
-      (v.compares a b (d a ++ x) (d b ++ y) ∙ ap (ordering_then (R a b)) (w.compares a b x y));
-}
+writes_then {R = R} {S} {c} {d} v w = grind (arith, in_turn)
 
 -- a list whose end is ranked among the items, from the codes of the items and of the end
 pub writes_list : {A : Type 0} {R : Option A → Option A → Ordering} {code : Option A → List ℕ}
@@ -131,9 +119,7 @@ writes_canonical {R = R} {code} same w a b = (
 pub ended : {X : Type 0} (code : Option X → List ℕ) (xs : List X)
     → items_bytes code xs ++ code None ≡ list_bytes code xs
 ended code [] = sym (append-nil (code None))
-ended code (x ∷ xs) =
-    append_assoc (code (Some x)) (items_bytes code xs) (code None)
-    ∙ ap (λ (l : List ℕ). code (Some x) ++ l) (ended code xs)
+ended code (x ∷ xs) = grind (arith, append_assoc, ended code xs)
 
 -- ---- keys of schemes: how they compare, that none is empty, and how long they are
 

@@ -1,25 +1,11 @@
 -- How many bytes a key has at most: so many for each byte of its text, and so many beside.
 use Rattle.std.proofs.Common.{◌≡◌, ◌∙◌, ◌<◌, ◌≤◌, ◌+◌, ◌*◌, ◌-◌, ◌⊎◌, [], ℕ, zero, suc, inl, inr, length-append, Bool, List, ◌∷◌, Option, None, Some, IfSome, false, true, ap, arith, if◌then◌else◌, length, refl, ◌==◌, drop, sym, take}
 use Rattle.std.proofs.Math.Nat.{mul-le-mul_left}
-use Rattle.std.specs.Char.{is_ascii_digit}
-use Rattle.std.specs.List.{list_all, prefix_len, take_while}
-use Rattle.std.specs.Option.{option_map, option_map_or, option_or}
-use Rattle.std.specs.Prelude.{option_and_then}
-use Rattle.std.specs.Str.Parse.{digits_value}
-use Rattle.version_order.proofs.lemmas.Cuts.{cut_last-length, epoch_length}
-use Rattle.version_order.proofs.lemmas.Codes.{ends_within}
-use Rattle.version_order.proofs.lemmas.NumberBytes.{number_length}
-use Rattle.version_order.specs.Facts.{PlainFacts, key_room}
-use Rattle.version_order.specs.Keyed.{AreWithin, KeysAreWithin, by_key}
-use Rattle.version_order.specs.keys.Codes.{list_bytes, items_bytes}
-use Rattle.version_order.specs.keys.NumberBytes.{number_bytes}
-use Rattle.version_order.specs.texts.Cuts.{cut_last, split_epoch}
-use Rattle.std.proofs.lemmas.Bool.{cases_Bool}
-use Rattle.std.proofs.lemmas.List.{take-append-drop}
-use Rattle.version_order.proofs.lemmas.Front.{list_all-take_while}
-use Rattle.version_order.proofs.lemmas.Runs.{run_cons}
-use Rattle.version_order.specs.texts.DigitRun.{behind_digits, number_front, run_value, starts_with_digit}
-use Rattle.version_order.specs.texts.Front.{Front, behind, begins, map_value, optional, repeated, whole}
+use Rattle.version_order.proofs.lemmas.{Codes.ends_within, Cuts.cut_last-length, Cuts.epoch_length, Front.list_all-take_while, NumberBytes.number_length, Runs.run_cons}
+use Rattle.version_order.specs.texts.Front.{behind_digits, number_front, run_value, starts_with_digit, Front, behind, begins, map_value, optional, repeated, whole}
+use Rattle.version_order.specs.{Facts.PlainFacts, Facts.key_room, Keyed.AreWithin, Keyed.KeysAreWithin, Keyed.by_key, keys.Codes.list_bytes, keys.Codes.items_bytes, keys.Codes.number_bytes, texts.Cuts.cut_last, texts.Cuts.split_epoch}
+use Rattle.std.proofs.lemmas.{Bool.cases_Bool, List.take-append-drop}
+use Rattle.std.specs.{Char.is_ascii_digit, List.list_all, List.take_while, Option.option_map, Option.option_map_or, Option.option_or, Prelude.option_and_then, Str.Parse.digits_value}
 
 -- the keys of what is read have at most this many bytes for each byte of a text, and this many beside
 abbrev pub KeysCost : {A : Type 0} → (List ℕ → Option A) → (A → List ℕ) → ℕ → ℕ → Type 0
@@ -62,20 +48,12 @@ some_then P f (Some v) holds = holds
 -- a text as it is, or cut at the last byte of a kind
 pub where_cut : (at : ℕ) (text : List ℕ) (P : Option (List ℕ × List ℕ) → Type 0) → P None
     → ((cut : List ℕ × List ℕ) → length text ≡ length cut.0 + 1 + length cut.1 → P (Some cut)) → P (cut_last at text)
-where_cut at text P none some = by (cut_last at text) (cut_last-length at text)
-  where
-    by : (o : Option (List ℕ × List ℕ))
-        → ((cut : List ℕ × List ℕ) → o ≡ Some cut → length text ≡ length cut.0 + 1 + length cut.1) → P o
-    by None whole = none
-    by (Some cut) whole = some cut (whole cut refl)
+where_cut at text P none some = grind (arith, cut_last-length)
 
 -- what stands behind an epoch has fewer bytes by those of the epoch
 behind_epoch : (epoch behind whole per beside size : ℕ) → 2 ≤ per → epoch + 2 * behind ≤ 2 * whole + 1
     → size ≤ epoch + (behind * per + beside) → size ≤ whole * per + (beside + 1)
-behind_epoch epoch behind whole per beside size enough shorter fits =
-    let cut : whole ≡ behind + (whole - behind) = omega (arith, shorter) in
-    let product : whole * per ≡ behind * per + (whole - behind) * per = ap (λ n. n * per) cut ∙ omega arith in
-    omega (arith, shorter, fits, product, mul-le-mul_left (whole - behind) enough)
+behind_epoch epoch behind whole per beside size enough shorter fits = grind (arith, fits, mul-le-mul_left)
 
 -- an epoch costs two bytes for each of its digits, and one where there is none
 pub epoch_costs : {A : Type 0} (behind : ℕ → List ℕ → Option A) (code : A → List ℕ) (most per beside : ℕ) → 2 ≤ per
@@ -169,52 +147,27 @@ module _ {X : Type 0} (size : X → ℕ) (more : ℕ) (front : Front X) where
   -- by another size
   pub weaker_costs : (other : X → ℕ) (most : ℕ) → ((x : X) → other x + more ≤ size x + most) → FrontCosts size more front
       → FrontCosts other most front
-  weaker_costs other most weaker costs text = by (front text) (costs text)
-    where
-      by : (o : Option (X × List ℕ)) → IfSome o (Costs size more text) → IfSome o (Costs other most text)
-      by None cost = tt
-      by (Some read) cost = omega (arith, cost, weaker read.0)
+  weaker_costs other most weaker costs text = grind (arith, more)
 
   pub mapped_costs : {Y : Type 0} (f : X → Y) (other : Y → ℕ) → ((x : X) → other (f x) ≤ size x)
       → FrontCosts size more front → FrontCosts other more (λ text. map_value f (front text))
-  mapped_costs f other weaker costs text = by (front text) (costs text)
-    where
-      by : (o : Option (X × List ℕ)) → IfSome o (Costs size more text) → IfSome (map_value f o) (Costs other more text)
-      by None cost = tt
-      by (Some read) cost = omega (arith, cost, weaker read.0)
+  mapped_costs f other weaker costs text = grind (arith, more)
 
   pub either_costs : (second : Front X) → FrontCosts size more front → FrontCosts size more second
       → FrontCosts size more (λ text. option_or (front text) (second text))
-  either_costs second costs others text = by (front text) (costs text)
-    where
-      by : (o : Option (X × List ℕ)) → IfSome o (Costs size more text)
-          → IfSome (option_or o (second text)) (Costs size more text)
-      by None cost = others text
-      by (Some read) cost = cost
+  either_costs second costs others text = grind (arith, more)
 
   -- behind a mark, which is a byte more
   pub behind_costs : (mark : ℕ) (most : ℕ) → more ≤ most + 2 → FrontCosts size more front
       → FrontCosts size most (behind mark front)
   behind_costs mark most fits costs [] = tt
-  behind_costs mark most fits costs (byte ∷ text) = elim (cases_Bool (byte == mark)) [
-    | inl here ↦ rw here (by (front text) (costs text))
-    | inr other ↦ rw other tt
-  ]
-    where
-      by : (o : Option (X × List ℕ)) → IfSome o (Costs size more text) → IfSome o (Costs size most (byte ∷ text))
-      by None cost = tt
-      by (Some read) cost = omega (arith, cost, fits)
+  behind_costs mark most fits costs (byte ∷ text) = grind (arith, cases_Bool, more, fits)
 
 -- what may be absent
 pub optional_costs : {X : Type 0} (size : Option X → ℕ) (more : ℕ) (front : Front X) → size None ≤ more
     → FrontCosts (λ x. size (Some x)) more front → (text : List ℕ) → Costs size more text (optional front text)
 unfolding optional
-optional_costs {X} size more front none costs text = by (front text) (costs text)
-  where
-    by : (o : Option (X × List ℕ)) → IfSome o (Costs (λ x. size (Some x)) more text)
-        → Costs size more text (option_map_or (λ p. (Some p.0, p.1)) o (None, text))
-    by None cost = omega (arith, none)
-    by (Some read) cost = cost
+optional_costs {X} size more front none costs text = grind (arith, more)
 
 -- items one after another
 pub repeated_costs : {X : Type 0} (code : Option X → List ℕ) (front : Front X)
@@ -248,13 +201,7 @@ some_taken starts (byte ∷ text) e = omega (arith, ap length (run_cons starts b
 
 number_cost : (text : List ℕ) → starts_with_digit text ≡ true
     → Costs (λ n. length (number_bytes n)) 0 text (run_value text, behind_digits text)
-number_cost text begins =
-    let some = some_taken is_ascii_digit text begins in
-    omega (
-      arith,
-      number_length (take_while is_ascii_digit text) (list_all-take_while is_ascii_digit text) some,
-      parted (prefix_len is_ascii_digit text) text,
-    )
+number_cost text begins = grind (arith, some_taken, number_length, list_all-take_while, parted)
 
 -- a number, zero where there is no digit
 pub zero_cost : (text : List ℕ) → Costs (λ n. length (number_bytes n)) 1 text (run_value text, behind_digits text)
@@ -265,10 +212,7 @@ zero_cost (byte ∷ text) = elim (cases_Bool (is_ascii_digit byte)) [
 ]
 
 pub number_costs : FrontCosts (λ n. length (number_bytes n)) 0 number_front
-number_costs text = elim (cases_Bool (starts_with_digit text)) [
-  | inl begins ↦ rw begins (number_cost text begins)
-  | inr other ↦ rw other tt
-]
+number_costs text = grind (arith, cases_Bool, number_cost)
 
 -- ---- whole texts
 

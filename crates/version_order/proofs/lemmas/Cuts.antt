@@ -1,25 +1,14 @@
 -- Texts that are cut at a byte, that begin alike, and how long an epoch is in a key.
-use Rattle.std.proofs.Common.{◌≡◌, ◌∙◌, ◌<◌, ◌≤◌, ◌==◌, ◌+◌, ◌-◌, ◌*◌, ◌++◌, ◌∷◌, [], ℕ, Bool, List, Option, None, Some, false, true, ap, arith, drop, get_or, if◌then◌else◌, inl, inr, length, refl, suc, sym, take}
+use Rattle.std.proofs.Common.{◌≡◌, ◌∙◌, ◌<◌, ◌≤◌, ◌==◌, ◌+◌, ◌-◌, ◌*◌, ◌++◌, ◌∷◌, [], ℕ, Bool, List, Option, None, Some, false, true, ap, arith, drop, get_or, if◌then◌else◌, inl, inr, length, refl, suc, sym, take, rules, ◌||◌, append-nil}
 use Rattle.std.proofs.Math.Seq.{drop-cons}
-use Rattle.std.proofs.lemmas.Bool.{cases_Bool, eqb-true}
 use Rattle.std.proofs.lemmas.List.{get_or-take, length-append, length-drop, take-append-drop, take-take, take_all}
-use Rattle.std.specs.Char.{is_ascii_digit}
-use Rattle.std.specs.Cmp.{first_so, second_so}
-use Rattle.std.specs.List.{list_all, take_while}
-use Rattle.std.specs.Option.{option_map}
-use Rattle.std.specs.Str.Parse.{digits_value}
-use Rattle.version_order.proofs.lemmas.Front.{take_while-all}
-use Rattle.version_order.specs.texts.DigitRun.{is_digits, run_value}
-use Rattle.version_order.specs.keys.NumberBytes.{number_bytes}
-use Rattle.version_order.proofs.lemmas.NumberBytes.{number_length}
-use Rattle.version_order.proofs.lemmas.Runs.{no_run, run_cons, run_none}
-use Rattle.version_order.specs.texts.Cuts.{cut_first, cut_last, is_epoch, split_epoch}
-use Rattle.version_order.specs.texts.Front.{begins}
+use Rattle.std.proofs.lemmas.{Bool.cases_Bool, Bool.eqb-true, List.Folds.list_all-append}
+use Rattle.version_order.proofs.lemmas.{Front.take_while-all, Front.all_weaker, Front.list_all-take_while, NumberBytes.number_length, Runs.no_run, Runs.run_cons, Runs.run_none, Runs.run_is}
+use Rattle.std.specs.{Char.is_ascii_digit, Cmp.first_so, Cmp.second_so, List.list_all, List.take_while, List.prefix_len, Option.option_map, Str.Parse.digits_value}
+use Rattle.version_order.specs.{keys.Codes.number_bytes, texts.Cuts.cut_first, texts.Cuts.cut_last, texts.Cuts.split_epoch, texts.Front.is_digits, texts.Front.run_value, texts.Front.begins}
 
 pub cut_between : (at : ℕ) (front rest : List ℕ) → cut_last at rest ≡ None → cut_last at (front ++ at ∷ rest) ≡ Some (front, rest)
-cut_between at [] rest none =
-    let same : (at == at) ≡ true = grind arith in
-    rw (none, same) refl
+cut_between at [] rest none = grind arith
 cut_between at (byte ∷ front) rest none = rw (cut_between at front rest none) refl
 
 -- a text is cut at a place behind which the byte isn't
@@ -114,42 +103,75 @@ alike x y place common in_common in_x in_y same =
 pub run_common : (kind : ℕ → Bool) (front a b : List ℕ) → begins kind a ≡ false → begins kind b ≡ false
     → take_while kind (front ++ a) ≡ take_while kind (front ++ b)
 run_common kind [] a b ends too = (no_run kind a ends).0 ∙ sym (no_run kind b too).0
-run_common kind (first ∷ front) a b ends too = elim (cases_Bool (kind first)) [
-  | inl is ↦
-      (run_cons kind first (front ++ a) is).0 ∙ ap (λ (l : List ℕ). first ∷ l) (run_common kind front a b ends too)
-      ∙ sym (run_cons kind first (front ++ b) is).0
-  | inr other ↦ (run_none kind first (front ++ a) other).0 ∙ sym (run_none kind first (front ++ b) other).0
-]
+run_common kind (first ∷ front) a b ends too =
+    grind (arith, cases_Bool, run_cons, run_none, run_common kind front a b ends too)
 
 -- digits, one or more, are their own run
 run_of_digits : (digits : List ℕ) → is_digits digits ≡ true
     → (list_all is_ascii_digit digits ≡ true) × (0 < length digits) × (run_value digits ≡ digits_value 10 digits)
 run_of_digits [] is = cc is
-run_of_digits (digit ∷ digits) is =
-    let all = second_so _ _ is in (
-      all,
-      omega arith,
-      ap (digits_value 10) (take_while-all is_ascii_digit (digit ∷ digits) all),
-    )
+run_of_digits (digit ∷ digits) is = search (rules, second_so, take_while-all)
 
 -- the bytes of an epoch and twice those behind it are at most one more than twice those of the text
 pub epoch_length : (most : ℕ) (text : List ℕ) (cut : ℕ × List ℕ) → split_epoch most text ≡ Some cut
     → length (number_bytes cut.0) + 2 * length cut.1 ≤ 2 * length text + 1
-epoch_length most text cut e = by (cut_first 58 text) refl
-  where
-    by_epoch : (inner : List ℕ × List ℕ) → cut_first 58 text ≡ Some inner → (is : Bool) → is_epoch most inner.0 ≡ is
-        → length (number_bytes cut.0) + 2 * length cut.1 ≤ 2 * length text + 1
-    by_epoch inner first true is =
-        let same : (run_value inner.0, inner.1) ≡ cut = cc (rw (first, is) at e) in
-        let digits = run_of_digits inner.0 (first_so _ _ is) in
-        let number : length (number_bytes (run_value inner.0)) ≤ 2 * length inner.0 =
-        rw digits.2 (number_length inner.0 digits.0 digits.1) in
-        rw (sym same) (omega (arith, number, cut_first-length 58 text inner first))
-    by_epoch inner first false is = cc (rw (first, is) at e)
+epoch_length most text cut e = search (rules, run_of_digits, first_so, number_length, cut_first-length)
 
-    by : (first : Option (List ℕ × List ℕ)) → cut_first 58 text ≡ first
-        → length (number_bytes cut.0) + 2 * length cut.1 ≤ 2 * length text + 1
-    by None is =
-        let same : (0, text) ≡ cut = cc (rw is at e) in
-        rw (sym same) (omega arith)
-    by (Some inner) is = by_epoch inner is (is_epoch most inner.0) refl
+-- ---- texts without a colon and with at most one hyphen
+
+-- what stands behind a byte
+abbrev pub behind : List ℕ → List ℕ
+behind rest = take (length rest - 1) (drop 1 rest)
+
+empty : (rest : List ℕ) → length rest < 1 → rest ≡ []
+empty [] short = refl
+empty (byte ∷ rest) short = absurd (omega (arith, short))
+
+begun : (rest : List ℕ) → 0 < length rest → rest ≡ get_or rest 0 0 ∷ behind rest
+begun rest some = grind (arith, drop-cons, take_all, length-drop)
+
+-- a test that neither sign passes
+module _ (test : ℕ → Bool) (colon : test 58 ≡ false) (hyphen : test 45 ≡ false) where
+  pub not_cut_plain : (text front rest : List ℕ) → length rest < 1 → text ≡ front ++ rest → list_all test front ≡ true
+      → (text ≡ front) × (cut_first 58 text ≡ None) × (cut_last 45 text ≡ None)
+  not_cut_plain text front rest short whole plain =
+      let same : text ≡ front = whole ∙ ap (λ (l : List ℕ). front ++ l) (empty rest short) ∙ append-nil front in (
+        same,
+        ap (cut_first 58) same ∙ (not_cut test 58 front colon plain).0,
+        ap (cut_last 45) same ∙ (not_cut test 45 front hyphen plain).1,
+      )
+
+  abbrev or_hyphen : ℕ → Bool
+  or_hyphen byte = test byte || byte == 45
+
+  no_colon : (front rest : List ℕ) → list_all test front ≡ true → list_all test rest ≡ true
+      → cut_first 58 (front ++ 45 ∷ rest) ≡ None
+  no_colon front rest plain all =
+      let weaker = all_weaker test or_hyphen (λ b e. rw e refl) in
+      let sign : or_hyphen 45 ≡ true = rw hyphen refl in
+      (not_cut or_hyphen 58 (front ++ 45 ∷ rest) (rw colon refl)
+      (list_all-append or_hyphen front (45 ∷ rest) ∙ rw (weaker front plain, weaker rest all, sign) refl)).0
+
+  pub cut_plain : (text front rest : List ℕ) → 0 < length rest → get_or rest 0 0 ≡ 45 → text ≡ front ++ rest
+      → list_all test front ≡ true → list_all test (behind rest) ≡ true
+      → (text ≡ front ++ 45 ∷ behind rest) × (cut_first 58 text ≡ None) × (cut_last 45 text ≡ Some (front, behind rest))
+  cut_plain text front rest some sign whole plain all =
+      let cut : rest ≡ 45 ∷ behind rest = begun rest some ∙ (λ i. sign i ∷ behind rest) in
+      let same : text ≡ front ++ 45 ∷ behind rest = whole ∙ ap (λ (l : List ℕ). front ++ l) cut in (
+        same,
+        ap (cut_first 58) same ∙ no_colon front (behind rest) plain all,
+        ap (cut_last 45) same
+            ∙ cut_between 45 front (behind rest) (not_cut test 45 (behind rest) hyphen all).1,
+      )
+
+-- a text is the run that it begins with, whose bytes all pass, and the rest
+pub run_and_rest : (test : ℕ → Bool) (text run rest : List ℕ) → run ≡ take_while test text
+    → rest ≡ drop (prefix_len test text) text → (text ≡ run ++ rest) × (list_all test run ≡ true)
+run_and_rest test text run rest run_is rest_is = grind (arith, take-append-drop, run_is, list_all-take_while)
+
+-- a text that leaves a rest has a byte that fails
+pub not_all_pass : (test : ℕ → Bool) (text rest : List ℕ) → rest ≡ drop (prefix_len test text) text → 0 < length rest
+    → list_all test text ≡ false
+not_all_pass test text rest rest_is some =
+    let left : (length rest == 0) ≡ false = grind (arith, some) in
+    sym (run_is test text) ∙ ap (λ (l : List ℕ). length l == 0) (sym rest_is) ∙ left

@@ -1,13 +1,10 @@
 -- Fronts: readers of the beginning of a text.
 use Rattle.std.proofs.Common.{◌≡◌, ◌⊎◌, ◌∙◌, ℕ, zero, suc, ◌<◌, ◌≤◌, List, [], ◌∷◌, ◌++◌, length, Option, Some, None, refl, sym, ap, arith, inl, inr, append_assoc, length-append, ◌==◌, false, subst, append-nil, Bool, true, drop, one-add}
-use Rattle.std.specs.List.{flat_map, list_all, prefix_len, take_while}
+use Rattle.std.specs.{Cmp.first_so, Cmp.second_so, List.flat_map, List.list_all, List.prefix_len, List.take_while, Option.option_map_or}
 use Rattle.version_order.specs.texts.Front.{Front, repeated, Consumes, after_mark, begins, behind, dotted_front, elements_at, further, run_front, unless_empty}
 use Rattle.version_order.specs.texts.Grammar.{SpellsEach, SpellsBehind, SpellsDotted, IsComplete, IsPrinted, IsSoundBefore, EndsList, IsSound}
-use Rattle.std.proofs.lemmas.Bool.{cases_Bool, eqb-true, eqb-false, ne_eqb}
-use Rattle.std.specs.Option.{option_map_or}
 use Rattle.version_order.specs.texts.Bytes.{dot}
-use Rattle.std.proofs.lemmas.List.{drop_at, take-append-drop, take_at}
-use Rattle.std.specs.Cmp.{first_so, second_so}
+use Rattle.std.proofs.lemmas.{Bool.cases_Bool, Bool.eqb-true, Bool.eqb-false, Bool.ne_eqb, List.drop_at, List.take-append-drop, List.take_at}
 
 -- ---- items one after another: what their front reads, and that it reads what is spelled
 
@@ -44,10 +41,7 @@ module _ {X : Type 0} (front : Front X) where
         → repeated front (suc n) text ≡ repeated front m text
     more_enough n zero text x rest e same enough =
         let shorter = shrinks text x rest e in absurd (omega arith)
-    more_enough n (suc m) text x rest e same enough =
-        let shorter : length rest < length text = shrinks text x rest e in
-        rw (repeated-Some text n x rest e)
-        (rw (repeated-Some text m x rest e) (rw (same m (omega arith)) refl))
+    more_enough n (suc m) text x rest e same enough = grind (arith, repeated-Some)
 
     -- the limit on the number of items does not matter if it is at least the number of bytes
     pub repeated_enough : (n m : ℕ) (text : List ℕ) → length text ≤ n → length text ≤ m
@@ -70,11 +64,7 @@ module _ {X : Type 0} (front : Front X) where
         → repeated front (length text) text
         ≡ (x ∷ (repeated front (length rest) rest).0, (repeated front (length rest) rest).1)
     repeated-next [] x rest e = let shorter = shrinks [] x rest e in absurd (omega arith)
-    repeated-next (b ∷ text) x rest e =
-        let shorter : length rest < length (b ∷ text) = shrinks (b ∷ text) x rest e in
-        let same : repeated front (length text) rest ≡ repeated front (length rest) rest =
-        repeated_enough (length text) (length rest) rest (omega arith) (omega arith) in
-        rw (repeated-Some (b ∷ text) (length text) x rest e) (rw same refl)
+    repeated-next (b ∷ text) x rest e = grind (arith, repeated_enough, repeated-Some)
 
     -- the rest is no longer than the text
     pub repeated_consumes : (n : ℕ) (text : List ℕ) → length (repeated front n text).1 ≤ length text
@@ -104,10 +94,7 @@ module _ {X : Type 0} (Spells : List ℕ → X → Type 0) (front : Front X) whe
     pub repeated_follows : (n : ℕ) (text : List ℕ) → Follows (repeated front n text).1
         → Follows text
     repeated_follows zero text f = rw (repeated-zero front text) at f
-    repeated_follows (suc n) text f = elim (cases_Option (front text)) [
-      | inl none ↦ rw (repeated-None front text (suc n) none) at f
-      | inr one ↦ begins_so text one.0 one.1
-    ]
+    repeated_follows (suc n) text f = grind (arith, cases_Option, repeated-None)
 
     -- items that are read are spelled so
     pub repeated_sound : (n : ℕ) (text : List ℕ) → Follows (repeated front n text).1
@@ -149,10 +136,7 @@ module _ {X : Type 0} (Spells : List ℕ → X → Type 0) (front : Front X) whe
         → repeated front n (pieces ++ rest) ≡ (xs, rest)
     unfolding SpellsEach
     repeated-reads n pieces rest [] s ends none fits = rw s (repeated-None front rest n none)
-    repeated-reads zero pieces rest (x ∷ xs) s ends none fits =
-        let nonempty =
-        some s.0 x s.3 in absurd
-        (omega (arith, ap (λ (l : List ℕ). length l) s.2, length-append s.0 s.1))
+    repeated-reads zero pieces rest (x ∷ xs) s ends none fits = grind (arith, some, length-append)
     repeated-reads (suc n) pieces rest (x ∷ xs) s ends none fits =
         let nonempty = some s.0 x s.3 in
         let first = complete s.0 x (s.1 ++ rest) s.3 (each_ends s.1 rest xs s.4 ends) in
@@ -168,10 +152,7 @@ pub behind-Some : {X : Type 0} (mark : ℕ) (front : Front X) (text : List ℕ) 
     → behind mark front text ≡ Some p
     → (tail : List ℕ) × (text ≡ mark ∷ tail) × (front tail ≡ Some p)
 behind-Some mark front [] p e = cc e
-behind-Some mark front (b ∷ tail) p e = elim (cases_Bool (b == mark)) [
-  | inl same ↦ (tail, ap (λ (c : ℕ). c ∷ tail) (eqb-true b mark same), rw same at e)
-  | inr other ↦ cc (rw other at e)
-]
+behind-Some mark front (b ∷ tail) p e = grind (arith, cases_Bool, eqb-true)
 
 behind-other : {X : Type 0} (front : Front X) (text : List ℕ) → begins (λ b. b == dot) text ≡ false
     → behind dot front text ≡ None
@@ -212,9 +193,7 @@ module _ {X : Type 0} (front : Front X) where
   module _ (consumes : Consumes front) where
     -- what is left after a dot is shorter
     pub behind_dot_shrinks : Shrinks (behind dot front)
-    behind_dot_shrinks text x rest e =
-        let parts = behind-Some dot front text (x, rest) e in
-        omega (arith, consumes parts.0 x rest parts.2, ap (λ (l : List ℕ). length l) parts.1)
+    behind_dot_shrinks text x rest e = grind (arith, behind-Some)
 
     -- all further elements are the next one and those after it
     pub further-next : (text : List ℕ) (x : X) (rest : List ℕ)
@@ -386,12 +365,7 @@ module _ {X : Type 0} (Spells : List ℕ → X → Type 0) (front : Front X) whe
 pub after_mark-Some : (mark : ℕ) (text tail : List ℕ) → after_mark mark text ≡ Some tail
     → text ≡ mark ∷ tail
 after_mark-Some mark [] tail e = cc e
-after_mark-Some mark (b ∷ text) tail e = elim (cases_Bool (b == mark)) [
-  | inl same ↦
-      let rest : text ≡ tail = cc (rw same at e) in
-      rw (eqb-true b mark same, rest) refl
-  | inr other ↦ cc (rw other at e)
-]
+after_mark-Some mark (b ∷ text) tail e = grind (arith, cases_Bool, eqb-true)
 
 -- what passes one test passes a weaker one
 pub all_weaker : (p q : ℕ → Bool) → ((b : ℕ) → p b ≡ true → q b ≡ true) → (text : List ℕ)
@@ -415,11 +389,7 @@ take_while-cons test b text h = rw (h, one-add) (refl, refl)
 pub list_all-take_while : (test : ℕ → Bool) (text : List ℕ)
     → list_all test (take_while test text) ≡ true
 list_all-take_while test [] = refl
-list_all-take_while test (b ∷ text) = elim (cases_Bool (test b)) [
-  | inl passes ↦
-      rw (take_while-cons test b text passes).0 (rw passes (list_all-take_while test text))
-  | inr fails ↦ rw fails refl
-]
+list_all-take_while test (b ∷ text) = grind (arith, cases_Bool, take_while-cons, list_all-take_while test text)
 
 pub begins-drop : (test : ℕ → Bool) (text : List ℕ)
     → begins test (drop (prefix_len test text) text) ≡ false
@@ -471,10 +441,7 @@ run_front-some test text run rest e f some = rw (e, f) (rw (rw e at some) refl)
 pub run_front-reads : (test : ℕ → Bool) (run rest : List ℕ) → list_all test run ≡ true
     → 0 < length run → begins test rest ≡ false → run_front test (run ++ rest) ≡ Some (run, rest)
 unfolding run_front
-run_front-reads test run rest all some ends =
-    let fits = prefix_len-append test run rest all ends in
-    let nonempty : (length run == 0) ≡ false = ne_eqb (length run) 0 (omega arith) in
-    rw (fits, take_at, drop_at, nonempty) refl
+run_front-reads test run rest all some ends = grind (arith, prefix_len-append, all, ends, ne_eqb, take_at, drop_at)
 
 pub take_while-all : (test : ℕ → Bool) (run : List ℕ) → list_all test run ≡ true
     → take_while test run ≡ run

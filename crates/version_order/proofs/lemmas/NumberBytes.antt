@@ -1,33 +1,14 @@
 -- The bytes of numbers compare as the numbers do.
 use borrow.Author.Tests.{lt-ltb}
-use Rattle.std.proofs.Common.{◌≡◌, ℕ, zero, suc, ◌+◌, ◌/◌, ◌%◌, ◌<◌, ◌≤◌, ◌^◌, ◌⊎◌, inl, inr, List, [], ◌∷◌, ◌++◌, length, map, replicate, refl, sym, ap, ◌∙◌, append_assoc, arith, lit≤, ◌==◌, ◌*◌, Bool, false, true, append-nil, length-append, ◌≢◌, drop, Some, Option, None, take}
-use Rattle.std.proofs.lemmas.Fmt.{decimal-digits_of}
+use Rattle.std.proofs.Common.{◌≡◌, ℕ, zero, suc, ◌+◌, ◌/◌, ◌%◌, ◌<◌, ◌≤◌, ◌^◌, ◌⊎◌, inl, inr, List, [], ◌∷◌, ◌++◌, length, map, replicate, refl, sym, ap, ◌∙◌, append_assoc, arith, lit≤, ◌==◌, ◌*◌, Bool, false, true, append-nil, length-append, ◌≢◌, drop, Some, Option, None, one-add}
 use Rattle.std.proofs.lemmas.Int.Digits.{all_below_base_digits_of, digits_of_step, length-digits_of_step, digits_value-lt, length-digits_of-le}
-use Rattle.std.proofs.lemmas.List.{length-map, map-append, length-replicate}
-use Rattle.std.specs.Char.{digit_char, digit_value, is_ascii_digit}
-use Rattle.std.specs.Cmp.{nat_cmp_is, ranks, first_so, second_so}
-use Rattle.std.specs.Fmt.{decimal}
-use Rattle.std.specs.Int.Digits.{AllBelowBase, digits_of}
-use Rattle.std.specs.Ordering.{MatchOrdering, nat_cmp, ordering_then}
-use Rattle.std.specs.declared.cmp.Ordering.{Ordering}
-use Rattle.std.specs.declared.cmp.Ordering.TheVariants.{Less, Equal, Greater}
-use Rattle.version_order.proofs.lemmas.Orders.{then_assoc}
-use Rattle.version_order.specs.keys.Codes.{Writes, items_bytes, list_bytes}
-use Rattle.version_order.specs.keys.Lists.{bytes_cmp}
-use Rattle.version_order.specs.keys.NumberBytes.{length_bytes, number_bytes, text_byte, text_bytes}
-use Rattle.std.proofs.lemmas.Bool.Decides.{nat_tests}
-use Rattle.std.specs.List.{list_all, prefix_len, take_while, All}
-use Rattle.std.specs.Str.Parse.{digits_value, digits_value_after, AllDigits}
-use Rattle.version_order.specs.texts.Front.{begins}
-use Rattle.version_order.proofs.lemmas.Codes.{writes_alone, writes_slice}
-use Rattle.std.proofs.lemmas.Bool.{cases_Bool, eqb-true, ne_eqb}
-use Rattle.version_order.specs.texts.Bytes.{is_identifier_byte}
-use Rattle.version_order.specs.texts.DigitRun.{run_value}
-use Rattle.version_order.proofs.lemmas.Front.{begins-drop, list_all-take_while}
-use Rattle.version_order.proofs.lemmas.Runs.{run_cons, begins_inner, no_run, zero_digit}
-use Rattle.std.specs.FinMap.{nat_cmp-IsAntisymmetric}
-use Rattle.std.specs.Option.{option_cmp}
-use Rattle.std.proofs.lemmas.List.Elements.{All-head, All-rest}
+use Rattle.std.proofs.lemmas.{Bool.cases_Bool, Bool.eqb-true, Bool.ne_eqb, Bool.Decides.nat_tests, Fmt.decimal-digits_of, List.length-map, List.map-append, List.length-replicate, List.Elements.All-head, List.Elements.All-rest}
+use Rattle.std.specs.{Char.digit_char, Char.digit_value, Char.is_ascii_digit, Cmp.nat_cmp_is, Cmp.ranks, Cmp.first_so, Cmp.second_so, FinMap.nat_cmp-IsAntisymmetric, Fmt.decimal, Int.Digits.AllBelowBase, Int.Digits.digits_of}
+use Rattle.std.specs.{List.list_all, List.prefix_len, List.take_while, List.All, Option.option_cmp, Ordering.MatchOrdering, Ordering.nat_cmp, Ordering.ordering_then, Str.Parse.digits_value, Str.Parse.digits_value_after, Str.Parse.AllDigits}
+use Rattle.std.specs.declared.cmp.{Ordering.Ordering, Ordering.TheVariants.Less, Ordering.TheVariants.Equal, Ordering.TheVariants.Greater}
+use Rattle.version_order.proofs.lemmas.{Codes.writes_slice, Codes.writes_alone, Front.begins-drop, Front.list_all-take_while, Orders.then_assoc, Runs.run_cons, Runs.begins_inner, Runs.no_run, Runs.zero_digit}
+use Rattle.version_order.specs.keys.Codes.{Writes, items_bytes, list_bytes, length_bytes, number_bytes, text_byte, text_bytes}
+use Rattle.version_order.specs.{keys.Lists.bytes_cmp, texts.Bytes.is_identifier_byte, texts.Front.begins, texts.Front.run_value}
 
 -- ---- numbers
 
@@ -422,3 +403,49 @@ list_length code (key ∷ keys) =
     let all = length-append (code (Some key)) (list_bytes code keys) in
     let items = length-append (code (Some key)) (items_bytes code keys) in
     omega (arith, all, items, list_length code keys)
+
+-- ---- numbers compared by their digits
+
+abbrev without_zeros : List ℕ → List ℕ
+without_zeros ds = drop (prefix_len is_zero ds) ds
+
+first_zero : (ds : List ℕ) → digits_value 10 (48 ∷ ds) ≡ digits_value 10 ds
+first_zero ds = refl
+
+-- leading zeros do not change the value, and the digits after them are digits
+zeros_dropped : (ds : List ℕ) → list_all is_ascii_digit ds ≡ true
+    → (digits_value 10 (without_zeros ds) ≡ digits_value 10 ds)
+    × (list_all is_ascii_digit (without_zeros ds) ≡ true)
+zeros_dropped [] all = (refl, all)
+zeros_dropped (d ∷ ds) all = elim (cases_Bool (d == 48)) [
+  | inl same ↦
+      let is : d ≡ 48 = eqb-true d 48 same in
+      let left : drop (prefix_len is_zero (48 ∷ ds)) (48 ∷ ds) ≡ drop (prefix_len is_zero ds) ds =
+      rw one-add refl in
+      let rest = zeros_dropped ds (second_so _ _ all) in
+      rw (is, left) (rest.0 ∙ sym (first_zero ds), rest.1)
+  | inr other ↦ rw other (refl, all)
+]
+
+-- the bytes of the number that digits write
+number_written : (ds : List ℕ) → list_all is_ascii_digit ds ≡ true
+    → number_bytes (digits_value 10 ds)
+    ≡ length_bytes (length (without_zeros ds)) ++ without_zeros ds
+number_written ds all =
+    let left = zeros_dropped ds all in
+    ap number_bytes (sym left.0)
+    ∙ number_bytes-digits (digits_value 10 (without_zeros ds)) (without_zeros ds)
+    (digits_of_run (without_zeros ds) left.1 (begins-drop is_zero ds))
+
+-- two numbers compare as the lengths of their digits without leading zeros, and then as these
+-- digits
+pub numbers_compared : (a b : List ℕ) → list_all is_ascii_digit a ≡ true
+    → list_all is_ascii_digit b ≡ true
+    → nat_cmp (digits_value 10 a) (digits_value 10 b)
+    ≡ ordering_then (nat_cmp (length (without_zeros a)) (length (without_zeros b)))
+    (bytes_cmp (without_zeros a) (without_zeros b))
+numbers_compared a b all_a all_b =
+    sym (writes_alone number_writes (digits_value 10 a) (digits_value 10 b))
+    ∙ (λ i. bytes_cmp (number_written a all_a i) (number_written b all_b i))
+    ∙ length_writes.compares (length (without_zeros a)) (length (without_zeros b)) (without_zeros a)
+    (without_zeros b)

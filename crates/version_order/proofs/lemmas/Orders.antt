@@ -1,10 +1,7 @@
 -- Lemmas of orders in general, for proofs: one order and then another, and orders that are Equal
 -- only for the same value.
 use Rattle.std.proofs.Common.{◌≡◌, ◌∙◌, ◌↔◌, refl, subst}
-use Rattle.std.specs.Cmp.{IsTotalOrder, tied_itself}
-use Rattle.std.specs.FinMap.{IsAntisymmetric}
-use Rattle.std.specs.Ordering.{ordering_then, then_cmp}
-use Rattle.std.specs.declared.cmp.Ordering.{Ordering}
+use Rattle.std.specs.{Cmp.IsTotalOrder, Cmp.tied_itself, FinMap.IsAntisymmetric, Ordering.ordering_then, Ordering.then_cmp, declared.cmp.Ordering.Ordering}
 use Rattle.std.specs.declared.cmp.Ordering.TheVariants.{Less, Equal, Greater}
 use Rattle.version_order.specs.keys.Codes.{then_equal, then_second}
 

@@ -1,18 +1,11 @@
 -- Texts cut at marks, behind the run that they begin with.
 use Rattle.std.proofs.Common.{◌≡◌, ◌==◌, ℕ, Bool, true, false, List, [], ◌∷◌, drop, not, refl, sym, ap, ◌∙◌, arith, inl, inr, one-add, ◌+◌, ◌<◌, ◌&&◌, zero-add, get_or, length, add-one, take, ◌++◌}
-use Rattle.std.proofs.lemmas.Bool.{cases_Bool, eqb-true}
-use Rattle.std.proofs.lemmas.List.{drop-drop, length-drop, take-append-drop}
+use Rattle.std.proofs.lemmas.{Bool.cases_Bool, Bool.eqb-true, Bool.Decides.nat_tests, List.drop-drop, List.length-drop, List.take-append-drop, List.Folds.list_all-append}
 use Rattle.std.specs.List.{list_all, onto_first, prefix_len, slice_split, take_while}
+use Rattle.std.specs.{Char.is_ascii_alphanumeric, Char.is_ascii_alphabetic, Char.is_ascii_digit, Cmp.second_so}
 use Rattle.version_order.proofs.lemmas.Front.{list_all-take_while}
-use Rattle.version_order.specs.texts.Front.{begins}
-use Rattle.std.proofs.Math.Seq.{drop-cons}
-use Rattle.std.specs.Char.{is_ascii_alphanumeric, is_ascii_alphabetic, is_ascii_digit}
-use Rattle.version_order.specs.texts.Bytes.{is_section_byte}
-use Rattle.std.specs.Cmp.{second_so}
-use Rattle.version_order.specs.texts.Cuts.{pieces}
-use Rattle.std.proofs.Math.Dec.{eqb-suc-zero}
-use Rattle.std.proofs.lemmas.List.Folds.{list_all-append}
-use Rattle.std.proofs.lemmas.Bool.Decides.{nat_tests}
+use Rattle.version_order.specs.texts.{Bytes.is_section_byte, Front.begins}
+use Rattle.std.proofs.Math.{Dec.eqb-suc-zero, Seq.drop-cons}
 
 -- what a run that passes leaves, byte by byte
 pub run_cons : (test : ℕ → Bool) (b : ℕ) (text : List ℕ) → test b ≡ true

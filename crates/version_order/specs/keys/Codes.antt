@@ -1,15 +1,10 @@
 -- Codes: ways to write values as bytes, so that the bytes compare as the values do.
-use Rattle.std.specs.Prelude.{◌≡◌, ℕ, List, ◌++◌, map, Option, Some}
-use Rattle.std.specs.List.{flat_map}
 use Rattle.std.specs.Ordering.{ordering_then, eq_by_cmp, flip_args, is_eq, then_cmp}
-use Rattle.std.specs.declared.cmp.Ordering.{Ordering}
+use Rattle.std.specs.Prelude.{◌≡◌, ℕ, List, ◌++◌, map, Option, Some, ◌/◌, ◌%◌, [], ◌∷◌, length, replicate, zero, suc, None}
+use Rattle.std.specs.{Char.digit_char, Cmp.Equal-is, Cmp.IsTotalOrder, Cmp.back_total, Cmp.tied_itself, Cmp.Lexicographic.options_total, FinMap.IsAntisymmetric, FinMap.nat_cmp-IsAntisymmetric, FinMap.slice_cmp-IsAntisymmetric}
+use Rattle.std.specs.{Int.Digits.digits_of, List.flat_map, Option.option_cmp, declared.cmp.Ordering.Ordering, declared.cmp.Ordering.TheVariants.Less, declared.cmp.Ordering.TheVariants.Equal, declared.cmp.Ordering.TheVariants.Greater}
 use Rattle.version_order.specs.keys.Lists.{bytes_cmp, with_end, none_last_cmp}
 use Rattle.std.proofs.Common.{None, true, refl, ap, subst}
-use Rattle.std.specs.Cmp.{Equal-is, IsTotalOrder, back_total, tied_itself}
-use Rattle.std.specs.Cmp.Lexicographic.{options_total}
-use Rattle.std.specs.FinMap.{IsAntisymmetric, nat_cmp-IsAntisymmetric, slice_cmp-IsAntisymmetric}
-use Rattle.std.specs.Option.{option_cmp}
-use Rattle.std.specs.declared.cmp.Ordering.TheVariants.{Less, Equal, Greater}
 
 -- a code writes an order if, whatever bytes follow, the bytes compare as the values do; those of
 -- equal values compare as what follows
@@ -107,3 +102,27 @@ pub none_last_total : {A : Type 0} {R : A → A → Ordering} → IsTotalOrder R
 none_last_total {R = R} total =
     subst IsTotalOrder (λ i a b. none_last-turned R a b i)
     (back_total (options_total (back_total total)))
+
+-- ---- the bytes of a number of any size: how many digits it has, then the digits
+
+-- the bytes of a length: 255 as often as it fits, then the remainder
+abbrev pub length_bytes : ℕ → List ℕ
+length_bytes n = replicate (n / 255) 255 ++ (n % 255) ∷ []
+
+-- the bytes of a number: the length of its decimal digits, without leading zeros, then the digits
+-- in ASCII; zero has no digits
+abbrev pub number_bytes : ℕ → List ℕ
+number_bytes n = length_bytes (length (digits_of 10 n)) ++ map digit_char (digits_of 10 n)
+
+-- ---- the bytes of a text: its own, with a 0 after them
+
+-- a byte of a text, or the end of it: the end is 0, and the bytes 0 and 1 are each written as two
+abbrev pub text_byte : Option ℕ → List ℕ
+text_byte None = 0 ∷ []
+text_byte (Some zero) = 1 ∷ 1 ∷ []
+text_byte (Some (suc zero)) = 1 ∷ 2 ∷ []
+text_byte (Some byte) = byte ∷ []
+
+-- a text, byte by byte, and its end
+abbrev pub text_bytes : List ℕ → List ℕ
+text_bytes = list_bytes text_byte

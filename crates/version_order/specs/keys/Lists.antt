@@ -1,10 +1,7 @@
 -- Orders of lists and of options, made from an order of the items.
 use Rattle.std.specs.Prelude.{◌≡◌, ℕ, List, [], ◌∷◌, ◌++◌, map, Option, Some, None}
-use Rattle.std.specs.Option.{option_map_or}
-use Rattle.std.specs.Ordering.{nat_cmp, on}
-use Rattle.std.specs.declared.cmp.Ordering.{Ordering}
+use Rattle.std.specs.{Cmp.Lexicographic.slice_cmp, Option.option_map_or, Ordering.nat_cmp, Ordering.on, declared.cmp.Ordering.Ordering}
 use Rattle.std.specs.declared.cmp.Ordering.TheVariants.{Less, Equal, Greater}
-use Rattle.std.specs.Cmp.Lexicographic.{slice_cmp}
 
 -- two byte lists: byte by byte, a prefix before the longer list
 abbrev pub bytes_cmp : List ℕ → List ℕ → Ordering

@@ -1,13 +1,9 @@
 -- What sinks become as bytes are written.
 use Rattle.std.specs.Prelude.{◌≡◌, ℕ, zero, suc, ◌+◌, ◌-◌, ◌^◌, ◌<◌, ◌≤◌, min, List, [], ◌∷◌, ◌++◌, length, refl}
-use Rattle.std.specs.Ordering.{ordering_then}
-use Rattle.std.specs.declared.cmp.Ordering.{Ordering}
-use Rattle.std.proofs.Common.{◌∙◌, ap, append_assoc, arith, sym}
+use Rattle.std.specs.{Ordering.ordering_then, declared.cmp.Ordering.Ordering}
 use Rattle.std.proofs.lemmas.List.{length-append}
-use Rattle.version_order.specs.keys.Lists.{bytes_cmp}
-use Rattle.version_order.specs.declared.sinks.Beside.{Beside}
-use Rattle.version_order.specs.declared.sinks.Count.{Count}
-use Rattle.version_order.specs.declared.sinks.Room.{Room}
+use Rattle.version_order.specs.{declared.sinks.Beside.Beside, declared.sinks.Count.Count, declared.sinks.Room.Room, keys.Lists.bytes_cmp}
+use Rattle.std.proofs.Common.{◌∙◌, ap, append_assoc, arith, sym}
 
 -- whatever is written to the last sink leads to what is written to the first one with the bytes
 -- before it

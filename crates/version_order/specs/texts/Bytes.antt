@@ -1,6 +1,6 @@
 -- The bytes that versions are made of, all of them ASCII. A letter is an ASCII letter, a digit an
 -- ASCII digit.
-use Rattle.std.specs.Prelude.{ℕ, Bool, ◌||◌, ◌==◌, ◌≡◌, true, ◌-◌}
+use Rattle.std.specs.Prelude.{ℕ, Bool, ◌||◌, ◌==◌, ◌≡◌, true}
 use Rattle.std.specs.Char.{is_ascii_alphanumeric, is_ascii_digit}
 
 abbrev pub plus : ℕ

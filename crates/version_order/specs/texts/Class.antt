@@ -1,10 +1,9 @@
 -- The classes of bytes whose runs are scanned.
 use Rattle.std.specs.Prelude.{◌==◌, ◌||◌, ℕ, Bool, true, false, List, [], ◌∷◌, IsTrue, not, if◌then◌else◌}
 use Rattle.std.specs.Char.{is_ascii_alphabetic, is_ascii_alphanumeric, is_ascii_digit}
-use Rattle.version_order.specs.texts.Bytes.{colon, dot, hyphen, is_identifier_byte, is_metadata_byte, plus}
-use Rattle.version_order.specs.texts.Grammar.{is_sep}
-use Rattle.version_order.specs.declared.class.Class.{Class}
 use Rattle.version_order.specs.declared.class.Class.TheVariants.{Digit, Letter, Alphanumeric, Identifier, Metadata, Mark, NotDot, NotSign}
+use Rattle.version_order.specs.texts.Bytes.{colon, dot, hyphen, is_identifier_byte, is_metadata_byte, plus}
+use Rattle.version_order.specs.{declared.class.Class.Class, texts.Grammar.is_sep}
 
 -- a dot or a sign
 abbrev pub is_mark : ℕ → Bool

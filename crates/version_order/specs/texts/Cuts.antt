@@ -1,9 +1,7 @@
 -- What texts of several schemes are made of.
 use Rattle.std.specs.Prelude.{◌==◌, ◌&&◌, ℕ, Bool, List, [], ◌∷◌, if◌then◌else◌, nat_le, Option, None, Some, drop}
-use Rattle.std.specs.Option.{option_map, option_or}
-use Rattle.version_order.specs.texts.DigitRun.{is_digits, run_value}
-use Rattle.std.specs.List.{before_first, position_or_len, slice_split}
-use Rattle.version_order.specs.texts.Bytes.{dot}
+use Rattle.std.specs.{List.before_first, List.position_or_len, List.slice_split, Option.option_map, Option.option_or}
+use Rattle.version_order.specs.texts.{Bytes.dot, Front.is_digits, Front.run_value}
 
 -- the text before the first byte of this kind, and behind it
 abbrev pub cut_first : ℕ → List ℕ → Option (List ℕ × List ℕ)

@@ -1,7 +1,6 @@
 -- Fronts: a front reads a value from a prefix of a text, and gives it with the rest, or None.
 use Rattle.std.specs.Prelude.{◌≡◌, Bool, false, ℕ, zero, suc, List, [], ◌∷◌, length, drop, Option, Some, None, ◌==◌, ◌≤◌, if◌then◌else◌, ◌&&◌, not}
-use Rattle.std.specs.List.{prefix_len, take_while, list_all}
-use Rattle.std.specs.Option.{option_map, option_and_then, option_map_or}
+use Rattle.std.specs.{Char.is_ascii_digit, List.prefix_len, List.take_while, List.list_all, Option.option_map, Option.option_and_then, Option.option_map_or, Str.Parse.digits_value}
 use Rattle.version_order.specs.texts.Bytes.{dot}
 
 -- a front of values of the type X
@@ -77,3 +76,28 @@ Consumes {X} front =
 -- a nonempty text of bytes that pass the test
 abbrev pub is_run : (ℕ → Bool) → List ℕ → Bool
 is_run test text = not (length text == 0) && list_all test text
+
+-- ---- runs of digits in a text, and the numbers that they write. A run may have any length
+
+-- whether a text begins with a digit
+abbrev pub starts_with_digit : List ℕ → Bool
+starts_with_digit = begins is_ascii_digit
+
+-- whether a text is a run of digits: one or more, and nothing else
+abbrev pub is_digits : List ℕ → Bool
+is_digits text = starts_with_digit text && list_all is_ascii_digit text
+
+-- the value of the longest run that a text begins with
+abbrev pub run_value : List ℕ → ℕ
+run_value text = digits_value 10 (take_while is_ascii_digit text)
+
+-- that value, and what follows the run; None if the text does not begin with a digit
+abbrev pub number_front : List ℕ → Option (ℕ × List ℕ)
+number_front text =
+    if starts_with_digit text
+    then Some (run_value text, drop (prefix_len is_ascii_digit text) text)
+    else None
+
+-- what follows the digits that a text begins with
+abbrev pub behind_digits : List ℕ → List ℕ
+behind_digits text = drop (prefix_len is_ascii_digit text) text

@@ -1,10 +1,8 @@
 -- Grammars: which text spells which value, by the pieces of the text.
 use Rattle.std.specs.Prelude.{◌≡◌, ℕ, List, [], ◌∷◌, ◌++◌, Option, Some, None, ◌==◌, Bool, false, if◌then◌else◌}
+use Rattle.std.specs.{Option.is_some, Option.option_map, Ordering.nat_cmp, Ordering.on, declared.cmp.Ordering.Ordering}
 use Rattle.version_order.specs.texts.Bytes.{dot, colon, hyphen, plus, tilde, underscore}
 use Rattle.version_order.specs.texts.Front.{Front, begins}
-use Rattle.std.specs.Option.{is_some, option_map}
-use Rattle.std.specs.Ordering.{nat_cmp, on}
-use Rattle.std.specs.declared.cmp.Ordering.{Ordering}
 
 -- one element or more, joined by dots
 unfoldable pub SpellsDotted : {X : Type 0} → (List ℕ → X → Type 0) → List ℕ → List X → Type 0

@@ -1,21 +1,11 @@
 -- How two streams are compared: they gave the same bytes so far, and then give one more each.
 use Rattle.std.proofs.Common.{◌≡◌, ℕ, List, [], ◌∷◌, ◌++◌, Option, Some, None, refl, sym, ap, ◌∙◌, append-nil, append_assoc, take, drop, ◌+◌}
-use Rattle.std.proofs.lemmas.Iterator.Consumers.{YieldsList-from_first}
-use Rattle.std.specs.Cmp.{nat_cmp_total, tied_itself}
-use Rattle.std.specs.Cmp.Lexicographic.{nat_list_cmp_total}
-use Rattle.std.specs.FinMap.{nat_cmp-IsAntisymmetric}
-use Rattle.std.specs.Iterator.{AlwaysYields, Yields, YieldsFirst}
-use Rattle.std.specs.Option.{option_cmp}
-use Rattle.std.specs.Ordering.{nat_cmp, ordering_then}
-use Rattle.std.specs.declared.cmp.Ordering.{Ordering}
-use Rattle.std.specs.declared.cmp.Ordering.TheVariants.{Equal}
-use Rattle.version_order.proofs.lemmas.Codes.{writes_alone}
-use Rattle.version_order.specs.keys.Codes.{Writes, then_equal}
-use Rattle.version_parts.specs.Compare.{ComparesBytes, GoesOn}
-use Rattle.version_order.specs.keys.Lists.{bytes_cmp}
-use Rattle.version_order.proofs.lemmas.Orders.{then_decided}
-use Rattle.version_parts.specs.Pieces.{GonePast}
-use Rattle.std.proofs.lemmas.List.{drop-drop, take-append-drop}
+use Rattle.std.proofs.lemmas.{Iterator.Consumers.YieldsList-from_first, List.drop-drop, List.take-append-drop}
+use Rattle.std.specs.{Cmp.nat_cmp_total, Cmp.tied_itself, Cmp.Lexicographic.nat_list_cmp_total, FinMap.nat_cmp-IsAntisymmetric, Iterator.AlwaysYields, Iterator.Yields, Iterator.YieldsFirst, Option.option_cmp}
+use Rattle.std.specs.{Ordering.nat_cmp, Ordering.ordering_then, declared.cmp.Ordering.Ordering, declared.cmp.Ordering.TheVariants.Equal}
+use Rattle.version_order.proofs.lemmas.{Codes.writes_alone, Orders.then_decided}
+use Rattle.version_order.specs.keys.{Codes.Writes, Codes.then_equal, Lists.bytes_cmp}
+use Rattle.version_parts.specs.{Compare.ComparesBytes, Compare.GoesOn, Pieces.GonePast}
 
 -- ---- the order of two lists that begin alike
 

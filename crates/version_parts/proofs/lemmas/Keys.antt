@@ -2,17 +2,11 @@
 use Rattle.std.proofs.Common.{◌≡◌, ℕ, ◌<◌, ◌≤◌, ◌^◌, List, ◌∷◌, ◌++◌, length, drop, ap, ◌∙◌, arith, length-drop, [], map, None, refl}
 use Rattle.std.proofs.lemmas.Fmt.{length-decimal-le}
 use Rattle.std.specs.Fmt.{decimal}
-use Rattle.version_order.specs.keys.NumberBytes.{number_bytes}
-use Rattle.version_order.proofs.lemmas.NumberBytes.{length_bytes-short, number_bytes-decimal}
-use Rattle.version_parts.specs.declared.chunk.Chunk.{Chunk}
-use Rattle.version_parts.specs.declared.mchunk.MChunk.{MChunk}
-use Rattle.version_rules.specs.grammar.Chunk.{chunk_text}
-use Rattle.version_parts.specs.Chunk.{plain_chunk}
-use Rattle.version_order.specs.keys.Codes.{items_bytes, list_bytes}
-use Rattle.version_rules.specs.grammar.MChunk.{mchunk_text}
-use Rattle.version_parts.specs.MChunk.{plain_mchunk}
+use Rattle.version_order.specs.keys.Codes.{number_bytes, items_bytes, list_bytes}
+use Rattle.version_order.proofs.lemmas.{Codes.ended, NumberBytes.length_bytes-short, NumberBytes.number_bytes-decimal}
+use Rattle.version_parts.specs.{Chunk.plain_chunk, MChunk.plain_mchunk, declared.chunk.Chunk.Chunk, declared.mchunk.MChunk.MChunk}
 use Rattle.version_rules.specs.key.PartKey.{PartKey, chunk_parts, part_bytes, part_key, parts_bytes, section_parts}
-use Rattle.version_order.proofs.lemmas.Codes.{ended}
+use Rattle.version_rules.specs.grammar.{Chunk.chunk_text, MChunk.mchunk_text}
 
 -- ---- the bytes of a number, put before others
 

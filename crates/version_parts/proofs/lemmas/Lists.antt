@@ -1,11 +1,9 @@
 -- Lists that are compared, printed and fed to a hasher.
 use Rattle.std.proofs.Common.{◌≡◌, List, map, refl, ℕ, [], ◌++◌, ◌∷◌, Result, Ok, Err, OnErr, sym, ap, ◌∙◌, append_assoc, append-nil}
-use Rattle.std.proofs.lemmas.List.{length-map}
-use Rattle.std.proofs.lemmas.List.Folds.{flat_map-map}
-use Rattle.std.specs.Hash.{HashWrites}
-use Rattle.std.specs.Hash as fed
+use Rattle.std.proofs.lemmas.{List.length-map, List.Folds.flat_map-map}
+use Rattle.std.specs.{Hash.HashWrites, List.flat_map, List.join_with_byte}
 use Rattle.version_order.specs.keys.Lists.{Growing, GrowsWithin}
-use Rattle.std.specs.List.{flat_map, join_with_byte}
+use Rattle.std.specs.Hash as fed
 
 -- ---- what a hash is fed for a list
 

@@ -1,27 +1,16 @@
 -- How the bytes of a piece begin at each place, and what remains after the first of them.
 use Rattle.std.proofs.Common.{◌≡◌, ◌==◌, ◌+◌, ◌-◌, ◌^◌, ℕ, zero, suc, ◌<◌, ◌≤◌, ◌≢◌, Bool, false, true, List, [], ◌∷◌, ◌++◌, length, drop, take, Some, None, refl, sym, ap, ◌∙◌, inl, inr, arith, append_assoc, append-nil, one-add}
-use Rattle.std.proofs.lemmas.Bool.{cases_Bool, eqb-true}
-use Rattle.std.proofs.lemmas.Bool.Decides.{nat_tests}
-use Rattle.std.proofs.lemmas.Fmt.{decimal_is_IsNumeral}
-use Rattle.std.proofs.lemmas.List.Folds.{length-prefix_len}
-use Rattle.std.specs.Char.{is_ascii_alphabetic, is_ascii_digit}
-use Rattle.version_order.specs.texts.Bytes.{is_identifier_byte}
-use Rattle.std.specs.Cmp.{first_so, second_so}
-use Rattle.std.specs.Fmt.{decimal}
+use Rattle.std.proofs.lemmas.{Bool.cases_Bool, Bool.eqb-true, Bool.Decides.nat_tests, Fmt.decimal_is_IsNumeral, List.Folds.length-prefix_len}
 use Rattle.std.specs.List.{list_all, position_or_len, prefix_len, slice_get, take_while}
-use Rattle.std.specs.Str.Parse.{digits_value}
-use Rattle.version_parts.specs.declared.key.place.AfterNumber.{AfterNumber}
-use Rattle.version_parts.specs.declared.key.place.AfterNumber.TheVariants.{Suffix, Text, Nothing}
+use Rattle.std.specs.{Char.is_ascii_alphabetic, Char.is_ascii_digit, Cmp.first_so, Cmp.second_so, Fmt.decimal, Str.Parse.digits_value}
+use Rattle.version_order.specs.{keys.Codes.length_bytes, keys.Codes.number_bytes, keys.Codes.text_byte, keys.Codes.text_bytes, texts.Bytes.is_identifier_byte, texts.Front.number_front, texts.Front.starts_with_digit, texts.Front.begins}
 use Rattle.version_parts.specs.declared.key.place.Place.TheVariants.{Part, Split, Numbered, Number, Length, Digit, Rest}
-use Rattle.version_order.specs.texts.DigitRun.{number_front, starts_with_digit}
-use Rattle.version_order.specs.texts.Front.{begins}
-use Rattle.version_order.specs.keys.NumberBytes.{length_bytes, number_bytes, text_byte, text_bytes}
-use Rattle.version_parts.specs.Pieces.{after_number_bytes, counted_bytes, place_bytes, run_bytes}
+use Rattle.version_parts.specs.{Pieces.after_number_bytes, Pieces.counted_bytes, Pieces.place_bytes, Pieces.run_bytes, declared.key.place.AfterNumber.AfterNumber}
+use Rattle.version_parts.specs.declared.key.place.AfterNumber.TheVariants.{Suffix, Text, Nothing}
 use Rattle.version_rules.specs.key.PartKey.{numbered_bytes}
 use Rattle.version_rules.proofs.lemmas.Numeral.{decimal-digits}
 use Rattle.version_order.proofs.lemmas.NumberBytes.{length_bytes-long, length_bytes-short, number_bytes-digits, is_zero, digits_of_run}
-use Rattle.version_order.proofs.lemmas.Front.{begins-drop, list_all-take_while, take_while-all}
-use Rattle.version_order.proofs.lemmas.Bytes.{letter_other}
+use Rattle.version_order.proofs.lemmas.{Bytes.letter_other, Front.begins-drop, Front.list_all-take_while, Front.take_while-all}
 
 -- ---- parts and splits
 

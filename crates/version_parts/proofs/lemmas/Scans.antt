@@ -1,28 +1,17 @@
 -- What a scan of chunks and dotted lists finds.
 use Rattle.std.proofs.Common.{◌≡◌, ◌∙◌, ◌+◌, ◌-◌, ◌<◌, ◌≤◌, ℕ, suc, take, append-nil, List, [], ◌∷◌, ◌++◌, length, Option, Some, None, refl, sym, ap, arith, append_assoc, length-append, Bool, true, false, inl, inr, drop, one-add, ◌==◌, lit<}
 use Rattle.std.proofs.Math.Seq.{take-nil}
-use Rattle.std.specs.Option.{option_map, option_map_or}
-use Rattle.version_order.specs.texts.Bytes.{dot, HasDigits, is_identifier_byte}
-use Rattle.version_order.specs.texts.Front.{Consumes, Front, after_mark, behind, dotted_front, elements_at, further, begins, map_value}
-use Rattle.version_order.specs.keys.Lists.{split_last}
-use Rattle.version_order.proofs.lemmas.Front.{elements_at-first, further-None, further-next, listed, unlisted}
-use Rattle.version_rules.proofs.lemmas.Grammar.{split_last-append}
-use Rattle.std.proofs.lemmas.Bool.{cases_Bool, cases_lt, eq-eqb, ne_eqb}
-use Rattle.std.proofs.lemmas.List.{length-drop, get_or-take, get_or_past, length-take-le}
-use Rattle.std.proofs.lemmas.List.Sums.{prefix_len-le-length, prefix_len_passes}
-use Rattle.std.specs.Char.{is_ascii_digit, is_ascii_alphabetic, is_ascii_alphanumeric}
-use Rattle.std.specs.List.{list_all, prefix_len, take_while}
-use Rattle.version_rules.specs.grammar.Chunk.{Alphanum, Numeric, chunk_front_of}
-use Rattle.version_rules.specs.grammar.Numeral.{unsigned_front}
-use Rattle.version_order.proofs.lemmas.Bytes.{digits_alphanumeric, digits_identify, metadata_ascii}
-use Rattle.std.proofs.lemmas.Bool.Decides.{nat_tests}
-use Rattle.std.proofs.lemmas.List.Folds.{prefix_len-append}
-use Rattle.std.proofs.lemmas.Str.{IsCharBoundary-from_take, IsUtf8-from_ascii}
-use Rattle.std.specs.Str.{IsAscii, IsCharBoundary, IsUtf8}
-use Rattle.version_order.specs.texts.Class.{IsAsciiClass, contains}
-use Rattle.version_order.specs.texts.Grammar.{PlainSep, sep_of}
-use Rattle.version_order.specs.declared.class.Class.{Class}
+use Rattle.std.specs.{Char.is_ascii_digit, Char.is_ascii_alphabetic, Char.is_ascii_alphanumeric, List.list_all, List.prefix_len, List.take_while, Option.option_map, Option.option_map_or, Str.IsAscii, Str.IsCharBoundary, Str.IsUtf8}
 use Rattle.version_order.specs.declared.class.Class.TheVariants.{Digit, Letter, Alphanumeric, Identifier, Metadata, Mark, NotDot, NotSign}
+use Rattle.version_order.specs.texts.Front.{Consumes, Front, after_mark, behind, dotted_front, elements_at, further, begins, map_value}
+use Rattle.version_order.specs.{declared.class.Class.Class, keys.Lists.split_last, texts.Bytes.dot, texts.Bytes.HasDigits, texts.Bytes.is_identifier_byte, texts.Class.IsAsciiClass, texts.Class.contains}
+use Rattle.version_order.specs.texts.Grammar.{PlainSep, sep_of}
+use Rattle.version_order.proofs.lemmas.Front.{elements_at-first, further-None, further-next, listed, unlisted}
+use Rattle.version_order.proofs.lemmas.Bytes.{digits_alphanumeric, digits_identify, metadata_ascii}
+use Rattle.version_rules.proofs.lemmas.Grammar.{split_last-append}
+use Rattle.std.proofs.lemmas.{Bool.cases_Bool, Bool.cases_lt, Bool.eq-eqb, Bool.ne_eqb, Bool.Decides.nat_tests, List.length-drop, List.get_or-take, List.get_or_past, List.length-take-le, List.Folds.prefix_len-append}
+use Rattle.std.proofs.lemmas.{List.Sums.prefix_len-le-length, List.Sums.prefix_len_passes, Str.IsCharBoundary-from_take, Str.IsUtf8-from_ascii}
+use Rattle.version_rules.specs.grammar.Chunk.{Alphanum, Numeric, chunk_front_of, unsigned_front}
 
 -- ---- how a scan goes over a dotted list: what it has read so far, and what is left
 

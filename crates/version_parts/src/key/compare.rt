@@ -2,8 +2,7 @@
 
 ghost use Rattle.std.specs.Prelude.{◌≡◌, List, ℕ, Some, map};
 ghost use Rattle.std.specs.Iterator.{AlwaysYields, IsFinite};
-ghost use Rattle.version_parts.specs.Chunk.{plain_chunk};
-ghost use Rattle.version_parts.specs.Compare.{ComparesBytes};
+ghost use Rattle.version_parts.specs.{Chunk.plain_chunk, Compare.ComparesBytes};
 ghost use Rattle.version_order.specs.keys.Lists.{bytes_cmp};
 ghost use Rattle.version_rules.specs.key.PartKey.{chunk_parts, list_cmp, part_cmp, part_key};
 

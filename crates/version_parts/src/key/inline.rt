@@ -1,9 +1,8 @@
 //! A small array for the bytes of a piece that are computed at once.
 
 ghost use Rattle.std.specs.Prelude.{◌≡◌, ◌∷◌, ◌++◌, ◌+◌, ◌<◌, ◌≤◌, [], List, ℕ, drop, length, IsTrue, None, Some};
-ghost use Rattle.std.specs.Fmt.{decimal};
-ghost use Rattle.std.specs.Iterator.{item_count, YieldsFirst};
-ghost use Rattle.version_order.specs.keys.NumberBytes.{number_bytes};
+ghost use Rattle.std.specs.{Fmt.decimal, Iterator.item_count, Iterator.YieldsFirst};
+ghost use Rattle.version_order.specs.keys.Codes.{number_bytes};
 ghost use Rattle.version_rules.specs.key.PartKey.{part_bytes, Number};
 ghost use Rattle.version_parts.specs.Pieces.{GonePast};
 
@@ -142,7 +141,7 @@ impl InlineBytes {
     }
 
     // Puts a number in decimal before the others, and returns the count of its digits.
-    #[tactic(auto, using(crate::proofs::lemmas::Keys::ten_digits))]
+    #[tactic(auto, using(crate::proofs::lemmas::Keys::ten_digits, crate::proofs::lemmas::Keys::room))]
     fn put_decimal(&mut self, number: u32) -> u8
         requires { length self.old ≤ 3 }
         ensures value { self.new ≡ decimal number ++ self.old }

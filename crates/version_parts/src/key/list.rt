@@ -2,15 +2,10 @@
 
 ghost use Rattle.std.specs.Prelude.{◌≡◌, ◌∷◌, ◌++◌, [], List, ℕ, Option, Some, None, map, if◌then◌else◌};
 ghost use Rattle.std.specs.Iterator.{item_count, YieldsFirst};
-ghost use Rattle.version_rules.specs.grammar.Chunk.{chunk_text, PlainChunk};
-ghost use Rattle.version_parts.specs.Chunk.{plain_chunk};
-ghost use Rattle.version_order.specs.keys.Codes.{items_bytes, list_bytes};
-ghost use Rattle.version_rules.specs.laws.Part.{chunk_begins, part_begins};
-ghost use Rattle.version_rules.specs.grammar.MChunk.{mchunk_text};
-ghost use Rattle.version_parts.specs.MChunk.{plain_mchunk};
-ghost use Rattle.version_parts.specs.Pieces.{IsNext};
 ghost use Rattle.version_rules.specs.key.PartKey.{chunk_parts, part_bytes, part_key, parts_bytes, section_parts, PartKey};
-ghost use Rattle.version_rules.specs.order.Parts.{chunk_bytes};
+ghost use Rattle.version_rules.specs.{grammar.Chunk.chunk_text, grammar.Chunk.PlainChunk, grammar.MChunk.mchunk_text, laws.Part.chunk_begins, laws.Part.part_begins, order.Parts.chunk_bytes};
+ghost use Rattle.version_parts.specs.{Chunk.plain_chunk, MChunk.plain_mchunk, Pieces.IsNext};
+ghost use Rattle.version_order.specs.keys.Codes.{items_bytes, list_bytes};
 
 use crate::chunk::{Chunk, Part, ReleaseChunk};
 use crate::key::PieceBytes;

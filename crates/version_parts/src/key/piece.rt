@@ -2,14 +2,9 @@
 
 ghost use Rattle.std.specs.Prelude.{◌≡◌, ◌∷◌, ◌++◌, [], Some, None, OnErr, OnOk};
 ghost use Rattle.std.specs.Iterator.{item_count, YieldsFirst};
-ghost use Rattle.version_rules.specs.grammar.Chunk.{chunk_text};
-ghost use Rattle.version_parts.specs.Chunk.{plain_chunk_ref};
-ghost use Rattle.version_order.specs.texts.DigitRun.{run_value};
-ghost use Rattle.version_order.specs.keys.Lists.{Growing, GrowsWithin};
-ghost use Rattle.version_order.specs.keys.NumberBytes.{number_bytes};
-ghost use Rattle.version_rules.specs.key.PartKey.{part_bytes, part_key, Number};
-ghost use Rattle.version_parts.specs.Pieces.{GonePast, after_number_bytes, place_bytes};
-ghost use Rattle.version_rules.specs.order.Parts.{chunk_bytes};
+ghost use Rattle.version_rules.specs.{grammar.Chunk.chunk_text, key.PartKey.part_bytes, key.PartKey.part_key, key.PartKey.Number, order.Parts.chunk_bytes};
+ghost use Rattle.version_parts.specs.{Chunk.plain_chunk_ref, Pieces.GonePast, Pieces.after_number_bytes, Pieces.place_bytes};
+ghost use Rattle.version_order.specs.{keys.Codes.number_bytes, keys.Lists.Growing, keys.Lists.GrowsWithin, texts.Front.run_value};
 
 use crate::chunk::ChunkRef;
 use crate::key::PartText;
@@ -197,6 +192,7 @@ impl<'a> PieceBytes<'a> {
     }
 
     /// Removes the same bytes from the start of both, perhaps not all that are the same.
+    #[tactic(auto, using(crate::proofs::lemmas::Compare::past_more))]
     #[inline(always)]
     pub fn pass_same(&mut self, other: &mut PieceBytes<'_>)
         ensures { GonePast self.old other.old self.new other.new }

@@ -1,9 +1,8 @@
 //! Places in a piece: what the remaining text is read as, and the step to the next byte.
 
 ghost use Rattle.std.specs.Prelude.{◌≡◌, ◌++◌, [], List, ℕ, Some, None, IfNone, IfSome};
-ghost use Rattle.version_order.specs.texts.DigitRun.{starts_with_digit};
+ghost use Rattle.version_order.specs.{keys.Codes.text_byte, texts.Front.starts_with_digit};
 ghost use Rattle.version_parts.specs.Pieces.{after_number_bytes, place_bytes, run_bytes, step_bytes};
-ghost use Rattle.version_order.specs.keys.NumberBytes.{text_byte};
 
 use crate::key::PartText;
 use version_order::Class;

@@ -1,10 +1,7 @@
 //! The printed text of a part, byte by byte.
 
 ghost use Rattle.std.specs.Prelude.{◌≡◌, ◌==◌, ◌++◌, [], List, ℕ, drop, slice_get, true};
-ghost use Rattle.std.specs.Char.{is_ascii_digit};
-ghost use Rattle.std.specs.Fmt.{decimal};
-ghost use Rattle.std.specs.Iterator.{item_count, YieldsFirst};
-ghost use Rattle.std.specs.List.{list_all, prefix_len};
+ghost use Rattle.std.specs.{Char.is_ascii_digit, Fmt.decimal, Iterator.item_count, Iterator.YieldsFirst, List.list_all, List.prefix_len};
 ghost use Rattle.version_order.specs.texts.Class.{contains};
 
 use crate::key::inline::InlineBytes;
@@ -31,43 +28,45 @@ impl<'a> PartText<'a> {
     pub fn number(number: u32) -> PartText<'a>
         ensures { result ≡ decimal number }
     {
-        PartText {
-            before: InlineBytes::decimal(number),
-            text: &[],
-            after: InlineBytes::none(),
-        }
+        PartText::of(InlineBytes::decimal(number), &[], InlineBytes::none())
     }
 
     /// Returns a text.
     pub fn text(text: &'a str) -> PartText<'a>
         ensures { result ≡ text.now }
     {
-        PartText {
-            before: InlineBytes::none(),
-            text: text.as_bytes(),
-            after: InlineBytes::none(),
-        }
+        PartText::of(InlineBytes::none(), text.as_bytes(), InlineBytes::none())
     }
 
     /// Returns a number in decimal, and a text after it.
     pub fn numbered(number: u32, text: &'a str) -> PartText<'a>
         ensures { result ≡ decimal number ++ text.now }
     {
-        PartText {
-            before: InlineBytes::decimal(number),
-            text: text.as_bytes(),
-            after: InlineBytes::none(),
-        }
+        PartText::of(
+            InlineBytes::decimal(number),
+            text.as_bytes(),
+            InlineBytes::none(),
+        )
     }
 
     /// Returns a text between two numbers in decimal.
     pub fn between(first: u32, text: &'a str, second: u32) -> PartText<'a>
         ensures { result ≡ decimal first ++ text.now ++ decimal second }
     {
+        PartText::of(
+            InlineBytes::decimal(first),
+            text.as_bytes(),
+            InlineBytes::decimal(second),
+        )
+    }
+
+    fn of(before: InlineBytes, text: &'a [u8], after: InlineBytes) -> PartText<'a>
+        ensures { result ≡ before ++ (text.now ++ after) }
+    {
         PartText {
-            before: InlineBytes::decimal(first),
-            text: text.as_bytes(),
-            after: InlineBytes::decimal(second),
+            before,
+            text,
+            after,
         }
     }
 
@@ -112,6 +111,7 @@ impl<'a> PartText<'a> {
 
     // Takes the run of a class that the text begins with, as far as the borrowed text has it. Takes nothing while
     // digits of the first number remain.
+    #[tactic(auto, using(crate::proofs::lemmas::Cited::take_run_cites))]
     pub(crate) fn take_run(&mut self, class: Class) -> &'a [u8]
         ensures taken { self.old ≡ result.now ++ self.new }
         ensures all { list_all (contains class) result.now ≡ true }

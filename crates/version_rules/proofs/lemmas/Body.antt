@@ -3,17 +3,12 @@
 use Rattle.std.proofs.Common.{◌≡◌, ◌∙◌, ◌-◌, ◌++◌, ◌∷◌, ◌<◌, ℕ, List, [], length, take, Some, None, refl, sym, ap, subst, arith, inl, inr, append_assoc, length-append}
 use Rattle.std.proofs.lemmas.List.{take_at}
 use Rattle.std.specs.Char.{is_ascii_alphanumeric}
-use Rattle.version_rules.specs.grammar.Body.{PlainBody, SpellsBody, body_front, body_of, body_text, chunks_front, chunks_text}
-use Rattle.version_order.specs.texts.Bytes.{dot}
-use Rattle.version_rules.specs.grammar.Chunk.{PlainChunk, SpellsPart, chunk_text}
+use Rattle.version_rules.specs.grammar.Body.{PlainBody, SpellsBody, body_front, body_of, body_text, chunks_front, chunks_text, release_text}
+use Rattle.version_rules.specs.grammar.{Chunk.PlainChunk, Chunk.SpellsPart, Chunk.chunk_text, Last.PlainLast, Last.last_of}
 use Rattle.version_order.specs.texts.Grammar.{SpellsDotted, EndsList, EndsRun, IsComplete, IsPrinted, IsSound}
-use Rattle.version_rules.specs.grammar.Last.{PlainLast, last_of}
-use Rattle.version_order.specs.keys.Lists.{split_last}
-use Rattle.version_rules.specs.grammar.Release.{release_text}
-use Rattle.version_rules.proofs.lemmas.Chunk.{parts_complete, parts_printed, parts_sound}
+use Rattle.version_order.specs.{keys.Lists.split_last, texts.Bytes.dot}
+use Rattle.version_rules.proofs.lemmas.{Chunk.parts_complete, Chunk.parts_printed, Chunk.parts_sound, Grammar.split_last-append, Last.last_of-is, Last.last_of-only, Last.last_printed}
 use Rattle.version_order.proofs.lemmas.Front.{cases_Option}
-use Rattle.version_rules.proofs.lemmas.Grammar.{split_last-append}
-use Rattle.version_rules.proofs.lemmas.Last.{last_of-is, last_of-only, last_printed}
 
 -- what the front gives, by the list of parts
 pub body_front-None : (text : List ℕ) → chunks_front text ≡ None → body_front text ≡ None
@@ -107,12 +102,7 @@ behind_chunks : (chunks : List PlainChunk) (part : PlainChunk)
     → chunks_text chunks ++ chunk_text part ≡ release_text (chunks ++ part ∷ [])
 behind_chunks [] part = refl
 behind_chunks (c ∷ []) part = append_assoc (chunk_text c) (dot ∷ []) (chunk_text part)
-behind_chunks (c ∷ d ∷ chunks) part =
-    append_assoc (release_text (c ∷ d ∷ chunks)) (dot ∷ []) (chunk_text part)
-    ∙ append_assoc (chunk_text c) (dot ∷ release_text (d ∷ chunks)) (dot ∷ chunk_text part)
-    ∙ ap (λ (l : List ℕ). chunk_text c ++ dot ∷ l)
-    (sym (append_assoc (release_text (d ∷ chunks)) (dot ∷ []) (chunk_text part))
-    ∙ behind_chunks (d ∷ chunks) part)
+behind_chunks (c ∷ d ∷ chunks) part = grind (arith, append_assoc, behind_chunks (d ∷ chunks) part)
 
 pub body_printed : IsPrinted SpellsBody body_text
 body_printed text body s = grind (arith, last_printed, behind_chunks, parts_printed)

@@ -1,19 +1,15 @@
 -- Chunks, releases and metadata: each front reads what is spelled, and nothing else.
-use Rattle.std.proofs.Common.{◌≡◌, ◌==◌, ℕ, Bool, true, false, List, [], ◌∷◌, ◌++◌, drop, map, Option, Some, None, refl, sym, ap, ◌∙◌, inl, inr, arith}
-use Rattle.std.proofs.lemmas.Bool.{cases_Bool}
-use Rattle.std.proofs.lemmas.List.{drop_at, take-append-drop, take_at}
-use Rattle.std.specs.Char.{is_ascii_alphanumeric, is_ascii_digit}
-use Rattle.std.specs.Cmp.{nat_eq_equiv}
-use Rattle.std.specs.List.{join_with_byte, list_all, prefix_len, take_while}
-use Rattle.version_order.specs.texts.Bytes.{dot, is_identifier_byte, is_metadata_byte}
-use Rattle.version_rules.specs.grammar.Chunk.{PlainChunk, Numeric, Alphanum, SpellsChunk, SpellsChunkOf, SpellsPart, chunk_front, chunk_front_of, chunk_text, part_front}
+use Rattle.std.proofs.Common.{◌≡◌, ◌==◌, ℕ, Bool, true, false, List, [], ◌∷◌, ◌++◌, drop, map, Option, Some, None, refl, sym, ap, ◌∙◌, inl, inr, arith, rules}
+use Rattle.std.proofs.lemmas.{Bool.cases_Bool, List.drop_at, List.take-append-drop, List.take_at}
+use Rattle.std.specs.{Char.is_ascii_alphanumeric, Char.is_ascii_digit, Cmp.nat_eq_equiv, List.join_with_byte, List.list_all, List.prefix_len, List.take_while}
 use Rattle.version_order.specs.texts.Front.{Front, begins, behind, dotted_front, map_value, optional, run_front}
 use Rattle.version_order.specs.texts.Grammar.{SpellsDotted, SpellsOptional, EndsList, EndsRun, IsComplete, IsPrinted, IsSound}
-use Rattle.version_rules.specs.grammar.Release.{SpellsMetadata, SpellsRelease, release_text}
-use Rattle.version_rules.specs.grammar.Numeral.{unsigned_front}
+use Rattle.version_order.specs.texts.Bytes.{dot, is_identifier_byte, is_metadata_byte}
+use Rattle.version_rules.specs.grammar.Chunk.{PlainChunk, Numeric, Alphanum, SpellsChunk, SpellsChunkOf, SpellsPart, chunk_front, chunk_front_of, chunk_text, part_front, unsigned_front}
+use Rattle.version_rules.specs.grammar.Body.{SpellsMetadata, SpellsRelease, release_text}
 use Rattle.version_order.proofs.lemmas.Front.{behind-Some, dotted_complete, dotted_sound, cases_Option, all_weaker, list_all-take_while, prefix_len-append, reads_run, run_front-reads}
-use Rattle.version_rules.proofs.lemmas.Numeral.{numeral_printed, unsigned_complete, unsigned_sound}
 use Rattle.version_order.proofs.lemmas.Bytes.{digits_identify}
+use Rattle.version_rules.proofs.lemmas.Numeral.{numeral_printed, unsigned_complete, unsigned_sound}
 
 pub digit_alphanumeric : (b : ℕ) → is_ascii_digit b ≡ true → is_ascii_alphanumeric b ≡ true
 digit_alphanumeric b h = rw h refl
@@ -22,10 +18,7 @@ digit_alphanumeric b h = rw h refl
 module _ (test : ℕ → Bool) (digits_pass : (b : ℕ) → is_ascii_digit b ≡ true → test b ≡ true) where
   ends_numeral : (rest : List ℕ) → EndsRun test rest → EndsRun is_ascii_digit rest
   ends_numeral [] e = refl
-  ends_numeral (b ∷ rest) e = elim (cases_Bool (is_ascii_digit b)) [
-    | inl digit ↦ cc (digits_pass b digit, e)
-    | inr other ↦ other
-  ]
+  ends_numeral (b ∷ rest) e = grind (arith, cases_Bool)
 
   -- what the front gives if the run is all digits, and if it is not
   chunk-digits : (text : List ℕ) → list_all is_ascii_digit (take_while test text) ≡ true
@@ -81,12 +74,7 @@ module _ (test : ℕ → Bool) (digits_pass : (b : ℕ) → is_ascii_digit b ≡
         chunk-digits (piece ++ rest) digits,
         unsigned_complete piece n rest s (ends_numeral rest ends),
       ) refl
-  chunk_complete_of piece (Alphanum text) rest s ends =
-      let all : list_all test piece ≡ true = rw s.0 s.1 in
-      let run = whole_run piece rest all ends in
-      let other : list_all is_ascii_digit (take_while test (piece ++ rest)) ≡ false =
-      rw (run.0, s.0) s.2 in
-      rw (chunk-run (piece ++ rest) other, run.0, run.1, s.0) refl
+  chunk_complete_of piece (Alphanum text) rest s ends = grind (arith, whole_run, chunk-run)
 
   pub chunk_printed_of : IsPrinted (SpellsChunkOf test) chunk_text
   chunk_printed_of text (Numeric n) s = numeral_printed text n s
@@ -115,18 +103,14 @@ release_sound = dotted_sound SpellsChunk chunk_front chunk_sound
 
 pub release_complete : IsComplete SpellsRelease (EndsList (EndsRun is_identifier_byte))
     (dotted_front chunk_front)
-release_complete =
-    dotted_complete SpellsChunk chunk_front (EndsRun is_identifier_byte) chunk_complete
-    (λ text. refl)
+release_complete = search (rules, dotted_complete, chunk_complete)
 
 pub parts_sound : IsSound (SpellsDotted SpellsPart) (dotted_front part_front)
 parts_sound = dotted_sound SpellsPart part_front part_sound
 
 pub parts_complete : IsComplete (SpellsDotted SpellsPart) (EndsList (EndsRun is_ascii_alphanumeric))
     (dotted_front part_front)
-parts_complete =
-    dotted_complete SpellsPart part_front (EndsRun is_ascii_alphanumeric) part_complete
-    (λ text. refl)
+parts_complete = search (rules, dotted_complete, part_complete)
 
 pub metadata_sound : IsSound SpellsMetadata (run_front is_metadata_byte)
 metadata_sound text meta rest e =

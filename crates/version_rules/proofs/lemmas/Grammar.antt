@@ -1,28 +1,17 @@
 -- What holds of each text that is spelled: whatever holds of the empty text, of runs of letters,
 -- digits, hyphens and dots, and of two texts joined if it holds of both.
-use Rattle.std.proofs.Common.{◌≡◌, ℕ, Bool, true, List, [], ◌∷◌, ◌++◌, Option, Some, None, refl, arith, ◌==◌, length, ap, inl, inr, append-nil, Bor, Result, Ok, Err}
-use Rattle.std.specs.Char.{is_ascii_alphanumeric, is_ascii_digit}
-use Rattle.std.specs.List.{list_all}
-use Rattle.version_rules.specs.grammar.Body.{PlainBody, SpellsBody}
+use Rattle.std.proofs.Common.{◌≡◌, ℕ, Bool, true, List, [], ◌∷◌, ◌++◌, Option, Some, None, refl, arith, append-nil, Bor, Result, Ok, Err}
+use Rattle.std.specs.{Char.is_ascii_alphanumeric, Char.is_ascii_digit, List.list_all, Prelude.MatchResult, Result.IsOk, Str.IsUtf8}
+use Rattle.version_rules.specs.grammar.Chunk.{Numeric, Alphanum, PlainChunk, SpellsChunk, SpellsChunkOf, SpellsNumeral}
+use Rattle.version_rules.specs.grammar.Versioning.{PlainVersioning, Ideal, General, Complex, SpellsVersioning}
+use Rattle.version_rules.specs.grammar.{Body.PlainBody, Body.SpellsBody, Body.SpellsMetadata, Body.SpellsRelease, MChunk.PlainMChunk, MChunk.SpellsMChunk, Mess.Further, Mess.PlainMess, Mess.SpellsFurther, Mess.SpellsMess}
+use Rattle.version_rules.specs.grammar.{SemVer.PlainSemVer, SemVer.SpellsSemVer, Version.PlainVersion, Version.SpellsEpoch, Version.SpellsVersion}
 use Rattle.version_order.specs.texts.Bytes.{dot, is_identifier_byte, is_metadata_byte, hyphen, plus}
-use Rattle.version_rules.specs.grammar.Chunk.{Numeric, Alphanum, PlainChunk, SpellsChunk, SpellsChunkOf}
 use Rattle.version_order.specs.texts.Grammar.{SpellsDotted, SpellsEach, SpellsOptional, PlainSep, Colon, Hyphen, Plus, sep_byte, IsSound}
-use Rattle.version_rules.specs.grammar.MChunk.{PlainMChunk, SpellsMChunk}
-use Rattle.version_rules.specs.grammar.Release.{SpellsMetadata, SpellsRelease}
-use Rattle.version_rules.specs.grammar.Numeral.{SpellsNumeral}
+use Rattle.version_order.specs.{keys.Lists.split_last, texts.Front.Front, texts.Front.whole}
 use Rattle.version_rules.proofs.lemmas.MChunk.{spelled_run}
 use Rattle.version_order.proofs.lemmas.Front.{all_weaker}
-use Rattle.version_rules.specs.grammar.Mess.{Further, PlainMess, SpellsFurther, SpellsMess}
-use Rattle.version_rules.specs.grammar.SemVer.{PlainSemVer, SpellsSemVer}
-use Rattle.version_rules.specs.grammar.Version.{PlainVersion, SpellsEpoch, SpellsVersion}
-use Rattle.version_rules.specs.grammar.Versioning.{PlainVersioning, Ideal, General, Complex, SpellsVersioning}
-use Rattle.std.proofs.lemmas.Bool.{cases_Bool, eqb-true}
-use Rattle.std.proofs.lemmas.List.{nil_from_length}
-use Rattle.version_order.specs.texts.Front.{Front, whole}
-use Rattle.version_order.specs.keys.Lists.{split_last}
-use Rattle.std.specs.Prelude.{MatchResult}
-use Rattle.std.specs.Result.{IsOk}
-use Rattle.std.specs.Str.{IsUtf8}
+use Rattle.std.proofs.lemmas.{Bool.cases_Bool, Bool.eqb-true, List.nil_from_length}
 
 digit_byte : (b : ℕ) → is_ascii_digit b ≡ true → is_metadata_byte b ≡ true
 digit_byte b h = rw h refl
@@ -150,13 +139,7 @@ module _ (Holds : List ℕ → Type 0) (nothing : Holds [])
 pub whole-Some : {X : Type 0} (read : Option (X × List ℕ)) (x : X) → whole read ≡ Some x
     → read ≡ Some (x, [])
 whole-Some None x e = cc e
-whole-Some {X} (Some p) x e = elim (cases_Bool (length p.1 == 0)) [
-  | inl done ↦
-      let none : p.1 ≡ [] = nil_from_length p.1 (eqb-true _ _ done) in
-      let value : p.0 ≡ x = cc (rw done at e) in
-      ap (λ (q : X × List ℕ). Some q) (λ i. (value i, none i))
-  | inr more ↦ cc (rw more at e)
-]
+whole-Some {X} (Some p) x e = grind (arith, cases_Bool, nil_from_length, eqb-true)
 
 module _ {X : Type 0} (Spells : List ℕ → X → Type 0) (front : Front X)
     (sound : IsSound Spells front)

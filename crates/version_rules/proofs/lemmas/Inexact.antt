@@ -1,20 +1,14 @@
 -- The members of a list that need not match each version in their range: in the range of the list
 -- they decide, and their text parses as them.
 use Rattle.std.proofs.Common.{◌≡◌, ◌↔◌, ◌<◌, ◌≤◌, ◌+◌, ℕ, not, List, [], ◌∷◌, fold, length, map, Some, refl, sym, ap, subst, arith, inl, inr}
-use Rattle.std.proofs.lemmas.Bool.{cases_Bool}
-use Rattle.std.proofs.lemmas.List.{length-append}
 use Rattle.std.proofs.lemmas.List.Elements.{All-cons, All-filter, All-head, All-nil, All-tail}
+use Rattle.std.proofs.lemmas.{Bool.cases_Bool, List.length-append}
 use Rattle.std.specs.List.{AllZip, join_with_byte}
-use Rattle.std.specs.Option.{option_map_or}
-use Rattle.version_rules.proofs.lemmas.Range.{common_in, requirement_exact}
-use Rattle.version_rules.proofs.lemmas.Requirement.{requirement_printed, requirements_of-Some, requirements_of-spells, requirements_printed}
+use Rattle.version_rules.proofs.lemmas.{Range.common_in, Range.requirement_exact, Requirement.requirement_printed, Requirement.requirements_of-Some, Requirement.requirements_of-spells, Requirement.requirements_printed}
 use Rattle.version_rules.specs.requirement.Range.{inexact_members, inexact_text, IsIn, PlainRange, common, everything, range_of, requirement_range}
-use Rattle.version_rules.specs.requirement.Matching.{Matches, MatchesAll}
-use Rattle.version_rules.specs.requirement.Requirement.{op_text, PlainRequirement, SpellsRequirement, requirement_text}
-use Rattle.version_rules.specs.declared.op.Op.{Op}
+use Rattle.version_rules.specs.{declared.op.Op.Op, grammar.Versioning.PlainVersioning, requirement.Matching.Matches, requirement.Matching.MatchesAll}
+use Rattle.version_rules.specs.requirement.{Requirement.op_text, Requirement.PlainRequirement, Requirement.SpellsRequirement, Requirement.requirement_text, Requirements.comma, Requirements.requirements_of, Requirements.requirements_text}
 use Rattle.version_rules.specs.declared.op.Op.TheVariants as op
-use Rattle.version_rules.specs.requirement.Requirements.{comma, requirements_of, requirements_text}
-use Rattle.version_rules.specs.grammar.Versioning.{PlainVersioning, versioning_text}
 
 -- ---- in the range of the list they decide
 
@@ -91,12 +85,8 @@ some_sign op.Wildcard = omega arith
 
 none_printed : (few : List PlainRequirement) → length (requirements_text few) ≡ 0 → few ≡ []
 none_printed [] e = refl
-none_printed (r ∷ []) e =
-    let version = option_map_or versioning_text r.version [] in
-    absurd (omega (arith, e, some_sign r.op, length-append (op_text r.op) version))
-none_printed (r ∷ q ∷ few) e =
-    let others = comma ∷ requirements_text (q ∷ few) in
-    absurd (omega (arith, e, length-append (requirement_text r) others))
+none_printed (r ∷ []) e = grind (arith, some_sign, length-append)
+none_printed (r ∷ q ∷ few) e = grind (arith, length-append)
 
 -- if the text is empty, there are no members
 pub inexact_none : (list : List PlainRequirement) → inexact_text list ≡ []
@@ -120,9 +110,7 @@ length_joined : (piece : List ℕ) (pieces : List (List ℕ))
     → length (join_with_byte comma (piece ∷ pieces)) + 1 ≡ total (piece ∷ pieces)
 unfolding total
 length_joined piece [] = omega arith
-length_joined piece (next ∷ pieces) =
-    let others = comma ∷ join_with_byte comma (next ∷ pieces) in
-    omega (arith, length_joined next pieces, length-append piece others)
+length_joined piece (next ∷ pieces) = grind (arith, length-append, length_joined next pieces)
 
 fewer : (texts : List (List ℕ)) (list : List PlainRequirement)
     → AllZip SpellsRequirement texts list

@@ -1,33 +1,18 @@
 -- The bytes of splits compare as they do.
 use Rattle.std.proofs.Common.{◌≡◌, ℕ, List, ◌++◌, Option, Some, None, refl, ◌<◌, ◌^◌, [], true, false, ap, ◌∙◌, arith, ◌∷◌}
-use Rattle.std.specs.Option.{option_cmp, option_map_or}
-use Rattle.std.specs.Ordering.{ordering_then, nat_cmp}
-use Rattle.version_order.proofs.lemmas.Codes.{writes_on, writes_then, ended_same, in_turn, writes_list, writes_slice}
-use Rattle.version_order.proofs.lemmas.NumberBytes.{number_writes, text_writes}
-use Rattle.version_order.specs.keys.Codes.{Writes, list_bytes, then_equal}
-use Rattle.version_order.specs.keys.Lists.{bytes_cmp, none_last_cmp}
-use Rattle.version_order.specs.keys.NumberBytes.{number_bytes, text_bytes}
-use Rattle.version_rules.specs.key.PartKey.{Split, numbered_bytes, numbered_cmp, split_bytes, split_cmp, split_of, PartKey, Word, Number, list_cmp, part_bytes, part_cmp, part_key, parts_bytes, suffix_bytes, suffix_of}
-use Rattle.std.proofs.lemmas.Fmt.{decimal_is_IsNumeral}
-use Rattle.std.proofs.lemmas.List.{append-nil}
-use Rattle.std.specs.FinMap.{IsAntisymmetric, slice_cmp-IsAntisymmetric}
-use Rattle.std.specs.Fmt.{decimal}
-use Rattle.std.specs.Str.Parse.{digits_value}
-use Rattle.version_rules.proofs.lemmas.Numeral.{decimal-digits, number_front-digits, number_front-none}
-use Rattle.version_order.specs.texts.DigitRun.{is_digits, starts_with_digit}
-use Rattle.version_rules.specs.laws.Part.{parts_same}
-use Rattle.version_rules.specs.grammar.Chunk.{PlainChunk, Numeric, Alphanum}
-use Rattle.version_rules.specs.laws.Release.{chunks_same, releases_same}
-use Rattle.version_rules.specs.order.Parts.{chunk_bytes, chunk_cmp, release_bytes, release_cmp}
-use Rattle.version_rules.specs.key.Tail.{Tail, PreReleased, Bare, Released, Sections, section_bytes, sections_cmp, tail_bytes, tail_cmp}
-use Rattle.version_order.proofs.lemmas.Orders.{then_assoc}
-use Rattle.version_rules.specs.key.Key.{key_of_semver, precedence, key_of, key_tie_cmp}
-use Rattle.version_rules.specs.grammar.SemVer.{PlainSemVer}
-use Rattle.version_rules.specs.order.Kinds.{semver_cmp}
-use Rattle.std.specs.declared.cmp.Ordering.{Ordering}
+use Rattle.std.specs.{FinMap.IsAntisymmetric, FinMap.slice_cmp-IsAntisymmetric, Fmt.decimal, Option.option_cmp, Option.option_map_or, Ordering.ordering_then, Ordering.nat_cmp, Str.Parse.digits_value, declared.cmp.Ordering.Ordering}
 use Rattle.std.specs.declared.cmp.Ordering.TheVariants.{Less, Equal, Greater}
-use Rattle.version_rules.specs.order.Orders.{versioning_cmp}
-use Rattle.version_rules.specs.grammar.Versioning.{PlainVersioning, Ideal, General, Complex}
+use Rattle.version_order.proofs.lemmas.Codes.{writes_on, writes_then, ended_same, in_turn, writes_list, writes_slice}
+use Rattle.version_order.proofs.lemmas.{NumberBytes.number_writes, NumberBytes.text_writes, Orders.then_assoc}
+use Rattle.version_order.specs.keys.Codes.{Writes, list_bytes, then_equal, number_bytes, text_bytes}
+use Rattle.version_order.specs.{keys.Lists.bytes_cmp, keys.Lists.none_last_cmp, texts.Front.is_digits, texts.Front.starts_with_digit}
+use Rattle.version_rules.specs.key.Key.{Tail, PreReleased, Bare, Released, Sections, section_bytes, sections_cmp, tail_bytes, tail_cmp, key_of_semver, precedence, key_of, key_tie_cmp}
+use Rattle.version_rules.specs.key.PartKey.{Split, numbered_bytes, numbered_cmp, split_bytes, split_cmp, split_of, PartKey, Word, Number, list_cmp, part_bytes, part_cmp, part_key, parts_bytes, suffix_bytes, suffix_of}
+use Rattle.version_rules.specs.grammar.{Chunk.PlainChunk, Chunk.Numeric, Chunk.Alphanum, SemVer.PlainSemVer, Versioning.PlainVersioning, Versioning.Ideal, Versioning.General, Versioning.Complex}
+use Rattle.version_rules.specs.{laws.Part.parts_same, laws.Part.chunks_same, laws.Part.releases_same, order.Kinds.semver_cmp, order.Orders.versioning_cmp}
+use Rattle.version_rules.specs.order.Parts.{chunk_bytes, chunk_cmp, release_bytes, release_cmp}
+use Rattle.std.proofs.lemmas.{Fmt.decimal_is_IsNumeral, List.append-nil}
+use Rattle.version_rules.proofs.lemmas.Numeral.{decimal-digits, number_front-digits, number_front-none}
 
 numbered_writes : Writes numbered_cmp (λ n. number_bytes n.0 ++ text_bytes n.1)
 numbered_writes =
@@ -196,9 +181,7 @@ then_twice Greater = refl
 
 pub ties_alike : (a b : PlainVersioning)
     → ordering_then (precedence (key_of a) (key_of b)) (key_tie_cmp a b) ≡ versioning_cmp a b
-ties_alike (Ideal a) (Ideal b) =
-    let keys = precedence (key_of_semver a) (key_of_semver b) in
-    then_twice keys ∙ ap (ordering_then keys) (precedence_of_semvers a b)
+ties_alike (Ideal a) (Ideal b) = grind (arith, then_twice, precedence_of_semvers)
 ties_alike (Ideal a) (General b) = refl
 ties_alike (Ideal a) (Complex b) = refl
 ties_alike (General a) (Ideal b) = refl

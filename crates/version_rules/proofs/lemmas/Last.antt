@@ -1,17 +1,12 @@
 -- Last parts: what is decomposed is spelled so, and what is spelled so is decomposed.
 use Rattle.std.proofs.Common.{◌≡◌, ◌==◌, ◌++◌, ◌∷◌, ◌∙◌, ℕ, true, false, List, [], length, Some, None, refl, sym, ap, arith, inl, inr, append-nil, append_assoc}
-use Rattle.std.proofs.lemmas.Bool.{cases_Bool, eqb-true, ne_eqb}
-use Rattle.std.proofs.lemmas.Bool.Decides.{nat_tests}
-use Rattle.std.proofs.lemmas.List.{nil_from_length}
-use Rattle.std.specs.Char.{is_ascii_alphabetic, is_ascii_digit}
-use Rattle.std.specs.Cmp.{first_so}
-use Rattle.version_rules.specs.grammar.Chunk.{PlainChunk}
-use Rattle.version_order.specs.texts.Front.{begins, run_front}
+use Rattle.std.proofs.lemmas.{Bool.cases_Bool, Bool.eqb-true, Bool.ne_eqb, Bool.Decides.nat_tests, List.nil_from_length}
+use Rattle.std.specs.{Char.is_ascii_alphabetic, Char.is_ascii_digit, Cmp.first_so}
 use Rattle.version_rules.specs.grammar.Last.{IsLastOf, IsLetters, IsNumbered, IsOther, PlainLast, Numeric, Rc, Post, Alphanum, SpellsPost, SpellsRc, last_of, last_text, numbered_last}
-use Rattle.version_rules.specs.grammar.Numeral.{SpellsNumeral, unsigned_front}
-use Rattle.version_order.proofs.lemmas.Front.{cases_Option, reads_run, run_front-reads}
+use Rattle.version_rules.specs.grammar.Chunk.{PlainChunk, SpellsNumeral, unsigned_front}
+use Rattle.version_order.specs.texts.Front.{begins, run_front}
+use Rattle.version_order.proofs.lemmas.{Bytes.letter_other, Front.cases_Option, Front.reads_run, Front.run_front-reads}
 use Rattle.version_rules.proofs.lemmas.Numeral.{numeral_printed, unsigned_complete, unsigned_sound}
-use Rattle.version_order.proofs.lemmas.Bytes.{letter_other}
 use Rattle.version_rules.specs.grammar.Chunk as chunk
 
 digit_no_letter : (b : ℕ) → is_ascii_digit b ≡ true → is_ascii_alphabetic b ≡ false
@@ -118,10 +113,7 @@ other text none = record {
 
 pub last_of-is : (part : PlainChunk) → IsLastOf part (last_of part)
 last_of-is (chunk.Numeric n) = refl
-last_of-is (chunk.Alphanum text) = elim (cases_Option (numbered_last text)) [
-  | inl none ↦ rw none (refl, other text none)
-  | inr one ↦ rw one.1 (numbered-spelled text one.0 one.1).0
-]
+last_of-is (chunk.Alphanum text) = grind (arith, cases_Option, other, numbered-spelled)
 
 pub last_of-only : (part : PlainChunk) (last : PlainLast) → IsLastOf part last → last_of part ≡ last
 last_of-only (chunk.Numeric n) (Numeric m) s = ap Numeric s
@@ -151,8 +143,6 @@ last_printed (chunk.Numeric n) (Rc a t b) s = absurd s
 last_printed (chunk.Numeric n) (Post a t) s = absurd s
 last_printed (chunk.Numeric n) (Alphanum t) s = absurd s
 last_printed (chunk.Alphanum text) (Numeric m) s = absurd s
-last_printed (chunk.Alphanum text) (Rc a letters b) s =
-    rw (numeral_printed s.0 a s.3, numeral_printed s.1 b s.5)
-    (append_assoc s.0 letters s.1 ∙ sym s.2)
+last_printed (chunk.Alphanum text) (Rc a letters b) s = grind (arith, numeral_printed, append_assoc)
 last_printed (chunk.Alphanum text) (Post a letters) s = rw (numeral_printed s.0 a s.2) (sym s.1)
 last_printed (chunk.Alphanum text) (Alphanum same) s = sym s.0

@@ -1,17 +1,12 @@
 -- Messy chunks, sections of them, and signs: their fronts read what is spelled, and nothing else if
 -- a dot, a sign or the end follows.
-use Rattle.std.proofs.Common.{◌≡◌, ◌==◌, ◌^◌, ℕ, ◌<◌, true, List, [], ◌∷◌, ◌++◌, length, map, Option, Some, None, if◌then◌else◌, refl, sym, ap, ◌∙◌, arith, inl, inr, subst}
-use Rattle.std.proofs.lemmas.Bool.{cases_Bool, eqb-true, ltb-true, lt-ltb}
-use Rattle.std.proofs.lemmas.Bool.Decides.{nat_tests}
-use Rattle.std.specs.Char.{is_ascii_alphanumeric}
-use Rattle.std.specs.Cmp.{second_so}
-use Rattle.std.specs.List.{join_with_byte, list_all}
-use Rattle.version_order.specs.texts.Bytes.{dot}
-use Rattle.version_order.specs.texts.DigitRun.{is_digits}
-use Rattle.version_order.specs.texts.Front.{Consumes, dotted_front, run_front}
-use Rattle.version_rules.specs.laws.Front.{mchunk_consumes}
+use Rattle.std.proofs.Common.{◌≡◌, ◌==◌, ◌^◌, ℕ, ◌<◌, true, List, [], ◌∷◌, ◌++◌, length, map, Option, Some, None, if◌then◌else◌, refl, sym, ap, ◌∙◌, arith, inl, inr, subst, rules}
+use Rattle.std.proofs.lemmas.{Bool.cases_Bool, Bool.eqb-true, Bool.ltb-true, Bool.lt-ltb, Bool.Decides.nat_tests}
+use Rattle.std.specs.{Char.is_ascii_alphanumeric, Cmp.second_so, List.join_with_byte, List.list_all}
 use Rattle.version_order.specs.texts.Grammar.{SpellsDotted, EndsList, EndsRun, IsComplete, IsKept, IsPrinted, IsSoundBefore, PlainSep, Colon, Hyphen, Plus, Underscore, Tilde, sep_byte, sep_front, sep_of}
+use Rattle.version_order.specs.texts.{Bytes.dot, Front.is_digits, Front.Consumes, Front.dotted_front, Front.run_front}
 use Rattle.version_rules.specs.grammar.MChunk.{Digits, Rev, Plain, EndsChunk, PlainMChunk, SpellsDigits, SpellsMChunk, SpellsRevision, chunk_before, ends_chunk, mchunk_front, mchunk_text, value_of_digits, value_of_revision, variant_of}
+use Rattle.version_rules.specs.laws.Front.{mchunk_consumes}
 use Rattle.version_rules.proofs.lemmas.Chunk.{digit_alphanumeric, dotted_printed}
 use Rattle.version_order.proofs.lemmas.Front.{dotted_complete, dotted_consumes, cases_Option, after_mark-Some, all_weaker, reads_run, run_front-reads}
 
@@ -80,26 +75,19 @@ spelled_variant run (Plain kept) s =
 
 variant_spelled : (run : List ℕ) → list_all is_ascii_alphanumeric run ≡ true → 0 < length run
     → SpellsMChunk run (variant_of run)
-variant_spelled run all some = elim (cases_Option (value_of_digits run)) [
-  | inr digits ↦
-      rw (variant-Digits run digits.0 digits.1) (refl, digits_spelled run digits.0 digits.1)
-  | inl none ↦ elim (cases_Option (value_of_revision run)) [
-    | inr revision ↦
-        rw (variant-Rev run revision.0 none revision.1)
-        (refl, revision_spelled run revision.0 revision.1)
-    | inl no_revision ↦ rw (variant-Plain run none no_revision) (
-      refl,
-      record {
-        run = all;
-        some = λ empty. omega (arith, ap (λ (l : List ℕ). length l) empty);
-        no_digits = nothing_spelled (SpellsDigits run) (value_of_digits run) none (digits-Some run);
-        no_revision =
-            nothing_spelled (SpellsRevision run) (value_of_revision run) no_revision
-            (revision-Some run);
-      },
+variant_spelled run all some =
+    search (
+      rules,
+      cases_Option,
+      variant-Digits,
+      digits_spelled,
+      variant-Rev,
+      revision_spelled,
+      variant-Plain,
+      nothing_spelled,
+      digits-Some,
+      revision-Some,
     )
-  ]
-]
 
 -- ---- what is spelled is a run of letters and digits
 
@@ -169,13 +157,7 @@ mchunk_sound text chunk rest e ends = elim (cases_Option (run_front is_ascii_alp
 ]
 
 variant_text : (run : List ℕ) → mchunk_text (variant_of run) ≡ run
-variant_text run = elim (cases_Option (value_of_digits run)) [
-  | inr digits ↦ rw (variant-Digits run digits.0 digits.1) refl
-  | inl none ↦ elim (cases_Option (value_of_revision run)) [
-    | inr revision ↦ rw (variant-Rev run revision.0 none revision.1) refl
-    | inl no_revision ↦ rw (variant-Plain run none no_revision) refl
-  ]
-]
+variant_text run = search (rules, cases_Option, variant-Digits, variant-Rev, variant-Plain)
 
 pub chunk_text : (run : List ℕ × List ℕ) → mchunk_text (chunk_before run) ≡ run.0
 chunk_text run = grind (arith, cases_Bool, variant_text)
@@ -233,14 +215,7 @@ byte_of_sep b sign = grind (arith, byte_tried)
 pub sep_front-Some : (text : List ℕ) (sign : PlainSep) (rest : List ℕ)
     → sep_front text ≡ Some (sign, rest) → text ≡ sep_byte sign ∷ rest
 sep_front-Some [] sign rest e = cc e
-sep_front-Some (b ∷ text) sign rest e = elim (cases_Option (sep_of b)) [
-  | inl none ↦ cc (rw none at e)
-  | inr one ↦
-      let same : (one.0, text) ≡ (sign, rest) = cc (rw one.1 at e) in
-      let found : one.0 ≡ sign = ap (λ (p : PlainSep × List ℕ). p.0) same in
-      let left : text ≡ rest = ap (λ (p : PlainSep × List ℕ). p.1) same in
-      rw (byte_of_sep b one.0 one.1, found, left) refl
-]
+sep_front-Some (b ∷ text) sign rest e = grind (arith, cases_Option, byte_of_sep)
 
 -- a sign ends a chunk, and is not a dot
 pub sign_ends : (sign : PlainSep) (text : List ℕ) → EndsList EndsChunk (sep_byte sign ∷ text)

@@ -1,29 +1,17 @@
 -- What matches: tilde, caret and the other operators on parts, and that what they match has no gap.
-use Rattle.std.proofs.Common.{◌≡◌, ◌==◌, ◌<◌, ◌≤◌, ◌⊎◌, ◌∙◌, ℕ, true, false, List, Option, Some, None, get_or, refl, sym, arith, inl, inr, nat_cmp, ◌&&◌, suc, zero, Bool, cond, [], ◌∷◌, ◌++◌, ap}
-use Rattle.std.proofs.lemmas.Bool.{cases_Bool, eqb-true, and_from, and_parts}
-use Rattle.std.proofs.lemmas.Bool.Decides.{nat_tests, Decides-and}
-use Rattle.std.specs.Bool.{MatchBool, Decides}
+use Rattle.std.proofs.Common.{◌≡◌, ◌==◌, ◌<◌, ◌≤◌, ◌⊎◌, ◌∙◌, ℕ, true, false, List, Option, Some, None, get_or, refl, sym, arith, inl, inr, nat_cmp, ◌&&◌, suc, zero, Bool, cond, [], ◌∷◌, ◌++◌, ap, rules}
+use Rattle.std.proofs.lemmas.{Bool.cases_Bool, Bool.eqb-true, Bool.and_from, Bool.and_parts, Bool.Decides.nat_tests, Bool.Decides.Decides-and}
 use Rattle.std.specs.Cmp.{Equal-is, IsTotalOrder, first_so, second_so, upto}
-use Rattle.std.specs.FinMap.{nat_cmp-IsAntisymmetric}
 use Rattle.std.specs.Ordering.{is_gt, ordering_reverse, ordering_then, is_eq, is_ge}
-use Rattle.std.specs.declared.cmp.Ordering.{Ordering}
-use Rattle.std.specs.declared.cmp.Ordering.TheVariants.{Less, Equal, Greater}
-use Rattle.version_rules.specs.declared.op.Op.{Op}
-use Rattle.version_rules.specs.key.Key.{key_of, precedence}
-use Rattle.version_rules.specs.laws.Key.{precedence_total}
-use Rattle.version_rules.specs.requirement.Matching.{IsConvex, Matches, MatchesAll, MatchesOp}
-use Rattle.version_rules.specs.requirement.Requirement.{PlainRequirement}
-use Rattle.version_rules.specs.grammar.SemVer.{PlainSemVer}
-use Rattle.version_rules.specs.laws.Versioning.{semver_total}
-use Rattle.version_rules.specs.requirement.SemVerMatch.{MatchesCaret, MatchesMinor, MatchesTilde, Numbers, both_zero, numbers}
-use Rattle.version_rules.specs.order.Kinds.{semver_cmp}
-use Rattle.version_rules.specs.grammar.Versioning.{PlainVersioning, Ideal, General, Complex}
-use Rattle.version_rules.proofs.lemmas.Key.{precedence_of_semvers, part_key-decimal}
-use Rattle.version_rules.specs.declared.op.Op.TheVariants as op
-use Rattle.std.specs.Fmt.{decimal}
-use Rattle.version_rules.proofs.lemmas.Order.{part_equal}
+use Rattle.std.specs.{Bool.MatchBool, Bool.Decides, Fmt.decimal, declared.cmp.Ordering.Ordering, declared.cmp.Ordering.TheVariants.Less, declared.cmp.Ordering.TheVariants.Equal, declared.cmp.Ordering.TheVariants.Greater}
 use Rattle.version_rules.specs.key.PartKey.{PartKey, Number, Word, part_cmp, part_key}
+use Rattle.version_rules.specs.requirement.SemVerMatch.{MatchesCaret, MatchesMinor, MatchesTilde, Numbers, both_zero, numbers}
 use Rattle.version_rules.specs.requirement.VersionMatch.{IsNotBelow, PartsMatchCaret, PartsMatchTilde, PartsNotBelow, is_plain_zero}
+use Rattle.version_rules.specs.{declared.op.Op.Op, grammar.SemVer.PlainSemVer, grammar.Versioning.PlainVersioning, grammar.Versioning.Ideal, grammar.Versioning.General, grammar.Versioning.Complex, key.Key.key_of, key.Key.precedence}
+use Rattle.version_rules.specs.{laws.Key.precedence_total, laws.Versioning.semver_total, order.Kinds.semver_cmp, requirement.Matching.IsConvex, requirement.Matching.Matches, requirement.Matching.MatchesAll, requirement.Matching.MatchesOp}
+use Rattle.version_rules.specs.requirement.Requirement.{PlainRequirement}
+use Rattle.version_rules.proofs.lemmas.{Key.precedence_of_semvers, Key.part_key-decimal, Order.part_equal}
+use Rattle.version_rules.specs.declared.op.Op.TheVariants as op
 
 -- ---- which strict versions a requirement matches, between two that it matches
 
@@ -51,23 +39,10 @@ module _ {K : Type 0} (R : K → K → Ordering) (total : IsTotalOrder R) where
   back a b h = rw (total.antisymm a b) (not_below_turned (R b a) h)
 
   above_stays : (w a b : K) → R a w ≡ Greater → UpTo a b → R b w ≡ Greater
-  above_stays w a b e h = by (R b w) refl
-    where
-      by : (r : Ordering) → R b w ≡ r → r ≡ Greater
-      by Less same = cc (is_above (R a w) e, upto total a b w h (rw same refl))
-      by Equal same = cc (is_above (R a w) e, upto total a b w h (rw same refl))
-      by Greater same = refl
+  above_stays w a b e h = grind (arith, is_above, upto)
 
   below_stays : (w b c : K) → R c w ≡ Less → UpTo b c → R b w ≡ Less
-  below_stays w b c e h = by (R b w) refl
-    where
-      turned : is_gt (R w c) ≡ true
-      turned = rw (total.antisymm w c, e) refl
-
-      by : (r : Ordering) → R b w ≡ r → r ≡ Less
-      by Less same = refl
-      by Equal same = cc (turned, upto total w b c (rw (total.antisymm w b, same) refl) h)
-      by Greater same = cc (turned, upto total w b c (rw (total.antisymm w b, same) refl) h)
+  below_stays w b c e h = grind (arith, upto)
 
   pub not_below_stays : (w a b : K) → ¬ (R a w ≡ Less) → UpTo a b → ¬ (R b w ≡ Less)
   not_below_stays w a b h upward below = grind (arith, back)
@@ -77,12 +52,7 @@ module _ {K : Type 0} (R : K → K → Ordering) (total : IsTotalOrder R) where
       cc (is_above (R b w) greater, upto total b c w upward (not_above (R c w) h))
 
   tied_between : (w a b c : K) → R a w ≡ Equal → R c w ≡ Equal → UpTo a b → UpTo b c → R b w ≡ Equal
-  tied_between w a b c low high first second = by (R b w) refl
-    where
-      by : (r : Ordering) → R b w ≡ r → r ≡ Equal
-      by Less same = absurd (not_below_stays w a b (λ e. cc (e, low)) first same)
-      by Equal same = refl
-      by Greater same = absurd (not_above_stays w b c (λ e. cc (e, high)) second same)
+  tied_between w a b c low high first second = grind (arith, not_below_stays, not_above_stays)
 
 -- ---- the numbers of strict versions
 
@@ -92,12 +62,7 @@ NumbersUpTo a b = (a.0 < b.0) ⊎ ((a.0 ≡ b.0) × ((a.1 < b.1) ⊎ ((a.1 ≡ b
 
 number_first : (m n : ℕ) (rest : Ordering) → is_gt (ordering_then (nat_cmp m n) rest) ≡ false
     → (m < n) ⊎ ((m ≡ n) × (is_gt rest ≡ false))
-number_first m n rest h = by (nat_cmp m n) refl
-  where
-    by : (r : Ordering) → nat_cmp m n ≡ r → (m < n) ⊎ ((m ≡ n) × (is_gt rest ≡ false))
-    by Less same = inl (grind (arith, nat_tests))
-    by Equal same = inr (nat_cmp-IsAntisymmetric m n same, rw same at h)
-    by Greater same = cc (rw same at h)
+number_first m n rest h = grind (arith, nat_cmp, nat_tests)
 
 number_last : (m n : ℕ) (rest : Ordering) → is_gt (ordering_then (nat_cmp m n) rest) ≡ false → m ≤ n
 number_last m n rest h =
@@ -146,53 +111,19 @@ zero_major_between : (w a b c : Numbers) → MatchesZeroMajor w a → MatchesZer
     → PairUpTo a b → PairUpTo b c → MatchesZeroMajor w b
 unfolding PairUpTo
 zero_major_between w a b c low high first second =
-    let at_a = caret_minor w a low in
-    let at_c = caret_minor w c high in
-    let minor = same_first a.1 b.1 c.1 _ _ (sym at_a ∙ at_c) first second in
-    let at_b = at_a ∙ minor.0 in
-    elim (cases_Bool (w.1 == 0)) [
-      | inl is_zero ↦
-          let patch_a = rw (both_zero-yes w.1 a.1 at_a is_zero) at low in
-          let patch_c = rw (both_zero-yes w.1 c.1 at_c is_zero) at high in
-          rw (both_zero-yes w.1 b.1 at_b is_zero) (omega (arith, patch_a, patch_c, minor.1, minor.2))
-      | inr other ↦
-          let least = rw (both_zero-no w.1 a.1 other) at low in
-          rw (both_zero-no w.1 b.1 other) (at_b, omega (arith, least.1, minor.1))
-    ]
+    grind (arith, caret_minor, same_first, cases_Bool, both_zero-yes, both_zero-no)
 
 -- `^` with a major other than 0
 above_minor : (w a b : Numbers) → (w.1 < a.1) ⊎ MatchesMinor w a → PairUpTo a b
     → (w.1 < b.1) ⊎ MatchesMinor w b
 unfolding PairUpTo
-above_minor w a b low first = elim low [
-  | inl less ↦ elim first [ inl more ↦ inl (omega arith) | inr same ↦ inl (omega (arith, same.0)) ]
-  | inr least ↦
-      elim first [
-        | inl more ↦ inl (omega (arith, least.0))
-        | inr same ↦ inr
-            (least.0 ∙ same.0, omega (arith, least.1, same.1))
-      ]
-]
+above_minor w a b low first = grind arith
 
 caret_between : (w a b c : Numbers) → MatchesCaret w a → MatchesCaret w c → NumbersUpTo a b
     → NumbersUpTo b c → MatchesCaret w b
 unfolding PairUpTo
 caret_between w a b c low high first second =
-    let at_a = caret_major w a low in
-    let at_c = caret_major w c high in
-    let major = same_first a.0 b.0 c.0 (PairUpTo a b) (PairUpTo b c)
-    (sym at_a ∙ at_c) first second in
-    let at_b = at_a ∙ major.0 in
-    elim (cases_Bool (w.0 == 0)) [
-      | inl is_zero ↦
-          let pair_a = rw (both_zero-yes w.0 a.0 at_a is_zero) at low in
-          let pair_c = rw (both_zero-yes w.0 c.0 at_c is_zero) at high in
-          rw (both_zero-yes w.0 b.0 at_b is_zero)
-          (zero_major_between w a b c pair_a pair_c major.1 major.2)
-      | inr other ↦
-          let least = rw (both_zero-no w.0 a.0 other) at low in
-          rw (both_zero-no w.0 b.0 other) (at_b, above_minor w a b least.1 major.1)
-    ]
+    grind (arith, caret_major, same_first, cases_Bool, both_zero-yes, zero_major_between, both_zero-no, above_minor)
 
 -- ---- requirements
 
@@ -211,18 +142,12 @@ exact_convex (General w) a b c low high first second = cc low
 exact_convex (Complex w) a b c low high first second = cc low
 
 tilde_convex : (wanted : PlainVersioning) → IsConvex (MatchesOp op.Tilde wanted)
-tilde_convex (Ideal w) a b c low high first second =
-    tilde_between (numbers w) (numbers a) (numbers b) (numbers c) low high
-    (numbers_up_to a b (not_above (semver_cmp a b) first))
-    (numbers_up_to b c (not_above (semver_cmp b c) second))
+tilde_convex (Ideal w) a b c low high first second = search (rules, tilde_between, numbers_up_to, not_above)
 tilde_convex (General w) a b c low high first second = low
 tilde_convex (Complex w) a b c low high first second = low
 
 caret_convex : (wanted : PlainVersioning) → IsConvex (MatchesOp op.Caret wanted)
-caret_convex (Ideal w) a b c low high first second =
-    caret_between (numbers w) (numbers a) (numbers b) (numbers c) low high
-    (numbers_up_to a b (not_above (semver_cmp a b) first))
-    (numbers_up_to b c (not_above (semver_cmp b c) second))
+caret_convex (Ideal w) a b c low high first second = search (rules, caret_between, numbers_up_to, not_above)
 caret_convex (General w) a b c low high first second = low
 caret_convex (Complex w) a b c low high first second = low
 
@@ -372,8 +297,7 @@ pub caret_decides : (wanted parts : List PartKey)
 caret_decides [] parts = (λ e. tt, λ t. refl)
 caret_decides (w ∷ wanted) [] = (λ e. cc e, λ none. absurd none)
 caret_decides (w ∷ wanted) (p ∷ parts) =
-    Decides-and _ _ (same_decides w p)
-    (either (is_plain_zero w) _ _ (caret_decides wanted parts) (not_below_decides wanted parts))
+    grind (arith, same_decides, either, not_below_decides, caret_decides wanted parts)
 
 -- after the last wanted part none is asked for, and after the last part there is none
 pub last_free : (z : Bool) → cond z true true ≡ true

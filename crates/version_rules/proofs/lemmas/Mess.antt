@@ -3,16 +3,14 @@
 use Rattle.std.proofs.Common.{◌≡◌, ◌∙◌, ℕ, ◌<◌, List, [], ◌∷◌, ◌++◌, length, Some, None, refl, sym, ap, subst, arith, append-nil, append_assoc, inl, inr}
 use Rattle.std.proofs.lemmas.Str.{IsAscii-append}
 use Rattle.std.specs.Str.{IsAscii}
-use Rattle.version_order.specs.texts.Bytes.{dot}
-use Rattle.version_order.specs.texts.Front.{repeated}
 use Rattle.version_order.specs.texts.Grammar.{SpellsBehind, SpellsDotted, SpellsEach, EndsList, IsComplete, IsKept, IsPrinted, IsSoundBefore, PlainSep, sep_byte, sep_front}
+use Rattle.version_order.specs.texts.{Bytes.dot, Front.repeated}
 use Rattle.version_rules.specs.grammar.MChunk.{EndsChunk, PlainMChunk, SpellsMChunk, mchunk_front, mchunk_text}
-use Rattle.version_order.proofs.lemmas.Bytes.{IsAscii-nil, metadata_run_ascii, sign_ascii}
-use Rattle.version_rules.proofs.lemmas.Chunk.{dotted_printed}
-use Rattle.version_order.proofs.lemmas.Front.{dotted_sound_before, Shrinks, cases_Option, each_ends, each_printed, repeated-reads, repeated_follows, repeated_sound}
-use Rattle.version_rules.proofs.lemmas.MChunk.{mchunk_kept, mchunk_sound, section_complete, section_consumes, section_printed, sep_front-Some, sep_of_byte, sign_ends}
 use Rattle.version_rules.specs.grammar.Mess.{Further, PlainMess, Section, SpellsFurther, SpellsMess, further_front, further_text, joined_section, mess_front, mess_of, mess_text, section_front}
-use Rattle.version_rules.proofs.lemmas.Grammar.{of_mess, whole-Some}
+use Rattle.version_order.proofs.lemmas.Front.{dotted_sound_before, Shrinks, cases_Option, each_ends, each_printed, repeated-reads, repeated_follows, repeated_sound}
+use Rattle.version_order.proofs.lemmas.Bytes.{IsAscii-nil, metadata_run_ascii, sign_ascii}
+use Rattle.version_rules.proofs.lemmas.MChunk.{mchunk_kept, mchunk_sound, section_complete, section_consumes, section_printed, sep_front-Some, sep_of_byte, sign_ends}
+use Rattle.version_rules.proofs.lemmas.{Chunk.dotted_printed, Grammar.of_mess, Grammar.whole-Some}
 
 -- ---- a sign and the section after it
 
@@ -29,32 +27,10 @@ pub further_front-reads : (text : List ℕ) (further : Further) (rest : List ℕ
     → (behind : List ℕ) × (text ≡ sep_byte further.0 ∷ behind)
     × (section_front behind ≡ Some (further.1, rest))
 unfolding further_front
-further_front-reads text further rest e = elim (cases_Option (sep_front text)) [
-  | inl none ↦ cc (rw none at e)
-  | inr sign ↦ elim (cases_Option (section_front sign.0.1)) [
-    | inl none ↦ cc (rw (sign.1, none) at e)
-    | inr section ↦
-        let same : ((sign.0.0, section.0.0), section.0.1) ≡ (further, rest) =
-        cc (rw (sign.1, section.1) at e) in
-        let found : (sign.0.0, section.0.0) ≡ further = ap (λ (p : Further × List ℕ). p.0) same in
-        let left : section.0.1 ≡ rest = ap (λ (p : Further × List ℕ). p.1) same in (
-          sign.0.1,
-          sep_front-Some text sign.0.0 sign.0.1 sign.1
-              ∙ ap (λ (f : Further). sep_byte f.0 ∷ sign.0.1) found,
-          section.1 ∙ ap (λ (l : List ℕ). Some (section.0.0, l)) left
-              ∙ ap (λ (f : Further). Some (f.1, rest)) found,
-        )
-  ]
-]
+further_front-reads text further rest e = grind (arith, cases_Option, sep_front-Some)
 
 pub further_shrinks : Shrinks further_front
-further_shrinks text further rest e =
-    let parts = further_front-reads text further rest e in
-    omega (
-      arith,
-      section_consumes parts.0 further.1 rest parts.2,
-      ap (λ (l : List ℕ). length l) parts.1,
-    )
+further_shrinks text further rest e = grind (arith, further_front-reads, section_consumes)
 
 sep_front-reads : (sign : PlainSep) (rest : List ℕ)
     → sep_front (sep_byte sign ∷ rest) ≡ Some (sign, rest)

@@ -1,26 +1,16 @@
 -- Numerals: the front of an unsigned number reads what is spelled, and nothing else.
-use Rattle.std.proofs.Common.{◌≡◌, ◌+◌, ◌*◌, ◌-◌, ◌<◌, ◌^◌, ℕ, true, List, get_or, length, take, arith, Result, Ok, Err, OkIff, Option, SomeIff, rules, ◌==◌, false, [], ◌∷◌, ◌++◌, Some, None, nat_lt, refl, sym, ap, ◌∙◌, inl, inr, ◌%◌, Bool, ◌||◌, ◌⊎◌}
-use Rattle.std.proofs.lemmas.Bool.{cases_Bool, eqb-true, ltb-true, lt-ltb}
-use Rattle.std.proofs.lemmas.Bool.Decides.{nat_tests}
-use Rattle.std.proofs.lemmas.Int.Digits.{digits_value_more}
-use Rattle.std.proofs.lemmas.List.Folds.{list_all_at, list_all-append}
-use Rattle.std.proofs.lemmas.Str.Parse.{digits_value-take-le, IsNumeralModel, numerals_by_value, digits_value_short}
-use Rattle.std.specs.Char.{digit_value, is_ascii_digit}
-use Rattle.std.specs.List.{list_all, list_any, position_or_len}
-use Rattle.std.specs.Str.Parse.{digits_value}
-use Rattle.std.specs.Result.{result_ok}
-use Rattle.std.proofs.lemmas.Fmt.{decimal-digits_value, decimal_by_steps}
-use Rattle.std.specs.Fmt.{decimal}
-use Rattle.std.specs.Option.{option_and_then}
-use Rattle.version_order.specs.texts.Front.{after_mark, run_front}
-use Rattle.version_rules.specs.grammar.Numeral.{HasNoLeadingZero, SpellsNumeral, unsigned_front, value_of_run}
+use Rattle.std.proofs.Common.{◌≡◌, ◌+◌, ◌*◌, ◌-◌, ◌<◌, ◌^◌, ℕ, true, List, get_or, length, take, arith, Result, Ok, Err, OkIff, Option, SomeIff, rules, ◌==◌, false, [], ◌∷◌, ◌++◌, Some, None, nat_lt, refl, sym, ap, ◌∙◌, inl, inr, ◌%◌, Bool, ◌||◌, ◌⊎◌, codes}
+use Rattle.std.proofs.lemmas.List.{append-nil, drop_all, drop_at, take_all, take_at}
+use Rattle.std.proofs.lemmas.{Bool.cases_Bool, Bool.eqb-true, Bool.ltb-true, Bool.lt-ltb, Bool.Decides.nat_tests, Fmt.decimal-digits_value, Fmt.decimal_by_steps, Int.Digits.digits_value_more}
+use Rattle.std.proofs.lemmas.{List.Folds.list_all_at, List.Folds.list_all-append, Str.Parse.digits_value-take-le, Str.Parse.IsNumeralModel, Str.Parse.numerals_by_value, Str.Parse.digits_value_short}
+use Rattle.std.specs.{Char.digit_value, Char.is_ascii_digit, Cmp.first_so, Cmp.second_so, Fmt.decimal, List.list_all, List.list_any, List.position_or_len, Option.option_and_then, Result.result_ok, Str.Parse.digits_value}
+use Rattle.version_order.specs.texts.Front.{after_mark, run_front, is_digits, number_front, starts_with_digit, begins}
 use Rattle.version_order.specs.texts.Grammar.{EndsRun, IsComplete, IsPrinted, IsSound}
+use Rattle.version_rules.specs.declared.op.Op.TheVariants.{Exact, Greater, GreaterEq, Less, LessEq, Tilde, Caret, Wildcard}
+use Rattle.version_rules.specs.requirement.Requirement.{after_word, first_op, op_front, op_text, tried_ops}
+use Rattle.version_rules.specs.{declared.op.Op.Op, grammar.Chunk.HasNoLeadingZero, grammar.Chunk.SpellsNumeral, grammar.Chunk.unsigned_front, grammar.Chunk.value_of_run, key.PartKey.split_of}
 use Rattle.version_order.proofs.lemmas.Front.{cases_Option, after_mark-Some, reads_run, run_front-reads, prefix_len-append}
 use borrow.Author.Tests.{le-leb}
-use Rattle.std.proofs.lemmas.List.{append-nil, drop_all, drop_at, take_all, take_at}
-use Rattle.std.specs.Cmp.{first_so, second_so}
-use Rattle.version_order.specs.texts.DigitRun.{is_digits, number_front, starts_with_digit}
-use Rattle.version_rules.specs.key.PartKey.{split_of}
 
 -- ---- the value of a run of digits, digit by digit
 
@@ -62,10 +52,7 @@ no_leading_zero : (run rest : List ℕ) → after_mark 48 (run ++ rest) ≡ None
     → HasNoLeadingZero run
 no_leading_zero [] rest e some = absurd (omega arith)
 no_leading_zero (d ∷ []) rest e some = tt
-no_leading_zero (d ∷ c ∷ digits) rest e some = elim (cases_Bool (d == 48)) [
-  | inl same ↦ cc (rw same at e)
-  | inr other ↦ other
-]
+no_leading_zero (d ∷ c ∷ digits) rest e some = grind (arith, cases_Bool)
 
 value_of_run-Some : (run : List ℕ × List ℕ) (n : ℕ) (rest : List ℕ)
     → value_of_run run ≡ Some (n, rest)
@@ -205,16 +192,16 @@ pub ruleset numerals_read =
 -- ---- if a text is put together of such pieces, they are the text before its first digit and the number
 -- there.
 
-begins : (digits rest : List ℕ) → starts_with_digit digits ≡ true
+digits_begin : (digits rest : List ℕ) → starts_with_digit digits ≡ true
     → starts_with_digit (digits ++ rest) ≡ true
-begins [] rest e = cc e
-begins (b ∷ digits) rest e = e
+digits_begin [] rest e = cc e
+digits_begin (b ∷ digits) rest e = e
 
 pub number_front-digits : (digits rest : List ℕ) → is_digits digits ≡ true
     → starts_with_digit rest ≡ false
     → number_front (digits ++ rest) ≡ Some (digits_value 10 digits, rest)
 number_front-digits digits rest run ends =
-    grind (arith, begins, prefix_len-append, take_at, drop_at)
+    grind (arith, digits_begin, prefix_len-append, take_at, drop_at)
 
 pub number_front-none : (text : List ℕ) → starts_with_digit text ≡ false → number_front text ≡ None
 number_front-none text e = rw e refl
@@ -247,7 +234,7 @@ pub split_of-digits : (before digits rest : List ℕ) → list_any is_ascii_digi
     → split_of (before ++ (digits ++ rest))
     ≡ record { before = before; number = Some (digits_value 10 digits, rest) }
 split_of-digits before digits rest none run ends =
-    grind (arith, begins, before_end, take_at, drop_at, number_front-digits)
+    grind (arith, digits_begin, before_end, take_at, drop_at, number_front-digits)
 
 -- ---- what `decimal` writes is a run of digits
 
@@ -262,8 +249,55 @@ decimal-digits = decimal_by_steps (λ n ds. is_digits ds ≡ true)
     let all = second_so (starts_with_digit ds) (list_all is_ascii_digit ds) run in
     let last = digit (n % 10) (omega arith) in
     rw (
-      begins ds ((48 + n % 10) ∷ []) first,
+      digits_begin ds ((48 + n % 10) ∷ []) first,
       list_all-append is_ascii_digit ds ((48 + n % 10) ∷ []),
       all,
       last,
     ) refl)
+
+-- ---- operators: a prefix that parses as an operator is the text of that operator, and that text parses
+-- as the operator.
+
+-- what follows a word is the rest of the text
+after_word-Some : (word text rest : List ℕ) → after_word word text ≡ Some rest → text ≡ word ++ rest
+after_word-Some [] text rest e = cc e
+after_word-Some (b ∷ word) text rest e = elim (cases_Option (after_mark b text)) [
+  | inl none ↦ cc (rw none at e)
+  | inr tail ↦ after_mark-Some b text tail.0 tail.1
+      ∙ ap (λ (l : List ℕ). b ∷ l) (after_word-Some word tail.0 rest (rw tail.1 at e))
+]
+
+first_op-Some : (ops : List Op) (text : List ℕ) (op : Op) (rest : List ℕ)
+    → first_op ops text ≡ Some (op, rest) → text ≡ op_text op ++ rest
+first_op-Some [] text op rest e = cc e
+first_op-Some (first ∷ ops) text op rest e = elim (cases_Option (after_word (op_text first) text)) [
+  | inl none ↦ first_op-Some ops text op rest (rw none at e)
+  | inr tail ↦
+      let same : (first, tail.0) ≡ (op, rest) = cc (rw tail.1 at e) in
+      let named : first ≡ op = ap (λ (p : Op × List ℕ). p.0) same in
+      let left : tail.0 ≡ rest = ap (λ (p : Op × List ℕ). p.1) same in
+      rw (← named, ← left) (after_word-Some (op_text first) text tail.0 tail.1)
+]
+
+pub op_front-Some : (text : List ℕ) (op : Op) (rest : List ℕ) → op_front text ≡ Some (op, rest)
+    → text ≡ op_text op ++ rest
+unfolding op_front
+op_front-Some = first_op-Some tried_ops
+
+no_equals : (text : List ℕ) → begins (λ b. b == 61) text ≡ false
+    → after_word (codes "=") text ≡ None
+no_equals [] other = refl
+no_equals (b ∷ text) other = rw other refl
+
+-- the text of an operator parses as that operator, if no equals sign follows
+pub op_front-reads : (op : Op) (rest : List ℕ) → begins (λ b. b == 61) rest ≡ false
+    → op_front (op_text op ++ rest) ≡ Some (op, rest)
+unfolding op_front
+op_front-reads Exact rest other = refl
+op_front-reads Greater rest other = rw (no_equals rest other) refl
+op_front-reads GreaterEq rest other = refl
+op_front-reads Less rest other = rw (no_equals rest other) refl
+op_front-reads LessEq rest other = refl
+op_front-reads Tilde rest other = refl
+op_front-reads Caret rest other = refl
+op_front-reads Wildcard rest other = refl

@@ -1,38 +1,22 @@
 -- The laws of orders that contracts of src/laws state: of parts, of releases and of each kind.
-use Rattle.std.specs.FinMap.{IsAntisymmetric, nat_cmp-IsAntisymmetric}
+use Rattle.std.specs.{Cmp.tied_itself, FinMap.IsAntisymmetric, FinMap.nat_cmp-IsAntisymmetric, Ordering.on, Ordering.ordering_then, declared.cmp.Ordering.TheVariants.Equal}
 use Rattle.version_order.proofs.lemmas.Codes.{writes_on, writes_then, writes_alone, writes_canonical, writes_no_prefix}
 use Rattle.version_order.proofs.lemmas.NumberBytes.{number_writes, length_bytes-long, length_bytes-short, number_bytes-decimal, number_bytes-zero, text_writes}
-use Rattle.version_rules.proofs.lemmas.Key.{list_writes, lists_same, tail_writes, tails_same, part_key-decimal, part_key-digits, part_key-word, part_writes, release_writes, split_writes, precedence_of_semvers, sections_same, sections_writes}
-use Rattle.version_order.specs.keys.Codes.{then_first, then_second, then_equal, Writes}
-use Rattle.version_rules.specs.key.Key.{Key, precedence, key_of, key_of_mess, key_of_semver, key_of_version, sections_tail, key_bytes}
-use Rattle.std.proofs.Common.{◌≡◌, ◌↔◌, List, Option, ℕ, ◌∷◌, ◌++◌, refl, ◌∙◌, arith}
-use Rattle.std.specs.declared.cmp.Ordering.TheVariants.{Equal}
-use Rattle.version_rules.proofs.lemmas.Numeral.{split_of-digits, split_of-no_digit}
-use Rattle.version_rules.proofs.lemmas.Worked.{worked_bytes, worked_order, worked_keys}
 use Rattle.version_order.proofs.lemmas.Orders.{equal_where_same, then_same, then_decided}
-use Rattle.version_rules.specs.grammar.Chunk.{PlainChunk}
-use Rattle.version_rules.specs.key.PartKey.{PartKey, list_cmp, part_cmp, Split, split_cmp}
-use Rattle.version_rules.specs.laws.Part.{list_total, part_total, parts_same, split_total, splits_same, chunks_cmp_total, last_cmp_total, mchunk_cmp_total}
-use Rattle.version_rules.specs.grammar.Last.{PlainLast}
-use Rattle.version_rules.specs.laws.Last.{last_total, lasts_same, mchunks_same}
-use Rattle.version_rules.specs.order.LastOrder.{last_plain_cmp}
-use Rattle.version_rules.specs.grammar.MChunk.{PlainMChunk}
-use Rattle.version_rules.specs.order.Parts.{chunks_cmp, last_cmp, mchunk_cmp, chunk_cmp, release_cmp}
-use Rattle.version_rules.specs.laws.Release.{chunk_total, chunks_same, release_total, releases_same}
-use Rattle.std.specs.Cmp.{tied_itself}
-use Rattle.std.specs.Ordering.{on, ordering_then}
-use Rattle.version_order.specs.keys.Lists.{bytes_cmp}
-use Rattle.version_rules.proofs.lemmas.Texts.{keys_are_bytes, versions_are_bytes}
-use Rattle.version_rules.specs.laws.Key.{precedence_total, sections_total, tail_total, keys_tied, mess_cmp_total, version_cmp_total, versioning_cmp_total}
-use Rattle.version_rules.specs.grammar.Mess.{PlainMess, mess_plain_cmp}
-use Rattle.version_order.specs.texts.Grammar.{PlainSep}
-use Rattle.version_rules.specs.laws.Versioning.{mess_total, messes_same, versioning_plain_total, semver_total, tied_same, version_plain_total, versions_same}
-use Rattle.version_rules.specs.order.Orders.{mess_cmp, version_cmp, versioning_cmp}
+use Rattle.version_rules.proofs.lemmas.Key.{list_writes, lists_same, tail_writes, tails_same, part_key-decimal, part_key-digits, part_key-word, part_writes, release_writes, split_writes, precedence_of_semvers, sections_same, sections_writes}
+use Rattle.version_rules.proofs.lemmas.{Numeral.split_of-digits, Numeral.split_of-no_digit, Texts.keys_are_bytes, Texts.versions_are_bytes, Worked.worked_bytes, Worked.worked_order, Worked.worked_keys}
+use Rattle.version_order.specs.{keys.Codes.then_first, keys.Codes.then_second, keys.Codes.then_equal, keys.Codes.Writes, keys.Lists.bytes_cmp, texts.Grammar.PlainSep}
 use Rattle.version_rules.specs.grammar.Versioning.{PlainVersioning, Ideal, General, Complex, SameVersioning, versioning_plain_cmp}
-use Rattle.version_rules.specs.grammar.SemVer.{PlainSemVer}
-use Rattle.version_rules.specs.order.Kinds.{SameButMetadata, semver_cmp, version_plain_cmp}
-use Rattle.version_rules.specs.key.Tail.{Tail, sections_cmp, tail_cmp}
-use Rattle.version_rules.specs.grammar.Version.{PlainVersion}
+use Rattle.version_rules.specs.key.Key.{Key, precedence, key_of, key_of_mess, key_of_semver, key_of_version, sections_tail, key_bytes, Tail, sections_cmp, tail_cmp}
+use Rattle.version_rules.specs.key.PartKey.{PartKey, list_cmp, part_cmp, Split, split_cmp}
+use Rattle.version_rules.specs.laws.Key.{precedence_total, sections_total, tail_total, keys_tied, mess_cmp_total, version_cmp_total, versioning_cmp_total}
+use Rattle.version_rules.specs.laws.Part.{list_total, part_total, parts_same, split_total, splits_same, chunks_cmp_total, last_cmp_total, mchunk_cmp_total, chunk_total, chunks_same, release_total, releases_same}
+use Rattle.version_rules.specs.laws.Versioning.{mess_total, messes_same, versioning_plain_total, semver_total, tied_same, version_plain_total, versions_same}
+use Rattle.version_rules.specs.order.Parts.{last_plain_cmp, chunks_cmp, last_cmp, mchunk_cmp, chunk_cmp, release_cmp}
+use Rattle.version_rules.specs.grammar.{Chunk.PlainChunk, Last.PlainLast, MChunk.PlainMChunk, Mess.PlainMess, Mess.mess_plain_cmp, SemVer.PlainSemVer, Version.PlainVersion}
+use Rattle.version_rules.specs.{laws.Last.last_total, laws.Last.lasts_same, laws.Last.mchunks_same, order.Kinds.SameButMetadata, order.Kinds.semver_cmp, order.Kinds.version_plain_cmp}
+use Rattle.version_rules.specs.order.Orders.{mess_cmp, version_cmp, versioning_cmp}
+use Rattle.std.proofs.Common.{◌≡◌, ◌↔◌, List, Option, ℕ, ◌∷◌, ◌++◌, refl, ◌∙◌, arith}
 
 -- ---- precedence distinguishes all keys, and the bytes of keys compare as the keys do
 

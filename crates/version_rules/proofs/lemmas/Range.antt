@@ -1,40 +1,20 @@
 -- Ranges of requirements: what a list matches is in its range, and a range that is exact has no
 -- other version.
-use Rattle.std.proofs.Common.{◌≡◌, ◌↔◌, ◌&&◌, ℕ, Bool, List, [], ◌∷◌, ◌++◌, fold, if◌then◌else◌, Option, Some, None, IsTrue, arith, refl, sym, ap, ◌∙◌, subst, ◌<◌, ◌^◌, inl, inr}
-use Rattle.std.proofs.lemmas.List.{append-nil}
-use Rattle.std.proofs.lemmas.List.Elements.{All-cons, All-nil, All-rest}
-use Rattle.std.specs.Cmp.{Equal-is, alike_right, first_so, second_so}
-use Rattle.std.specs.Cmp.Derive.{both_true}
-use Rattle.std.specs.Cmp.Lexicographic.{nat_list_cmp_total}
-use Rattle.std.specs.Option.{IfSome}
-use Rattle.std.specs.Ordering.{is_lt, ordering_reverse, ordering_then}
-use Rattle.std.specs.declared.cmp.Ordering.{Ordering}
+use Rattle.std.proofs.Common.{◌≡◌, ◌↔◌, ◌&&◌, ℕ, Bool, List, [], ◌∷◌, ◌++◌, fold, Option, Some, None, IsTrue, arith, refl, sym, ap, ◌∙◌, subst, ◌<◌, ◌^◌}
+use Rattle.std.proofs.lemmas.{Bool.cases_Bool, List.append-nil, List.Elements.All-cons, List.Elements.All-nil, List.Elements.All-rest}
+use Rattle.std.specs.{Cmp.Equal-is, Cmp.alike_right, Cmp.first_so, Cmp.second_so, Cmp.Derive.both_true, Cmp.Lexicographic.nat_list_cmp_total, Option.IfSome, Ordering.ordering_reverse, Ordering.ordering_then, declared.cmp.Ordering.Ordering}
 use Rattle.std.specs.declared.cmp.Ordering.TheVariants.{Less, Equal, Greater}
-use Rattle.version_order.specs.keys.Lists.{bytes_cmp}
-use Rattle.version_rules.proofs.lemmas.Matching.{back, not_below_stays}
-use Rattle.version_rules.proofs.lemmas.Order.{key_bytes_alone, key_bytes_compare}
-use Rattle.version_rules.proofs.lemmas.Key.{precedence_of_semvers, plain_number}
+use Rattle.version_order.specs.{Keyed.after, declared.ends.Kept.Kept, declared.ends.Kept.TheVariants.All, declared.ends.Kept.TheVariants.ButLast, declared.ends.Kept.TheVariants.ButLastOrOnly, declared.ends.Kept.TheVariants.ThroughOther}
+use Rattle.version_order.specs.keys.{Codes.items_bytes, Lists.bytes_cmp}
+use Rattle.version_rules.proofs.lemmas.{Key.precedence_of_semvers, Key.plain_number, Matching.back, Matching.not_below_stays, Order.key_bytes_alone, Order.key_bytes_compare}
 use Rattle.version_rules.proofs.lemmas.Range.Series.{caret_exact, caret_in, tilde_exact, tilde_in}
-use Rattle.version_rules.specs.declared.kind.Kind.{Kind}
-use Rattle.version_rules.specs.declared.op.Op.{Op}
-use Rattle.version_rules.specs.declared.kinds.Kinds.{Kinds}
-use Rattle.version_rules.specs.key.Key.{Key, key_of, precedence, strict_body, key_bytes}
 use Rattle.version_rules.specs.grammar.Versioning.{versioning_kind, PlainVersioning, Ideal, General, Complex, versioning_plain_cmp}
-use Rattle.version_rules.specs.requirement.Matching.{Matches, MatchesAll, MatchesOp}
-use Rattle.version_rules.specs.laws.Key.{keys_tied}
+use Rattle.version_rules.specs.key.Key.{Key, key_of, precedence, strict_body, key_bytes}
 use Rattle.version_rules.specs.requirement.Range.{IsIn, PlainRange, all_kinds, bytes_of, common, common_kinds, earlier, earlier_high, everything, has_kind, kind_alone, later, nothing, op_range, range_of, range_without_version, requirement_range, alike_from, series_range, kept_parts}
-use Rattle.version_order.specs.Keyed.{after}
-use Rattle.version_rules.specs.requirement.Requirement.{PlainRequirement}
-use Rattle.version_rules.specs.order.Kinds.{semver_cmp}
+use Rattle.version_rules.specs.{declared.kind.Kind.Kind, declared.kinds.Kinds.Kinds, declared.op.Op.Op, grammar.Last.last_text, key.PartKey.PartKey, key.PartKey.chunk_parts, key.PartKey.part_bytes, key.PartKey.part_key, laws.Key.keys_tied}
+use Rattle.version_rules.specs.{order.Kinds.semver_cmp, requirement.Matching.Matches, requirement.Matching.MatchesAll, requirement.Matching.MatchesOp, requirement.Requirement.PlainRequirement}
 use Rattle.version_rules.specs.declared.kind.Kind.TheVariants as kind
 use Rattle.version_rules.specs.declared.op.Op.TheVariants as op
-use Rattle.std.proofs.lemmas.Bool.{cases_Bool}
-use Rattle.version_order.specs.keys.Codes.{items_bytes}
-use Rattle.version_rules.specs.grammar.Last.{last_text}
-use Rattle.version_rules.specs.key.PartKey.{PartKey, chunk_parts, part_bytes, part_key}
-use Rattle.version_order.specs.declared.ends.Kept.{Kept}
-use Rattle.version_order.specs.declared.ends.Kept.TheVariants.{All, ButLast, ButLastOrOnly, ThroughOther}
-use Rattle.version_rules.specs.requirement.VersionMatch.{is_plain_zero}
 use Rattle.version_rules.specs.grammar.Chunk as chunk
 use Rattle.version_rules.specs.grammar.Last as last
 pub mod Series
@@ -51,19 +31,12 @@ IsBelow high bytes = bytes_cmp bytes high ≡ Less
 
 -- bytes that are not below others are not below what these are not below
 pub stays_from : (low other bytes : List ℕ) → IsFrom other low → IsFrom low bytes → IsFrom other bytes
-stays_from low other bytes h k =
-    not_below_stays bytes_cmp nat_list_cmp_total other low bytes h
-    (back bytes_cmp nat_list_cmp_total low bytes k)
+stays_from low other bytes h k = grind (arith, not_below_stays, nat_list_cmp_total, back)
 
 -- bytes below others are below what is not below these
 stays_below : (high other bytes : List ℕ) → IsFrom high other → IsBelow high bytes
     → IsBelow other bytes
-stays_below high other bytes h below = by (bytes_cmp high other) refl
-  where
-    by : (r : Ordering) → bytes_cmp high other ≡ r → IsBelow other bytes
-    by Less e = nat_list_cmp_total.trans bytes high other below e
-    by Equal e = sym (alike_right nat_list_cmp_total high other bytes e) ∙ below
-    by Greater e = absurd (h (nat_list_cmp_total.antisymm other high ∙ ap ordering_reverse e))
+stays_below high other bytes h below = grind (arith, alike_right, nat_list_cmp_total)
 
 -- bytes are not below those that are below them
 one_way : (a b : List ℕ) → IsBelow b a → IsFrom a b
@@ -71,28 +44,12 @@ one_way a b less more = cc (sym more ∙ nat_list_cmp_total.antisymm b a ∙ ap 
 
 -- bytes are not below the later of two exactly if they are not below either
 from_later : (a b bytes : List ℕ) → IsFrom (later a b) bytes ↔ (IsFrom a bytes × IsFrom b bytes)
-from_later a b bytes = by (bytes_cmp a b) refl
-  where
-    by : (r : Ordering) → bytes_cmp a b ≡ r
-        → IsFrom (if is_lt r then b else a) bytes ↔ (IsFrom a bytes × IsFrom b bytes)
-    by Less e = (λ h. (stays_from b a bytes (one_way a b e) h, h), λ both. both.1)
-    by Equal e = (λ h. (h, stays_from a b bytes (λ less. cc (e, less)) h), λ both. both.0)
-    by Greater e = (λ h. (h, stays_from a b bytes (λ less. cc (e, less)) h), λ both. both.0)
+from_later a b bytes = grind (arith, stays_from, one_way)
 
 -- bytes are below the earlier of two exactly if they are below both
 below_earlier : (a b bytes : List ℕ)
     → IsBelow (earlier a b) bytes ↔ (IsBelow a bytes × IsBelow b bytes)
-below_earlier a b bytes = by (bytes_cmp b a) refl
-  where
-    by : (r : Ordering) → bytes_cmp b a ≡ r
-        → IsBelow (if is_lt r then b else a) bytes ↔ (IsBelow a bytes × IsBelow b bytes)
-    by Less e = (λ below. (stays_below b a bytes (one_way b a e) below, below), λ both. both.1)
-    by Equal e = (
-      λ below. (below, stays_below a b bytes (λ less. cc (e, less)) below),
-      λ both. both.0,
-    )
-    by Greater e =
-        (λ below. (below, stays_below a b bytes (λ less. cc (e, less)) below), λ both. both.0)
+below_earlier a b bytes = grind (arith, stays_below, one_way)
 
 -- the same of high bounds, which may be missing
 abbrev pub IsBelowHigh : Option (List ℕ) → List ℕ → Type 0
@@ -239,30 +196,10 @@ exact_exact (Complex w) v exact inside = cc exact
 pub op_in : (o : Op) (wanted v : PlainVersioning) → MatchesOp o wanted v
     → IsIn (op_range o wanted) v
 op_in op.Exact wanted v m = exact_in wanted v m
-op_in op.Greater wanted v m = record {
-  between = record { from_low = (from_after (key_of v) (key_of wanted)).1 m; below_high = tt };
-  of_kind = of_all_kinds (versioning_kind v);
-}
-op_in op.GreaterEq wanted v m = record {
-  between = record { from_low = (from_key (key_of v) (key_of wanted)).1 m; below_high = tt };
-  of_kind = of_all_kinds (versioning_kind v);
-}
-op_in op.Less wanted v m = record {
-  between = record {
-    from_low =
-        from_empty (bytes_of v);
-    below_high = key_bytes_alone (key_of v) (key_of wanted) ∙ m;
-  };
-  of_kind = of_all_kinds (versioning_kind v);
-}
-op_in op.LessEq wanted v m = record {
-  between = record {
-    from_low =
-        from_empty (bytes_of v);
-    below_high = (below_after (key_of v) (key_of wanted)).1 m;
-  };
-  of_kind = of_all_kinds (versioning_kind v);
-}
+op_in op.Greater wanted v m = grind (arith, from_after, of_all_kinds)
+op_in op.GreaterEq wanted v m = grind (arith, from_key, of_all_kinds)
+op_in op.Less wanted v m = grind (arith, from_empty, key_bytes_alone, of_all_kinds)
+op_in op.LessEq wanted v m = grind (arith, from_empty, below_after, of_all_kinds)
 op_in op.Tilde wanted v m = tilde_in wanted v m
 op_in op.Caret wanted v m = caret_in wanted v m
 op_in op.Wildcard wanted v m = all_inside v
@@ -383,10 +320,7 @@ pub last_kept : (kept : Kept) (part : PartKey) → ¬ (kept ≡ ButLast)
 last_kept All part other = append-nil (part_bytes (Some part))
 last_kept ButLast part other = absurd (other refl)
 last_kept ButLastOrOnly part other = append-nil (part_bytes (Some part))
-last_kept ThroughOther part other = elim (cases_Bool (is_plain_zero part)) [
-  | inl zero ↦ rw zero (append-nil (part_bytes (Some part)))
-  | inr not ↦ rw not (append-nil (part_bytes (Some part)))
-]
+last_kept ThroughOther part other = grind (arith, cases_Bool, append-nil)
 
 -- three numbers as parts
 pub three_parts : (major minor patch : ℕ) → major < 2 ^ 32 → minor < 2 ^ 32 → patch < 2 ^ 32

@@ -1,27 +1,19 @@
 -- Requirements: a whole text parses as the requirement that it spells, and that requirement prints
 -- the text.
-use Rattle.std.proofs.Common.{◌≡◌, ◌==◌, ◌∙◌, ◌&&◌, ℕ, Bool, true, false, not, eqb, List, [], ◌∷◌, ◌++◌, Option, Some, None, IsSomeAnd, refl, sym, arith, inl, inr, ◌<◌, ◌+◌, zero, suc, get_or, length, map, ap, ◌↔◌}
-use Rattle.std.proofs.lemmas.Bool.Decides.{nat_tests}
-use Rattle.std.proofs.lemmas.List.Elements.{All-cons, All-nil, All-head, All-tail}
-use Rattle.std.proofs.lemmas.List.Folds.{list_all-append}
-use Rattle.std.specs.Cmp.{first_so, second_so}
+use Rattle.std.proofs.Common.{◌≡◌, ◌==◌, ◌∙◌, ◌&&◌, ℕ, Bool, true, false, not, eqb, List, [], ◌∷◌, ◌++◌, Option, Some, None, IsSomeAnd, refl, sym, arith, inl, inr, ◌<◌, ◌+◌, zero, suc, get_or, length, map, ap, ◌↔◌, rules}
+use Rattle.std.proofs.lemmas.{Bool.Decides.nat_tests, List.Elements.All-cons, List.Elements.All-nil, List.Elements.All-head, List.Elements.All-tail, List.Folds.list_all-append}
+use Rattle.std.proofs.lemmas.{List.Splits.join_with_byte-slice_split, List.Splits.length-slice_split, List.Splits.slice_split_at, List.Splits.slice_split_none, Slice.Zip.AllZip-long}
 use Rattle.std.specs.List.{All, list_all, AllZip, count_by, join_with_byte, slice_split}
-use Rattle.std.specs.Option.{option_map, option_map_or, is_some}
-use Rattle.version_order.specs.texts.Bytes.{is_metadata_byte}
-use Rattle.version_order.specs.texts.Front.{begins}
+use Rattle.std.specs.{Cmp.first_so, Cmp.second_so, Option.option_map, Option.option_map_or, Option.is_some}
 use Rattle.version_order.specs.texts.Grammar.{IsPrinted, PlainSep, Colon, Hyphen, Plus, Underscore, Tilde, sep_byte}
+use Rattle.version_order.specs.texts.{Bytes.is_metadata_byte, Front.begins}
 use Rattle.version_order.proofs.lemmas.Front.{cases_Option, all_weaker}
-use Rattle.version_rules.specs.declared.op.Op.{Op}
+use Rattle.version_rules.specs.grammar.Versioning.{PlainVersioning, SpellsVersioning, VersioningOwns, versioning_of, versioning_text}
 use Rattle.version_rules.specs.requirement.Requirement.{op_front, op_text, PlainRequirement, RequirementOwns, SpellsOperand, SpellsRequirement, operand_of, requirement_of, requirement_text}
 use Rattle.version_rules.specs.requirement.Requirements.{comma, SpellsRequirements, every, requirements_of, requirements_text, before_others}
-use Rattle.version_rules.specs.grammar.Versioning.{PlainVersioning, SpellsVersioning, VersioningOwns, versioning_of, versioning_text}
-use Rattle.version_rules.proofs.lemmas.Op.{op_front-Some, op_front-reads}
-use Rattle.version_rules.proofs.lemmas.Grammar.{of_versioning}
-use Rattle.version_rules.proofs.lemmas.Versioning.{versioning_of-Some, versioning_of-spells, versioning_printed}
+use Rattle.version_rules.specs.{declared.op.Op.Op, requirement.Matching.Matches, requirement.Matching.MatchesAll}
+use Rattle.version_rules.proofs.lemmas.{Grammar.of_versioning, Numeral.op_front-Some, Numeral.op_front-reads, Versioning.versioning_of-Some, Versioning.versioning_of-spells, Versioning.versioning_printed}
 use Rattle.version_rules.specs.declared.op.Op.TheVariants as op
-use Rattle.std.proofs.lemmas.List.Splits.{join_with_byte-slice_split, length-slice_split, slice_split_at, slice_split_none}
-use Rattle.std.proofs.lemmas.Slice.Zip.{AllZip-long}
-use Rattle.version_rules.specs.requirement.Matching.{Matches, MatchesAll}
 
 -- ---- the bytes of versions and of requirements
 
@@ -54,9 +46,7 @@ sign Tilde = refl
 
 version_bytes : (text : List ℕ) (v : PlainVersioning) → SpellsVersioning text v
     → list_all is_version_byte text ≡ true
-version_bytes =
-    of_versioning (λ text. list_all is_version_byte text ≡ true) refl (together is_version_byte)
-    (all_weaker is_metadata_byte is_version_byte metadata_byte) sign
+version_bytes = search (rules, of_versioning, is_version_byte, together, all_weaker, metadata_byte, sign)
 
 operand_bytes : (o : Op) (text : List ℕ) (version : Option PlainVersioning)
     → SpellsOperand o text version → list_all is_version_byte text ≡ true
@@ -95,15 +85,7 @@ each_no_comma (b ∷ text) h =
 pub requirement_without_comma : (text : List ℕ) (r : PlainRequirement) → SpellsRequirement text r
     → All (λ b. eqb b comma ≡ false) text
 requirement_without_comma text r s =
-    grind (
-      arith,
-      all_weaker,
-      version_byte_no_comma,
-      operand_bytes,
-      each_no_comma,
-      together,
-      op_bytes,
-    )
+    grind (arith, all_weaker, version_byte_no_comma, operand_bytes, each_no_comma, together, op_bytes)
 
 -- ---- what follows an operator
 
@@ -235,13 +217,7 @@ every_is_some : (texts : List (List ℕ))
     → list_all (λ text. is_some (requirement_of text)) texts
     ≡ is_some (every (map requirement_of texts))
 every_is_some [] = refl
-every_is_some (text ∷ texts) = elim (cases_Option (requirement_of text)) [
-  | inl none ↦ rw none refl
-  | inr one ↦ elim (cases_Option (every (map requirement_of texts))) [
-    | inl none ↦ rw (one.1, every_is_some texts, none) refl
-    | inr others ↦ rw (one.1, every_is_some texts, others.1) refl
-  ]
-]
+every_is_some (text ∷ texts) = grind (arith, cases_Option, every_is_some texts)
 
 pub requirements_of-is_some : (text : List ℕ)
     → list_all (λ member. is_some (requirement_of member)) (slice_split (λ b. eqb b comma) text)

@@ -1,21 +1,17 @@
 -- Strict versions. A prefix spells the version that it parses as, a text that spells a version
 -- parses as that version, and the version prints that text.
-use Rattle.std.proofs.Common.{◌≡◌, ◌==◌, ℕ, Bool, false, List, [], ◌∷◌, ◌++◌, Option, Some, None, refl, sym, ap, subst, ◌∙◌, inl, inr, append-nil, append_assoc, arith}
+use Rattle.std.proofs.Common.{◌≡◌, ◌==◌, ℕ, Bool, false, List, [], ◌∷◌, ◌++◌, Option, Some, None, refl, sym, ap, subst, ◌∙◌, append-nil, append_assoc, arith}
 use Rattle.std.proofs.lemmas.Str.{IsAscii-append}
-use Rattle.std.specs.Char.{is_ascii_digit}
-use Rattle.std.specs.Str.{IsAscii}
+use Rattle.std.specs.{Char.is_ascii_digit, Str.IsAscii}
 use Rattle.version_order.specs.texts.Bytes.{dot, hyphen, is_identifier_byte, is_metadata_byte, plus}
-use Rattle.version_rules.specs.grammar.Chunk.{PlainChunk, chunk_front}
 use Rattle.version_order.specs.texts.Front.{begins, behind, dotted_front, optional, run_front}
 use Rattle.version_order.specs.texts.Grammar.{SpellsOptional, EndsList, EndsRun, IsPrinted, IsSound}
-use Rattle.version_rules.specs.grammar.Release.{SpellsMetadata, meta_front, SpellsRelease, release_front}
-use Rattle.version_rules.specs.grammar.Numeral.{unsigned_front}
-use Rattle.version_order.proofs.lemmas.Bytes.{IsAscii-nil, metadata_run_ascii, sign_ascii}
-use Rattle.version_rules.proofs.lemmas.Chunk.{metadata_complete, metadata_sound, optional_complete, optional_sound, release_complete, release_printed, release_sound}
-use Rattle.version_order.proofs.lemmas.Front.{behind-Some, cases_Option}
-use Rattle.version_rules.proofs.lemmas.Numeral.{numeral_printed, unsigned_complete, unsigned_sound}
-use Rattle.version_rules.proofs.lemmas.Grammar.{read_whole, spelled_once, whole_read, whole_spelled, of_semver}
 use Rattle.version_rules.specs.grammar.SemVer.{PlainSemVer, SpellsSemVer, optional_text, semver_front, semver_of, semver_text}
+use Rattle.version_rules.specs.grammar.{Body.SpellsMetadata, Body.meta_front, Body.SpellsRelease, Body.release_front, Chunk.PlainChunk, Chunk.chunk_front, Chunk.unsigned_front}
+use Rattle.version_order.proofs.lemmas.{Bytes.IsAscii-nil, Bytes.metadata_run_ascii, Bytes.sign_ascii, Front.behind-Some, Front.cases_Option}
+use Rattle.version_rules.proofs.lemmas.Chunk.{metadata_complete, metadata_sound, optional_complete, optional_sound, release_complete, release_printed, release_sound}
+use Rattle.version_rules.proofs.lemmas.Grammar.{read_whole, spelled_once, whole_read, whole_spelled, of_semver}
+use Rattle.version_rules.proofs.lemmas.Numeral.{numeral_printed, unsigned_complete, unsigned_sound}
 
 -- what `semver_front` returns after three numbers
 semver_front-Some : (text : List ℕ) (major minor patch : ℕ × List ℕ)
@@ -40,16 +36,7 @@ semver_front-reads : (text : List ℕ) (p : PlainSemVer × List ℕ) → semver_
     × (behind dot unsigned_front major.1 ≡ Some minor)
     × (behind dot unsigned_front minor.1 ≡ Some patch)
 unfolding semver_front
-semver_front-reads text p e = elim (cases_Option (unsigned_front text)) [
-  | inl none ↦ cc (rw none at e)
-  | inr major ↦ elim (cases_Option (behind dot unsigned_front major.0.1)) [
-    | inl none ↦ cc (rw (major.1, none) at e)
-    | inr minor ↦ elim (cases_Option (behind dot unsigned_front minor.0.1)) [
-      | inl none ↦ cc (rw (major.1, minor.1, none) at e)
-      | inr patch ↦ (major.0, minor.0, patch.0, major.1, minor.1, patch.1)
-    ]
-  ]
-]
+semver_front-reads text p e = grind (arith, cases_Option)
 
 regroup : (a b c d e rest : List ℕ)
     → a ++ dot ∷ (b ++ dot ∷ (c ++ (d ++ (e ++ rest))))

@@ -1,26 +1,15 @@
 -- The bytes of keys are below 256 if the bytes of the texts are.
 use borrow.Author.Tests.{lt-ltb}
-use Rattle.std.proofs.Common.{ℕ, zero, suc, ◌<◌, List, [], ◌∷◌, ◌++◌, map, replicate, Option, Some, None, arith, lit<, take, drop, Bool, true, false, if◌then◌else◌}
-use Rattle.std.proofs.lemmas.Int.Digits.{all_below_base_digits_of}
-use Rattle.std.specs.Char.{digit_char, is_ascii_digit}
-use Rattle.std.specs.Int.Digits.{AllBelowBase}
-use Rattle.std.specs.List.{AllByRecursion, flat_map, prefix_len, take_while}
-use Rattle.version_rules.specs.grammar.Chunk.{PlainChunk, Numeric, Alphanum, chunk_text}
-use Rattle.version_order.specs.keys.Codes.{list_bytes}
-use Rattle.version_order.specs.keys.NumberBytes.{length_bytes, number_bytes, text_byte, text_bytes}
-use Rattle.version_rules.specs.key.PartKey.{PartKey, Word, Number, part_bytes, parts_bytes, part_key, chunk_parts, section_parts, suffix_of, Split, numbered_bytes, split_bytes, split_of}
-use Rattle.version_rules.specs.order.Parts.{chunk_bytes, release_bytes}
+use Rattle.std.proofs.Common.{ℕ, zero, suc, ◌<◌, List, [], ◌∷◌, ◌++◌, map, replicate, Option, Some, None, arith, lit<, take, drop, rules}
+use Rattle.std.proofs.lemmas.{Int.Digits.all_below_base_digits_of, List.Elements.All-from_recursion, List.Elements.recursion_from_All}
+use Rattle.std.specs.{Char.digit_char, Int.Digits.AllBelowBase, List.AllByRecursion, List.flat_map, Option.option_map_or}
+use Rattle.version_rules.specs.key.Key.{Key, key_behind_epoch, key_of, key_of_sections, section_epoch, sections_tail, key_bytes, Tail, PreReleased, Bare, Released, Sections, section_bytes, tail_bytes}
+use Rattle.version_rules.specs.key.PartKey.{PartKey, Word, Number, part_bytes, parts_bytes, part_key, section_parts, suffix_of, Split, numbered_bytes, split_bytes, split_of}
 use Rattle.version_rules.specs.key.Texts.{held_text, held_texts, part_text, parts_text, rest_text, split_text, AreBytes, key_text, section_text, tail_text, texts_of}
-use Rattle.std.proofs.lemmas.List.Elements.{All-from_recursion, recursion_from_All}
-use Rattle.std.specs.Option.{option_map_or}
-use Rattle.std.specs.Str.Parse.{digits_value}
-use Rattle.version_order.specs.texts.DigitRun.{number_front, starts_with_digit}
-use Rattle.version_rules.specs.grammar.Last.{last_text}
-use Rattle.version_rules.specs.grammar.MChunk.{PlainMChunk, mchunk_text}
-use Rattle.version_rules.specs.key.Key.{Key, key_behind_epoch, key_of, key_of_sections, section_epoch, sections_tail, key_bytes}
-use Rattle.version_order.specs.texts.Grammar.{PlainSep, Colon}
-use Rattle.version_rules.specs.key.Tail.{Tail, PreReleased, Bare, Released, Sections, section_bytes, tail_bytes}
-use Rattle.version_rules.specs.grammar.Versioning.{PlainVersioning, Ideal, General, Complex}
+use Rattle.version_rules.specs.grammar.{Chunk.PlainChunk, Chunk.Numeric, Chunk.Alphanum, MChunk.PlainMChunk, MChunk.mchunk_text, Versioning.PlainVersioning, Versioning.Ideal, Versioning.General, Versioning.Complex}
+use Rattle.version_rules.specs.order.Parts.{chunk_bytes, release_bytes}
+use Rattle.version_order.specs.keys.Codes.{list_bytes, length_bytes, number_bytes, text_byte, text_bytes}
+use Rattle.version_order.specs.texts.{Front.number_front, Grammar.PlainSep, Grammar.Colon}
 
 -- ---- the bytes of the pieces of keys are below 256 if the bytes of the texts are
 
@@ -80,26 +69,17 @@ text_are_bytes text h =
 
 numbered_are_bytes : (n : Option (ℕ × List ℕ)) → Bytes (rest_text n) → Bytes (numbered_bytes n)
 numbered_are_bytes None h = (lit< tt, tt)
-numbered_are_bytes (Some n) h = (
-  lit< tt,
-  append_are_bytes (number_bytes n.0) (text_bytes n.1) (number_are_bytes n.0)
-      (text_are_bytes n.1 h),
-)
+numbered_are_bytes (Some n) h = grind (arith, lit<, append_are_bytes, number_are_bytes, text_are_bytes)
 
 pub split_are_bytes : (s : Split) → Bytes (split_text s) → Bytes (split_bytes s)
-split_are_bytes s h = append_are_bytes (text_bytes s.before) (numbered_bytes s.number)
-    (text_are_bytes s.before (left_are_bytes s.before (rest_text s.number) h))
-    (numbered_are_bytes s.number (right_are_bytes s.before (rest_text s.number) h))
+split_are_bytes s h =
+    grind (arith, append_are_bytes, text_are_bytes, left_are_bytes, numbered_are_bytes, right_are_bytes)
 
 pub part_are_bytes : (p : PartKey) → Bytes (part_text p) → Bytes (part_bytes (Some p))
 part_are_bytes (Word w) h = (lit< tt, split_are_bytes w h)
 part_are_bytes (Number n None) h =
     (lit< tt, append_are_bytes (number_bytes n) (2 ∷ []) (number_are_bytes n) (lit< tt, tt))
-part_are_bytes (Number n (Some s)) h = (
-  lit< tt,
-  append_are_bytes (number_bytes n) (1 ∷ split_bytes s) (number_are_bytes n)
-      (lit< tt, split_are_bytes s h),
-)
+part_are_bytes (Number n (Some s)) h = grind (arith, lit<, append_are_bytes, number_are_bytes, split_are_bytes)
 
 pub parts_are_bytes : (ps : List PartKey) → Bytes (parts_text ps) → Bytes (parts_bytes ps)
 parts_are_bytes = list_are_bytes part_text part_bytes (lit< tt, tt) part_are_bytes
@@ -128,15 +108,7 @@ tail_are_bytes (Sections first more) h = (
 
 key_are_bytes : (k : Key) → Bytes (key_text k) → Bytes (key_bytes k)
 key_are_bytes k h =
-    grind (
-      arith,
-      parts_are_bytes,
-      left_are_bytes,
-      tail_are_bytes,
-      right_are_bytes,
-      append_are_bytes,
-      number_are_bytes,
-    )
+    grind (arith, parts_are_bytes, left_are_bytes, tail_are_bytes, right_are_bytes, append_are_bytes, number_are_bytes)
 
 pub keys_are_bytes : (k : Key) → AreBytes (key_text k) → AreBytes (key_bytes k)
 keys_are_bytes k h = grind (arith, All-from_recursion, key_are_bytes, recursion_from_All)
@@ -154,16 +126,7 @@ drop_are_bytes (suc n) [] h = tt
 drop_are_bytes (suc n) (x ∷ xs) h = drop_are_bytes n xs h.1
 
 rest_pieces : (text : List ℕ) → Bytes text → Bytes (rest_text (number_front text))
-rest_pieces text h = by (starts_with_digit text)
-  where
-    by : (starts : Bool)
-        → Bytes (rest_text
-        (if starts then Some (
-          digits_value 10 (take_while is_ascii_digit text),
-          drop (prefix_len is_ascii_digit text) text,
-        ) else None))
-    by true = drop_are_bytes (prefix_len is_ascii_digit text) text h
-    by false = tt
+rest_pieces text h = grind (arith, drop_are_bytes)
 
 split_pieces : (text : List ℕ) → Bytes text → Bytes (split_text (split_of text))
 split_pieces text h = grind (arith, append_are_bytes, take_are_bytes, rest_pieces, drop_are_bytes)
@@ -233,24 +196,22 @@ mess_pieces epoch first more h =
 epoch_pieces : (epoch : Option ℕ) (first : List PlainMChunk)
     (more : List (PlainSep × List PlainMChunk)) → Bytes (section_text first ++ further_text more)
     → Bytes (key_text (key_behind_epoch epoch first more))
-epoch_pieces (Some epoch) first ((Colon, body) ∷ more) h =
-    mess_pieces epoch body more
-    (right_are_bytes (section_text first) (section_text body ++ further_text more) h)
+epoch_pieces (Some epoch) first ((Colon, body) ∷ more) h = search (rules, mess_pieces, right_are_bytes)
 epoch_pieces epoch first more h = mess_pieces 0 first more h
 
 key_pieces : (v : PlainVersioning) → Bytes (texts_of v) → Bytes (key_text (key_of v))
 key_pieces (Ideal v) h = pre_release_pieces v.pre_rel h
 key_pieces (General v) h =
-    let chunks = flat_map chunk_text v.chunks in
-    let last = last_text v.last in
-    let released = option_map_or held_texts v.release [] in
-    let printed = left_are_bytes (chunks ++ last) released h in
-    append_are_bytes (parts_text (chunk_parts v.chunks ++ part_key last ∷ []))
-    (tail_text (option_map_or Released v.release Bare))
-    (one_more (chunk_parts v.chunks) (part_key last)
-    (parts_pieces chunk_text v.chunks (left_are_bytes chunks last printed))
-    (part_pieces last (right_are_bytes chunks last printed)))
-    (release_pieces v.release (right_are_bytes (chunks ++ last) released h))
+    search (
+      rules,
+      left_are_bytes,
+      append_are_bytes,
+      one_more,
+      parts_pieces,
+      part_pieces,
+      right_are_bytes,
+      release_pieces,
+    )
 key_pieces (Complex m) h = epoch_pieces (section_epoch m.first) m.first m.more h
 
 pub versions_are_bytes : (v : PlainVersioning) → AreBytes (texts_of v)

@@ -1,28 +1,17 @@
 -- General versions. A prefix spells the version that it parses as, a text that spells a version
 -- parses as that version, and the version prints that text.
 use Rattle.std.proofs.Common.{◌≡◌, ◌==◌, ◌∙◌, ℕ, Bool, true, not, List, [], ◌∷◌, ◌++◌, Option, Some, None, refl, sym, ap, subst, arith, inl, inr, append_assoc}
-use Rattle.std.proofs.lemmas.Bool.{cases_Bool, eqb-true}
-use Rattle.std.proofs.lemmas.Bool.Decides.{nat_tests}
-use Rattle.std.proofs.lemmas.Str.{IsAscii-append}
-use Rattle.std.specs.Char.{is_ascii_alphanumeric}
-use Rattle.std.specs.Cmp.{first_so, second_so}
-use Rattle.std.specs.List.{list_all}
-use Rattle.std.specs.Str.{IsAscii}
-use Rattle.version_rules.specs.grammar.Body.{PlainBody, SpellsBody, body_front}
-use Rattle.version_order.specs.texts.Bytes.{colon, dot, hyphen, is_metadata_byte, plus}
-use Rattle.version_rules.specs.grammar.Chunk.{Numeric, chunk_front}
-use Rattle.version_order.specs.texts.Front.{after_mark, dotted_front, optional, run_front}
-use Rattle.version_order.specs.texts.Grammar.{SpellsDotted, IsPrinted, IsSound}
-use Rattle.version_rules.specs.grammar.Release.{SpellsMetadata, meta_front, SpellsRelease, release_front, release_text}
-use Rattle.version_rules.specs.grammar.Numeral.{SpellsNumeral, unsigned_front}
-use Rattle.version_order.proofs.lemmas.Bytes.{IsAscii-nil, metadata_run_ascii, sign_ascii}
-use Rattle.version_rules.proofs.lemmas.Body.{body_complete, body_printed, body_sound}
-use Rattle.version_rules.proofs.lemmas.Chunk.{metadata_sound, optional_sound, release_printed, release_sound}
-use Rattle.version_order.proofs.lemmas.Front.{cases_Option, all_weaker}
-use Rattle.version_rules.proofs.lemmas.Numeral.{numeral_printed, unsigned_complete, unsigned_sound}
-use Rattle.version_rules.proofs.lemmas.Grammar.{of_body, of_metadata, of_optional, of_release, read_whole, spelled_once, whole_read, whole_spelled, of_version}
+use Rattle.std.proofs.lemmas.{Bool.cases_Bool, Bool.eqb-true, Bool.Decides.nat_tests, Str.IsAscii-append}
+use Rattle.std.specs.{Char.is_ascii_alphanumeric, Cmp.first_so, Cmp.second_so, List.list_all, Str.IsAscii}
+use Rattle.version_rules.specs.grammar.Body.{PlainBody, SpellsBody, body_front, SpellsMetadata, meta_front, SpellsRelease, release_front, release_text}
 use Rattle.version_rules.specs.grammar.Version.{PlainVersion, SpellsEpoch, SpellsVersion, epoch_front, epoch_text, version_front, version_of, version_text}
-use Rattle.version_rules.proofs.lemmas.SemVer.{ends_complete, optional_printed}
+use Rattle.version_rules.specs.grammar.Chunk.{Numeric, chunk_front, SpellsNumeral, unsigned_front}
+use Rattle.version_order.specs.texts.Bytes.{colon, dot, hyphen, is_metadata_byte, plus}
+use Rattle.version_order.specs.texts.{Front.after_mark, Front.dotted_front, Front.optional, Front.run_front, Grammar.SpellsDotted, Grammar.IsPrinted, Grammar.IsSound}
+use Rattle.version_order.proofs.lemmas.{Bytes.IsAscii-nil, Bytes.metadata_run_ascii, Bytes.sign_ascii, Front.cases_Option, Front.all_weaker}
+use Rattle.version_rules.proofs.lemmas.Grammar.{of_body, of_metadata, of_optional, of_release, read_whole, spelled_once, whole_read, whole_spelled, of_version}
+use Rattle.version_rules.proofs.lemmas.{Body.body_complete, Body.body_printed, Body.body_sound, Chunk.metadata_sound, Chunk.optional_sound, Chunk.release_printed, Chunk.release_sound}
+use Rattle.version_rules.proofs.lemmas.{Numeral.numeral_printed, Numeral.unsigned_complete, Numeral.unsigned_sound, SemVer.ends_complete, SemVer.optional_printed}
 use Rattle.version_rules.specs.grammar.Last as last
 
 -- what `version_front` returns after a body
@@ -51,12 +40,7 @@ version_front-None text e = rw e refl
 -- the byte mark, if a text begins with it
 marked : (mark : ℕ) (text rest : List ℕ) → after_mark mark text ≡ Some rest → text ≡ mark ∷ rest
 marked mark [] rest e = cc e
-marked mark (b ∷ text) rest e = elim (cases_Bool (b == mark)) [
-  | inl same ↦
-      let left : text ≡ rest = cc (rw same at e) in
-      rw (eqb-true b mark same, left) refl
-  | inr other ↦ cc (rw other at e)
-]
+marked mark (b ∷ text) rest e = grind (arith, cases_Bool, eqb-true)
 
 epoch_front-Some : (text : List ℕ) (number : ℕ × List ℕ) (rest : List ℕ)
     → unsigned_front text ≡ Some number → after_mark colon number.1 ≡ Some rest

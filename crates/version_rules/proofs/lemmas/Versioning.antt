@@ -2,18 +2,13 @@
 -- prints the text.
 use Rattle.std.proofs.Common.{◌≡◌, List, ℕ, Some, None, refl, inl, inr, ◌∙◌, [], ◌∷◌, ◌++◌, append_assoc}
 use Rattle.std.specs.Str.{IsAscii}
-use Rattle.version_order.specs.texts.Grammar.{IsPrinted, SpellsDotted}
+use Rattle.version_order.specs.texts.{Bytes.dot, Grammar.IsPrinted, Grammar.SpellsDotted}
 use Rattle.version_order.proofs.lemmas.Front.{cases_Option}
-use Rattle.version_rules.specs.grammar.Mess.{mess_of}
-use Rattle.version_rules.specs.grammar.SemVer.{PlainSemVer, SpellsSemVer, semver_of, semver_text}
 use Rattle.version_rules.specs.grammar.Version.{PlainVersion, SpellsVersion, version_of, SpellsEpoch, version_text}
 use Rattle.version_rules.specs.grammar.Versioning.{PlainVersioning, Ideal, General, Complex, SpellsVersioning, versioning_of, versioning_text}
-use Rattle.version_rules.proofs.lemmas.Mess.{mess_of-Some, mess_of-spells, mess_ascii, mess_printed}
-use Rattle.version_rules.proofs.lemmas.SemVer.{semver_ascii, semver_of-Some, semver_of-spells, semver_printed}
+use Rattle.version_rules.specs.grammar.{Chunk.PlainChunk, Chunk.Numeric, Chunk.SpellsPart, Conversions.version_of_semver, Mess.mess_of, SemVer.PlainSemVer, SemVer.SpellsSemVer, SemVer.semver_of, SemVer.semver_text}
+use Rattle.version_rules.proofs.lemmas.{Mess.mess_of-Some, Mess.mess_of-spells, Mess.mess_ascii, Mess.mess_printed, SemVer.semver_ascii, SemVer.semver_of-Some, SemVer.semver_of-spells, SemVer.semver_printed}
 use Rattle.version_rules.proofs.lemmas.Version.{version_ascii, version_of-Some, version_of-spells, version_printed}
-use Rattle.version_order.specs.texts.Bytes.{dot}
-use Rattle.version_rules.specs.grammar.Chunk.{PlainChunk, Numeric, SpellsPart}
-use Rattle.version_rules.specs.grammar.Conversions.{version_of_semver}
 
 -- a text parses as no strict version exactly if it spells none
 no_semver : (text : List ℕ) → ((w : PlainSemVer) → ¬ (SpellsSemVer text w)) → semver_of text ≡ None

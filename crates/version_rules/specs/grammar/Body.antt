@@ -1,13 +1,36 @@
 -- Bodies of general versions: one part or more, joined by dots. The last part is decomposed.
-use Rattle.std.specs.Prelude.{◌<◌, ◌++◌, ◌∷◌, ◌⊎◌, ℕ, List, [], length, Option, Some}
-use Rattle.std.specs.Option.{option_map, option_map_or}
-use Rattle.version_order.specs.texts.Bytes.{dot}
-use Rattle.version_rules.specs.grammar.Chunk.{PlainChunk, SpellsPart, part_front}
-use Rattle.version_order.specs.texts.Front.{◌>>=◌, Front, dotted_front}
-use Rattle.version_order.specs.texts.Grammar.{SpellsDotted}
+use Rattle.version_order.specs.texts.Front.{◌>>=◌, Front, dotted_front, behind, run_front}
+use Rattle.version_order.specs.{keys.Lists.split_last, texts.Bytes.dot, texts.Bytes.is_metadata_byte, texts.Bytes.plus, texts.Bytes.hyphen, texts.Grammar.SpellsDotted}
+use Rattle.std.specs.Prelude.{◌<◌, ◌++◌, ◌∷◌, ◌⊎◌, ℕ, List, [], length, Option, Some, ◌≡◌, true, map}
+use Rattle.std.specs.{List.list_all, List.join_with_byte, Option.option_map, Option.option_map_or}
+use Rattle.version_rules.specs.grammar.Chunk.{PlainChunk, SpellsPart, part_front, SpellsChunk, chunk_front, chunk_text}
 use Rattle.version_rules.specs.grammar.Last.{IsLastOf, LastOwns, Numeric, PlainLast, last_of, last_text}
-use Rattle.version_order.specs.keys.Lists.{split_last}
-use Rattle.version_rules.specs.grammar.Release.{release_text}
+
+-- ---- releases: one chunk or more, joined by dots (SemVer 2.0, section 9)
+
+-- ---- build metadata: a nonempty run of letters, digits, dots and hyphens. SemVer 2.0, section 10, also
+-- requires that no piece between dots is empty.
+
+-- the text is this metadata
+abbrev pub SpellsMetadata : List ℕ → List ℕ → Type 0
+SpellsMetadata text meta =
+    (text ≡ meta) × (list_all is_metadata_byte meta ≡ true) × (0 < length meta)
+
+-- a plus, and the longest run after it
+abbrev pub meta_front : Front (List ℕ)
+meta_front = behind plus (run_front is_metadata_byte)
+
+-- the text spells the chunks of a release
+abbrev pub SpellsRelease : List ℕ → List PlainChunk → Type 0
+SpellsRelease = SpellsDotted SpellsChunk
+
+-- a hyphen, and the chunks after it
+abbrev pub release_front : Front (List PlainChunk)
+release_front = behind hyphen (dotted_front chunk_front)
+
+-- the printed text: the chunks joined by dots
+abbrev pub release_text : List PlainChunk → List ℕ
+release_text chunks = join_with_byte dot (map chunk_text chunks)
 
 -- parts joined by dots
 abbrev pub chunks_front : Front (List PlainChunk)

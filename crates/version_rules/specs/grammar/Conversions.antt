@@ -1,15 +1,8 @@
 -- Conversions of versions to a more lenient kind.
 use Rattle.std.specs.Prelude.{ℕ, List, [], ◌∷◌, ◌++◌, ◌||◌, if◌then◌else◌, is_some, map, Option, Some, None}
-use Rattle.std.specs.declared.cmp.Ordering.{Ordering}
-use Rattle.std.specs.declared.cmp.Ordering.TheVariants.{Less, Equal}
-use Rattle.std.specs.Fmt.{decimal}
-use Rattle.version_rules.specs.grammar.Chunk.{PlainChunk}
-use Rattle.version_rules.specs.grammar.Last.{PlainLast, last_text}
-use Rattle.version_rules.specs.grammar.MChunk.{PlainMChunk, Digits, Plain}
+use Rattle.std.specs.{Fmt.decimal, declared.cmp.Ordering.Ordering, declared.cmp.Ordering.TheVariants.Less, declared.cmp.Ordering.TheVariants.Equal}
+use Rattle.version_rules.specs.grammar.{Chunk.PlainChunk, Last.PlainLast, Last.last_text, MChunk.PlainMChunk, MChunk.Digits, MChunk.Plain, Mess.Further, Mess.PlainMess, Mess.Section, SemVer.PlainSemVer, Version.PlainVersion}
 use Rattle.version_order.specs.texts.Grammar.{Colon, Hyphen, Plus}
-use Rattle.version_rules.specs.grammar.Mess.{Further, PlainMess, Section}
-use Rattle.version_rules.specs.grammar.SemVer.{PlainSemVer}
-use Rattle.version_rules.specs.grammar.Version.{PlainVersion}
 use Rattle.version_rules.specs.grammar.Chunk as chunk
 use Rattle.version_rules.specs.grammar.Last as last
 

@@ -1,13 +1,9 @@
 -- The last part of a general version: a number, a release candidate such as `3rc1`, a post-release
 -- such as `3p`, or any other text.
-use Rattle.std.specs.Prelude.{◌≡◌, ◌<◌, ◌==◌, ℕ, List, length, ◌++◌, Option, Some, None, true, if◌then◌else◌, unwrap_or}
-use Rattle.std.specs.Char.{is_ascii_alphabetic}
-use Rattle.std.specs.Fmt.{decimal}
-use Rattle.std.specs.List.{list_all}
-use Rattle.std.specs.Option.{option_map}
-use Rattle.version_rules.specs.grammar.Chunk.{PlainChunk}
 use Rattle.version_order.specs.texts.Front.{◌>>=◌, run_front, whole}
-use Rattle.version_rules.specs.grammar.Numeral.{SpellsNumeral, unsigned_front}
+use Rattle.std.specs.Prelude.{◌≡◌, ◌<◌, ◌==◌, ℕ, List, length, ◌++◌, Option, Some, None, true, if◌then◌else◌, unwrap_or}
+use Rattle.std.specs.{Char.is_ascii_alphabetic, Fmt.decimal, List.list_all, Option.option_map}
+use Rattle.version_rules.specs.grammar.Chunk.{PlainChunk, SpellsNumeral, unsigned_front}
 use Rattle.version_rules.specs.grammar.Chunk as chunk
 
 -- the value of a last part, whether its text is owned or borrowed

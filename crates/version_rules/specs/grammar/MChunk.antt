@@ -1,17 +1,9 @@
 -- Chunks of a messy version: digits, a revision such as `r23`, or any other text of letters and
 -- digits.
 use Rattle.std.specs.Prelude.{◌≡◌, ◌≢◌, ◌<◌, ◌^◌, ◌==◌, ◌||◌, ◌&&◌, ℕ, Bool, true, List, [], ◌∷◌, Option, Some, None, nat_lt, if◌then◌else◌}
-use Rattle.std.specs.Char.{is_ascii_alphanumeric}
-use Rattle.std.specs.List.{list_all}
-use Rattle.std.specs.Option.{option_map, option_map_or}
-use Rattle.std.specs.Ordering.{nat_cmp, on, then_cmp}
-use Rattle.std.specs.Str.Parse.{digits_value}
-use Rattle.std.specs.declared.cmp.Ordering.{Ordering}
-use Rattle.version_order.specs.texts.Bytes.{dot}
-use Rattle.version_order.specs.texts.DigitRun.{is_digits}
-use Rattle.version_order.specs.texts.Front.{◌>>=◌, Front, after_mark, run_front}
-use Rattle.version_order.specs.keys.Lists.{bytes_cmp}
-use Rattle.version_order.specs.texts.Grammar.{is_sep}
+use Rattle.std.specs.{Char.is_ascii_alphanumeric, List.list_all, Option.option_map, Option.option_map_or, Ordering.nat_cmp, Ordering.on, Ordering.then_cmp, Str.Parse.digits_value, declared.cmp.Ordering.Ordering}
+use Rattle.version_order.specs.texts.Front.{is_digits, ◌>>=◌, Front, after_mark, run_front}
+use Rattle.version_order.specs.{keys.Lists.bytes_cmp, texts.Bytes.dot, texts.Grammar.is_sep}
 
 -- the value of a messy chunk, whether its text is owned or borrowed; digits and a revision keep
 -- their value beside their text

@@ -1,12 +1,9 @@
 -- Messy versions, such as `1.0_2:r3`: sections of chunks with signs between them.
 use Rattle.std.specs.Prelude.{◌≡◌, ◌++◌, ℕ, List, ◌∷◌, Option, Some, map, length, slice_get}
-use Rattle.std.specs.Cmp.Lexicographic.{slice_cmp}
-use Rattle.std.specs.List.{flat_map, join_with_byte}
-use Rattle.std.specs.Ordering.{on, then_cmp}
-use Rattle.std.specs.declared.cmp.Ordering.{Ordering}
-use Rattle.version_order.specs.texts.Bytes.{dot}
+use Rattle.std.specs.{Cmp.Lexicographic.slice_cmp, List.flat_map, List.join_with_byte, Ordering.on, Ordering.then_cmp, declared.cmp.Ordering.Ordering}
 use Rattle.version_order.specs.texts.Front.{◌>>=◌, Front, dotted_front, repeated, whole}
 use Rattle.version_order.specs.texts.Grammar.{SpellsBehind, SpellsDotted, SpellsEach, PlainSep, Colon, sep_byte, sep_front, sep_plain_cmp}
+use Rattle.version_order.specs.texts.Bytes.{dot}
 use Rattle.version_rules.specs.grammar.MChunk.{PlainMChunk, SpellsMChunk, digits_number, mchunk_front, mchunk_plain_cmp, mchunk_text}
 
 -- the chunks of a section

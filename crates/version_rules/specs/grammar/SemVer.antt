@@ -1,12 +1,10 @@
 -- Strict versions (SemVer 2.0, sections 2, 9 and 10).
+use Rattle.version_order.specs.texts.Front.{◌>>=◌, Front, behind, optional, whole}
+use Rattle.version_order.specs.texts.{Bytes.dot, Bytes.hyphen, Bytes.plus, Grammar.SpellsOptional}
 use Rattle.std.specs.Prelude.{◌≡◌, ℕ, List, [], ◌∷◌, ◌++◌, Option, Some, None, ◌⊎◌, IsSome}
 use Rattle.std.specs.Fmt.{decimal}
-use Rattle.version_order.specs.texts.Bytes.{dot, hyphen, plus}
-use Rattle.version_rules.specs.grammar.Chunk.{PlainChunk}
-use Rattle.version_order.specs.texts.Front.{◌>>=◌, Front, behind, optional, whole}
-use Rattle.version_order.specs.texts.Grammar.{SpellsOptional}
-use Rattle.version_rules.specs.grammar.Release.{SpellsMetadata, meta_front, SpellsRelease, release_front, release_text}
-use Rattle.version_rules.specs.grammar.Numeral.{SpellsNumeral, unsigned_front}
+use Rattle.version_rules.specs.grammar.Body.{SpellsMetadata, meta_front, SpellsRelease, release_front, release_text}
+use Rattle.version_rules.specs.grammar.Chunk.{PlainChunk, SpellsNumeral, unsigned_front}
 
 -- a strict version as plain data
 pub record PlainSemVer : Type 0 where

@@ -1,17 +1,10 @@
 -- General versions, such as `1:2.0rc1-3`.
-use Rattle.std.specs.Prelude.{◌≡◌, ◌==◌, ℕ, List, [], ◌∷◌, ◌++◌, ◌⊎◌, IsSome, length, Option, Some, None, if◌then◌else◌}
-use Rattle.std.specs.Fmt.{decimal}
-use Rattle.std.specs.Option.{option_and_then}
-use Rattle.std.specs.List.{slice_get}
-use Rattle.version_rules.specs.grammar.Body.{BodyOwns, SpellsBody, body_front, body_text}
-use Rattle.version_order.specs.texts.Bytes.{colon, hyphen, plus}
-use Rattle.version_rules.specs.grammar.Chunk.{PlainChunk, number_of}
 use Rattle.version_order.specs.texts.Front.{◌>>=◌, Front, after_mark, optional, whole}
-use Rattle.version_order.specs.texts.Grammar.{SpellsOptional}
-use Rattle.version_rules.specs.grammar.Last.{PlainLast, first_number}
-use Rattle.version_rules.specs.grammar.Release.{SpellsMetadata, meta_front, SpellsRelease, release_front, release_text}
-use Rattle.version_rules.specs.grammar.Numeral.{SpellsNumeral, unsigned_front}
-use Rattle.version_rules.specs.grammar.SemVer.{optional_text}
+use Rattle.version_order.specs.texts.{Bytes.colon, Bytes.hyphen, Bytes.plus, Grammar.SpellsOptional}
+use Rattle.std.specs.Prelude.{◌≡◌, ◌==◌, ℕ, List, [], ◌∷◌, ◌++◌, ◌⊎◌, IsSome, length, Option, Some, None, if◌then◌else◌}
+use Rattle.std.specs.{Fmt.decimal, List.slice_get, Option.option_and_then}
+use Rattle.version_rules.specs.grammar.Body.{BodyOwns, SpellsBody, body_front, body_text, SpellsMetadata, meta_front, SpellsRelease, release_front, release_text}
+use Rattle.version_rules.specs.grammar.{Chunk.PlainChunk, Chunk.number_of, Chunk.SpellsNumeral, Chunk.unsigned_front, Last.PlainLast, Last.first_number, SemVer.optional_text}
 
 -- a general version as plain data
 pub record PlainVersion : Type 0 where

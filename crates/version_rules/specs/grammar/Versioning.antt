@@ -1,14 +1,11 @@
 -- A version of any of the three kinds.
 use Rattle.std.specs.Prelude.{◌≡◌, ℕ, Bool, true, false, List, ◌==◌, if◌then◌else◌, Option, Some, None}
-use Rattle.std.specs.Option.{is_some, option_map, option_or}
-use Rattle.std.specs.Ordering.{nat_cmp}
-use Rattle.std.specs.declared.cmp.Ordering.{Ordering}
+use Rattle.std.specs.{Option.is_some, Option.option_map, Option.option_or, Ordering.nat_cmp, declared.cmp.Ordering.Ordering}
 use Rattle.version_order.specs.texts.Front.{Front, map_value}
 use Rattle.version_rules.specs.grammar.Mess.{PlainMess, SpellsMess, mess_front, mess_of, mess_plain_cmp, mess_text, nth_number}
 use Rattle.version_rules.specs.grammar.SemVer.{PlainSemVer, SemVerOwns, SpellsSemVer, semver_front, semver_of, semver_text}
-use Rattle.version_rules.specs.order.Kinds.{SameButMetadata, semver_cmp, version_plain_cmp}
 use Rattle.version_rules.specs.grammar.Version.{PlainVersion, SpellsVersion, VersionOwns, version_front, version_nth, version_of, version_text}
-use Rattle.version_rules.specs.declared.kind.Kind.{Kind}
+use Rattle.version_rules.specs.{declared.kind.Kind.Kind, order.Kinds.SameButMetadata, order.Kinds.semver_cmp, order.Kinds.version_plain_cmp}
 use Rattle.version_rules.specs.declared.kind.Kind.TheVariants as kind
 
 pub data PlainVersioning : Type 0 where

@@ -1,17 +1,9 @@
 -- The key of one part of a version, and how parts and lists of them compare.
 use Rattle.std.specs.Prelude.{ℕ, List, [], ◌∷◌, ◌++◌, drop, Option, Some, None, map}
-use Rattle.std.specs.Char.{is_ascii_digit}
-use Rattle.std.specs.List.{before_first, position_or_len}
-use Rattle.std.specs.Option.{option_cmp, option_map_or}
-use Rattle.std.specs.Ordering.{nat_cmp, on, then_cmp, ordering_then}
-use Rattle.std.specs.declared.cmp.Ordering.{Ordering}
-use Rattle.version_order.specs.texts.DigitRun.{number_front}
-use Rattle.version_order.specs.keys.Lists.{bytes_cmp, ended_cmp, none_last_cmp}
-use Rattle.version_order.specs.keys.NumberBytes.{number_bytes, text_bytes}
+use Rattle.std.specs.{Char.is_ascii_digit, List.before_first, List.position_or_len, Option.option_cmp, Option.option_map_or, Ordering.nat_cmp, Ordering.on, Ordering.then_cmp, Ordering.ordering_then, declared.cmp.Ordering.Ordering}
 use Rattle.std.specs.declared.cmp.Ordering.TheVariants.{Less, Equal, Greater}
-use Rattle.version_rules.specs.grammar.Chunk.{PlainChunk, chunk_text}
-use Rattle.version_order.specs.keys.Codes.{list_bytes}
-use Rattle.version_rules.specs.grammar.MChunk.{PlainMChunk, mchunk_text}
+use Rattle.version_order.specs.{keys.Codes.number_bytes, keys.Codes.text_bytes, keys.Codes.list_bytes, keys.Lists.bytes_cmp, keys.Lists.ended_cmp, keys.Lists.none_last_cmp, texts.Front.number_front}
+use Rattle.version_rules.specs.grammar.{Chunk.PlainChunk, Chunk.chunk_text, MChunk.PlainMChunk, MChunk.mchunk_text}
 
 -- ---- A text split at its first run of digits, so that `rc10` comes after `rc9`
 

@@ -1,15 +1,10 @@
 -- The texts that keys hold and that versions print, one after another. Metadata and signs are left
 -- out, as no key holds them.
 use Rattle.std.specs.Prelude.{ℕ, ◌<◌, List, [], ◌++◌, Option, Some, None, ◌∷◌}
-use Rattle.std.specs.List.{All, flat_map}
-use Rattle.version_rules.specs.grammar.Chunk.{PlainChunk, Numeric, Alphanum, chunk_text}
-use Rattle.version_rules.specs.key.PartKey.{PartKey, Word, Number, Split}
-use Rattle.std.specs.Option.{option_map_or}
-use Rattle.version_rules.specs.grammar.Last.{last_text}
-use Rattle.version_rules.specs.grammar.MChunk.{PlainMChunk, mchunk_text}
-use Rattle.version_rules.specs.key.Key.{Key}
-use Rattle.version_rules.specs.key.Tail.{Tail, PreReleased, Bare, Released, Sections}
-use Rattle.version_rules.specs.grammar.Versioning.{PlainVersioning, Ideal, General, Complex}
+use Rattle.std.specs.{List.All, List.flat_map, Option.option_map_or}
+use Rattle.version_rules.specs.key.Key.{Key, Tail, PreReleased, Bare, Released, Sections}
+use Rattle.version_rules.specs.grammar.{Chunk.PlainChunk, Chunk.Numeric, Chunk.Alphanum, Chunk.chunk_text, Last.last_text, MChunk.PlainMChunk, MChunk.mchunk_text}
+use Rattle.version_rules.specs.{grammar.Versioning.PlainVersioning, grammar.Versioning.Ideal, grammar.Versioning.General, grammar.Versioning.Complex, key.PartKey.PartKey, key.PartKey.Word, key.PartKey.Number, key.PartKey.Split}
 
 -- ---- the texts that keys hold, one after another: all in a key that is not a number
 

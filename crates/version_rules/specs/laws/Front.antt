@@ -1,15 +1,9 @@
 -- The rests that fronts leave. The impls of `Element` cite these laws.
 use Rattle.std.proofs.Common.{◌≡◌, ◌≤◌, ◌==◌, ◌^◌, ℕ, Bool, List, [], ◌∷◌, length, drop, Option, Some, None, ap, arith, inl, inr, nat_lt}
-use Rattle.std.proofs.lemmas.Bool.{cases_Bool}
-use Rattle.std.proofs.lemmas.List.{length-drop}
-use Rattle.std.specs.Char.{is_ascii_alphanumeric, is_ascii_digit}
-use Rattle.std.specs.List.{list_all, prefix_len, take_while}
-use Rattle.std.specs.Option.{option_map}
-use Rattle.std.specs.Str.Parse.{digits_value}
-use Rattle.version_rules.specs.grammar.Chunk.{Numeric, chunk_front_of}
+use Rattle.std.proofs.lemmas.{Bool.cases_Bool, List.length-drop}
+use Rattle.std.specs.{Char.is_ascii_alphanumeric, Char.is_ascii_digit, List.list_all, List.prefix_len, List.take_while, Option.option_map, Str.Parse.digits_value}
+use Rattle.version_rules.specs.grammar.{Chunk.Numeric, Chunk.chunk_front_of, Chunk.unsigned_front, Chunk.value_of_run, MChunk.chunk_before, MChunk.mchunk_front}
 use Rattle.version_order.specs.texts.Front.{◌>>=◌, Consumes, run_front, unless_empty}
-use Rattle.version_rules.specs.grammar.MChunk.{chunk_before, mchunk_front}
-use Rattle.version_rules.specs.grammar.Numeral.{unsigned_front, value_of_run}
 
 -- the rest that a front leaves, if it reads a value, is no longer than the text
 abbrev Fits : {X : Type 0} → List ℕ → Option (X × List ℕ) → Type 0

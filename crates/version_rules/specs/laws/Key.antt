@@ -1,24 +1,13 @@
 -- Precedence is total; so are the orders of tails and of sections.
 use Rattle.std.proofs.Common.{◌≡◌, List, ◌∷◌, Option, Some, None, refl, subst}
 use Rattle.std.specs.Cmp.{IsTotalOrder, nat_cmp_total, on_total, then_total, tied_itself}
-use Rattle.std.specs.Cmp.Lexicographic.{lists_total, options_total}
-use Rattle.std.specs.Option.{option_cmp}
-use Rattle.std.specs.Ordering.{nat_cmp, on, then_cmp, eq_by_cmp}
-use Rattle.version_rules.specs.grammar.Chunk.{PlainChunk}
-use Rattle.version_order.specs.keys.Codes.{then_equal, ties_behind, ties_same}
-use Rattle.version_rules.specs.key.PartKey.{PartKey}
-use Rattle.version_rules.specs.laws.Part.{list_total}
-use Rattle.version_rules.specs.laws.Release.{release_total}
-use Rattle.version_rules.specs.order.Parts.{release_cmp}
-use Rattle.version_rules.specs.key.Key.{Key, precedence, key_of, key_of_mess, key_of_version}
-use Rattle.version_rules.specs.key.Tail.{Tail, PreReleased, Bare, Released, Sections, sections_cmp, tail_cmp, tail_rank}
-use Rattle.std.specs.declared.cmp.Ordering.TheVariants.{Equal}
-use Rattle.version_rules.specs.grammar.Mess.{PlainMess, mess_plain_cmp}
-use Rattle.version_rules.specs.laws.Versioning.{mess_total, messes_same, tied_same, version_plain_total, versions_same, versioning_plain_total}
-use Rattle.version_rules.specs.order.Orders.{mess_cmp, version_cmp, versioning_cmp}
-use Rattle.version_rules.specs.grammar.Version.{PlainVersion}
-use Rattle.version_rules.specs.order.Kinds.{version_plain_cmp}
+use Rattle.std.specs.{Cmp.Lexicographic.lists_total, Cmp.Lexicographic.options_total, Option.option_cmp, Ordering.nat_cmp, Ordering.on, Ordering.then_cmp, Ordering.eq_by_cmp, declared.cmp.Ordering.TheVariants.Equal}
 use Rattle.version_rules.specs.grammar.Versioning.{PlainVersioning, Ideal, General, Complex, versioning_plain_cmp}
+use Rattle.version_rules.specs.key.Key.{Key, precedence, key_of, key_of_mess, key_of_version, Tail, PreReleased, Bare, Released, Sections, sections_cmp, tail_cmp, tail_rank}
+use Rattle.version_rules.specs.laws.Versioning.{mess_total, messes_same, tied_same, version_plain_total, versions_same, versioning_plain_total}
+use Rattle.version_rules.specs.{grammar.Chunk.PlainChunk, grammar.Mess.PlainMess, grammar.Mess.mess_plain_cmp, grammar.Version.PlainVersion, key.PartKey.PartKey, laws.Part.list_total, laws.Part.release_total, order.Kinds.version_plain_cmp}
+use Rattle.version_rules.specs.order.{Orders.mess_cmp, Orders.version_cmp, Orders.versioning_cmp, Parts.release_cmp}
+use Rattle.version_order.specs.keys.Codes.{then_equal, ties_behind, ties_same}
 
 pub sections_total : IsTotalOrder sections_cmp
 sections_total = lists_total list_total

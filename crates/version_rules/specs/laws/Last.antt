@@ -1,15 +1,12 @@
 -- The laws of the plain order of last parts, which the impls of `Eq` and `Hash` cite.
 use Rattle.std.proofs.Common.{◌≡◌, ℕ, List, [], refl, ap, subst}
-use Rattle.std.specs.Cmp.{IsTotalOrder, nat_cmp_total, on_total, then_total}
-use Rattle.std.specs.Cmp.Lexicographic.{nat_list_cmp_total}
-use Rattle.std.specs.FinMap.{IsAntisymmetric, nat_cmp-IsAntisymmetric}
+use Rattle.std.specs.{Cmp.IsTotalOrder, Cmp.nat_cmp_total, Cmp.on_total, Cmp.then_total, Cmp.Lexicographic.nat_list_cmp_total, FinMap.IsAntisymmetric, FinMap.nat_cmp-IsAntisymmetric}
 use Rattle.std.specs.Ordering.{nat_cmp, on, ordering_then, then_cmp}
 use Rattle.version_rules.specs.grammar.Last.{PlainLast, Numeric, Rc, Post, Alphanum}
-use Rattle.version_rules.specs.order.LastOrder.{last_plain_cmp, last_rank}
-use Rattle.version_order.specs.keys.Lists.{bytes_cmp}
-use Rattle.version_order.specs.keys.Codes.{bytes_same, then_equal, then_first, then_second}
 use Rattle.version_rules.specs.grammar.MChunk.{PlainMChunk, Digits, Rev, Plain, mchunk_plain_cmp, mchunk_rank, mchunk_text, mchunk_value}
+use Rattle.version_rules.specs.order.Parts.{last_plain_cmp, last_rank}
 use Rattle.version_order.specs.texts.Grammar.{PlainSep, Colon, Hyphen, Plus, Underscore, Tilde, sep_plain_cmp, sep_rank}
+use Rattle.version_order.specs.keys.{Codes.bytes_same, Codes.then_equal, Codes.then_first, Codes.then_second, Lists.bytes_cmp}
 
 -- a last part as its rank, its first number, its text and its second number
 first : PlainLast → ℕ

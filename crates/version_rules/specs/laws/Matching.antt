@@ -1,22 +1,13 @@
 -- A requirement, or a list of them, matches a version or does not: matching is decidable.
 use Rattle.std.proofs.Common.{◌≡◌, ◌∙◌, ◌<◌, ◌≤◌, ◌+◌, ◌⊎◌, ℕ, Bool, true, false, List, [], ◌∷◌, ◌++◌, length, Option, Some, None, IsTrue, refl, sym, ap, arith, inl, inr}
-use Rattle.std.proofs.lemmas.Bool.Decides.{Decides-eqb, Decides-ltb, leb_tells}
-use Rattle.std.proofs.lemmas.List.{length-append}
-use Rattle.std.proofs.lemmas.List.Elements.{All-cons, All-nil, All-rest}
-use Rattle.std.specs.Bool.{Decides, MatchBool}
-use Rattle.std.specs.Cmp.{tied_itself}
-use Rattle.std.specs.Ordering.{eq_by_cmp}
-use Rattle.std.specs.declared.cmp.Ordering.{Ordering}
+use Rattle.std.proofs.lemmas.{Bool.Decides.Decides-eqb, Bool.Decides.Decides-ltb, Bool.Decides.leb_tells, List.length-append, List.Elements.All-cons, List.Elements.All-nil, List.Elements.All-rest}
+use Rattle.std.specs.{Bool.Decides, Bool.MatchBool, Cmp.tied_itself, Ordering.eq_by_cmp, declared.cmp.Ordering.Ordering}
 use Rattle.std.specs.declared.cmp.Ordering.TheVariants.{Less, Equal, Greater}
-use Rattle.version_rules.specs.key.PartKey.{PartKey, part_cmp}
-use Rattle.version_rules.specs.laws.Part.{part_total, parts_same}
-use Rattle.version_rules.specs.declared.op.Op.{Op}
-use Rattle.version_rules.specs.key.Key.{key_of, precedence}
-use Rattle.version_rules.specs.requirement.Matching.{Matches, MatchesAll, MatchesCaret, MatchesOp, MatchesTilde}
-use Rattle.version_rules.specs.requirement.Requirement.{PlainRequirement}
-use Rattle.version_rules.specs.requirement.SemVerMatch.{Numbers, both_zero, numbers}
-use Rattle.version_rules.specs.requirement.VersionMatch.{EpochAndParts, IsNotBelow, PartsMatchCaret, PartsMatchTilde, PartsNotBelow, epoch_and_parts, is_plain_zero}
 use Rattle.version_rules.specs.grammar.Versioning.{PlainVersioning, Ideal, General, Complex, versioning_plain_cmp}
+use Rattle.version_rules.specs.requirement.Matching.{Matches, MatchesAll, MatchesCaret, MatchesOp, MatchesTilde}
+use Rattle.version_rules.specs.requirement.VersionMatch.{EpochAndParts, IsNotBelow, PartsMatchCaret, PartsMatchTilde, PartsNotBelow, epoch_and_parts, is_plain_zero}
+use Rattle.version_rules.specs.{declared.op.Op.Op, key.Key.key_of, key.Key.precedence, key.PartKey.PartKey, key.PartKey.part_cmp, laws.Part.part_total, laws.Part.parts_same, requirement.Requirement.PlainRequirement}
+use Rattle.version_rules.specs.requirement.SemVerMatch.{Numbers, both_zero, numbers}
 use Rattle.version_rules.specs.declared.op.Op.TheVariants as op
 use Rattle.version_rules.specs.requirement.SemVerMatch as strict
 use Rattle.version_rules.specs.requirement.VersionMatch as general

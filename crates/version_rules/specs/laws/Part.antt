@@ -1,20 +1,54 @@
 -- The laws of the orders of parts and of lists of parts, which the impls of `Ord` cite.
 use Rattle.std.proofs.Common.{◌≡◌, ℕ, List, Option, Some, None, refl, ap, subst, []}
-use Rattle.std.specs.Cmp.{IsTotalOrder, nat_cmp_total, on_total, then_total}
-use Rattle.std.specs.Cmp.Lexicographic.{lists_total, nat_list_cmp_total, options_total}
-use Rattle.std.specs.FinMap.{IsAntisymmetric, nat_cmp-IsAntisymmetric}
-use Rattle.std.specs.Option.{option_cmp}
-use Rattle.std.specs.Ordering.{nat_cmp, on, then_cmp, eq_by_cmp}
-use Rattle.version_order.specs.keys.Lists.{none_last_cmp, with_end}
+use Rattle.std.specs.{Cmp.IsTotalOrder, Cmp.nat_cmp_total, Cmp.on_total, Cmp.then_total, Cmp.Lexicographic.lists_total, Cmp.Lexicographic.nat_list_cmp_total, Cmp.Lexicographic.options_total}
+use Rattle.std.specs.{FinMap.IsAntisymmetric, FinMap.nat_cmp-IsAntisymmetric, FinMap.slice_cmp-IsAntisymmetric, Option.option_cmp, Ordering.nat_cmp, Ordering.on, Ordering.then_cmp, Ordering.eq_by_cmp}
 use Rattle.version_order.specs.keys.Codes.{bytes_same, none_last_same, none_last_total, options_same, then_equal, then_first, then_second, ties_same}
+use Rattle.version_order.specs.keys.Lists.{none_last_cmp, with_end, bytes_cmp}
 use Rattle.version_rules.specs.key.PartKey.{PartKey, Word, Number, list_cmp, part_cmp, Split, numbered_cmp, split_cmp, part_bytes, chunk_parts, part_key}
-use Rattle.version_rules.specs.grammar.Chunk.{PlainChunk, Numeric, Alphanum}
-use Rattle.version_rules.specs.order.Parts.{chunk_bytes, as_part_cmp, chunks_cmp, last_cmp, mchunk_cmp, release_cmp}
-use Rattle.version_rules.specs.grammar.Last.{PlainLast, last_text}
+use Rattle.version_rules.specs.order.Parts.{chunk_bytes, as_part_cmp, chunks_cmp, last_cmp, mchunk_cmp, release_cmp, last_plain_cmp, chunk_cmp}
+use Rattle.version_rules.specs.grammar.{Chunk.PlainChunk, Chunk.Numeric, Chunk.Alphanum, Last.PlainLast, Last.last_text, MChunk.PlainMChunk, MChunk.mchunk_plain_cmp, MChunk.mchunk_text}
 use Rattle.version_rules.specs.laws.Last.{last_total, lasts_same, mchunk_total, mchunks_same}
-use Rattle.version_rules.specs.order.LastOrder.{last_plain_cmp}
-use Rattle.version_rules.specs.grammar.MChunk.{PlainMChunk, mchunk_plain_cmp, mchunk_text}
-use Rattle.version_rules.specs.laws.Release.{release_total, releases_same}
+
+-- ---- the laws of the order of releases, which the impls of `Ord`, `Eq` and `Hash` cite
+
+-- a chunk as its class, its number and its text
+class : PlainChunk → ℕ
+class (Numeric n) = 0
+class (Alphanum text) = 1
+
+chunk_number : PlainChunk → ℕ
+chunk_number (Numeric n) = n
+chunk_number (Alphanum text) = 0
+
+text : PlainChunk → List ℕ
+text (Numeric n) = []
+text (Alphanum t) = t
+
+chunk_in_turn : (a b : PlainChunk)
+    → then_cmp (on class nat_cmp) (then_cmp (on chunk_number nat_cmp) (on text bytes_cmp)) a b
+    ≡ chunk_cmp a b
+unfolding class chunk_number text
+chunk_in_turn (Numeric m) (Numeric n) = then_equal (nat_cmp m n)
+chunk_in_turn (Numeric m) (Alphanum t) = refl
+chunk_in_turn (Alphanum s) (Numeric n) = refl
+chunk_in_turn (Alphanum s) (Alphanum t) = refl
+
+pub chunk_total : IsTotalOrder chunk_cmp
+chunk_total = subst IsTotalOrder (λ i a b. chunk_in_turn a b i)
+    (then_total (on_total class nat_cmp_total)
+    (then_total (on_total chunk_number nat_cmp_total) (on_total text nat_list_cmp_total)))
+
+pub chunks_same : IsAntisymmetric chunk_cmp
+chunks_same (Numeric m) (Numeric n) e = ap Numeric (nat_cmp-IsAntisymmetric m n e)
+chunks_same (Numeric m) (Alphanum t) e = cc e
+chunks_same (Alphanum s) (Numeric n) e = cc e
+chunks_same (Alphanum s) (Alphanum t) e = ap Alphanum (bytes_same s t e)
+
+pub release_total : IsTotalOrder release_cmp
+release_total = lists_total chunk_total
+
+pub releases_same : IsAntisymmetric release_cmp
+releases_same = slice_cmp-IsAntisymmetric chunks_same
 
 numbered_total : IsTotalOrder numbered_cmp
 numbered_total =

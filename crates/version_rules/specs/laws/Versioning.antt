@@ -1,19 +1,12 @@
 -- The laws of the plain order of versions of any kind, which the impls of `Eq` and `Hash` cite.
-use Rattle.std.specs.Cmp.{IsTotalOrder, on_total, then_total, nat_cmp_total}
-use Rattle.std.specs.Cmp.Lexicographic.{lists_total, nat_list_cmp_total, options_total}
-use Rattle.std.specs.FinMap.{IsAntisymmetric, slice_cmp-IsAntisymmetric, nat_cmp-IsAntisymmetric}
-use Rattle.version_rules.specs.laws.Last.{mchunk_total, mchunks_same, sep_total, seps_same, last_total, lasts_same}
-use Rattle.version_order.specs.keys.Codes.{then_first, then_second, bytes_same, options_same, none_last_same, none_last_total, then_equal}
+use Rattle.std.specs.{Cmp.IsTotalOrder, Cmp.on_total, Cmp.then_total, Cmp.nat_cmp_total, Cmp.Lexicographic.lists_total, Cmp.Lexicographic.nat_list_cmp_total, Cmp.Lexicographic.options_total}
+use Rattle.std.specs.{FinMap.IsAntisymmetric, FinMap.slice_cmp-IsAntisymmetric, FinMap.nat_cmp-IsAntisymmetric, Option.option_cmp, Ordering.nat_cmp, Ordering.on, Ordering.then_cmp, declared.cmp.Ordering.TheVariants.Equal}
 use Rattle.version_rules.specs.grammar.Mess.{Further, PlainMess, further_plain_cmp, mess_plain_cmp, section_plain_cmp}
-use Rattle.version_rules.specs.laws.Release.{release_total, releases_same}
-use Rattle.version_rules.specs.grammar.Version.{PlainVersion}
-use Rattle.version_rules.specs.order.Kinds.{version_plain_cmp, SameButMetadata, semver_cmp}
-use Rattle.std.proofs.Common.{◌≡◌, Option, Some, None, refl, subst}
-use Rattle.std.specs.declared.cmp.Ordering.TheVariants.{Equal}
-use Rattle.version_rules.specs.grammar.SemVer.{PlainSemVer}
-use Rattle.std.specs.Option.{option_cmp}
-use Rattle.std.specs.Ordering.{nat_cmp, on, then_cmp}
 use Rattle.version_rules.specs.grammar.Versioning.{PlainVersioning, Ideal, General, Complex, kind_rank, versioning_plain_cmp}
+use Rattle.version_rules.specs.laws.Last.{mchunk_total, mchunks_same, sep_total, seps_same, last_total, lasts_same}
+use Rattle.version_rules.specs.{grammar.SemVer.PlainSemVer, grammar.Version.PlainVersion, laws.Part.release_total, laws.Part.releases_same, order.Kinds.version_plain_cmp, order.Kinds.SameButMetadata, order.Kinds.semver_cmp}
+use Rattle.version_order.specs.keys.Codes.{then_first, then_second, bytes_same, options_same, none_last_same, none_last_total, then_equal}
+use Rattle.std.proofs.Common.{◌≡◌, Option, Some, None, refl, subst}
 
 -- ---- the laws of the plain order of messy versions, which the impls of `Eq` and `Hash` cite
 

@@ -1,13 +1,7 @@
 -- How the versions of a kind compare: by precedence, and then field by field.
-use Rattle.std.specs.Prelude.{◌≡◌}
-use Rattle.std.specs.Ordering.{nat_cmp, on, then_cmp}
-use Rattle.std.specs.declared.cmp.Ordering.{Ordering}
+use Rattle.std.specs.{Option.option_cmp, Ordering.nat_cmp, Ordering.on, Ordering.then_cmp, Prelude.◌≡◌, declared.cmp.Ordering.Ordering}
 use Rattle.version_order.specs.keys.Lists.{none_last_cmp, bytes_cmp}
-use Rattle.version_rules.specs.order.Parts.{release_cmp}
-use Rattle.version_rules.specs.grammar.SemVer.{PlainSemVer}
-use Rattle.std.specs.Option.{option_cmp}
-use Rattle.version_rules.specs.order.LastOrder.{last_plain_cmp}
-use Rattle.version_rules.specs.grammar.Version.{PlainVersion}
+use Rattle.version_rules.specs.{grammar.SemVer.PlainSemVer, grammar.Version.PlainVersion, order.Parts.release_cmp, order.Parts.last_plain_cmp}
 
 -- ---- the order of strict versions (SemVer 2.0, section 11)
 

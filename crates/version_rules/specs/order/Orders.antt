@@ -1,11 +1,7 @@
 -- The orders of versions: by their keys; ties field by field.
-use Rattle.std.specs.Ordering.{on, then_cmp}
-use Rattle.std.specs.declared.cmp.Ordering.{Ordering}
-use Rattle.version_rules.specs.key.Key.{key_of, key_of_mess, key_of_version, precedence}
-use Rattle.version_rules.specs.grammar.Mess.{PlainMess, mess_plain_cmp}
-use Rattle.version_rules.specs.grammar.Version.{PlainVersion}
-use Rattle.version_rules.specs.order.Kinds.{version_plain_cmp}
-use Rattle.version_rules.specs.grammar.Versioning.{PlainVersioning, versioning_plain_cmp}
+use Rattle.std.specs.{Ordering.on, Ordering.then_cmp, declared.cmp.Ordering.Ordering}
+use Rattle.version_rules.specs.grammar.{Mess.PlainMess, Mess.mess_plain_cmp, Version.PlainVersion, Versioning.PlainVersioning, Versioning.versioning_plain_cmp}
+use Rattle.version_rules.specs.{key.Key.key_of, key.Key.key_of_mess, key.Key.key_of_version, key.Key.precedence, order.Kinds.version_plain_cmp}
 
 -- two general versions
 abbrev pub version_cmp : PlainVersion → PlainVersion → Ordering

@@ -1,17 +1,28 @@
 -- How parts and releases compare.
 use Rattle.std.specs.Prelude.{ℕ, List, [], ◌∷◌, Option, Some, None}
-use Rattle.std.specs.Cmp.Lexicographic.{slice_cmp}
-use Rattle.std.specs.Ordering.{nat_cmp, on, then_cmp}
-use Rattle.std.specs.declared.cmp.Ordering.{Ordering}
-use Rattle.std.specs.declared.cmp.Ordering.TheVariants.{Less, Greater}
-use Rattle.version_rules.specs.grammar.Chunk.{PlainChunk, Numeric, Alphanum}
-use Rattle.version_order.specs.keys.Codes.{list_bytes}
-use Rattle.version_order.specs.keys.Lists.{bytes_cmp}
-use Rattle.version_order.specs.keys.NumberBytes.{number_bytes, text_bytes}
-use Rattle.version_rules.specs.grammar.Last.{PlainLast, last_text}
-use Rattle.version_rules.specs.order.LastOrder.{last_plain_cmp}
-use Rattle.version_rules.specs.grammar.MChunk.{PlainMChunk, mchunk_plain_cmp, mchunk_text}
+use Rattle.std.specs.{Cmp.Lexicographic.slice_cmp, Ordering.nat_cmp, Ordering.on, Ordering.then_cmp, Ordering.ordering_then, declared.cmp.Ordering.Ordering, declared.cmp.Ordering.TheVariants.Less, declared.cmp.Ordering.TheVariants.Greater}
+use Rattle.version_rules.specs.grammar.Last.{PlainLast, last_text, Numeric, Rc, Post, Alphanum}
+use Rattle.version_rules.specs.grammar.{Chunk.PlainChunk, Chunk.Numeric, Chunk.Alphanum, MChunk.PlainMChunk, MChunk.mchunk_plain_cmp, MChunk.mchunk_text}
 use Rattle.version_rules.specs.key.PartKey.{chunk_parts, list_cmp, part_cmp, part_key}
+use Rattle.version_order.specs.keys.{Codes.list_bytes, Codes.number_bytes, Codes.text_bytes, Lists.bytes_cmp}
+
+-- ---- the plain order of last parts: variants and fields in the order of their declaration
+
+-- the place of a variant
+abbrev pub last_rank : PlainLast → ℕ
+last_rank (Numeric n) = 0
+last_rank (Rc a text b) = 1
+last_rank (Post a text) = 2
+last_rank (Alphanum text) = 3
+
+-- two last parts: by variant, then number, text and number in turn
+abbrev pub last_plain_cmp : PlainLast → PlainLast → Ordering
+last_plain_cmp (Numeric m) (Numeric n) = nat_cmp m n
+last_plain_cmp (Rc a s b) (Rc c t d) =
+    ordering_then (nat_cmp a c) (ordering_then (bytes_cmp s t) (nat_cmp b d))
+last_plain_cmp (Post a s) (Post c t) = ordering_then (nat_cmp a c) (bytes_cmp s t)
+last_plain_cmp (Alphanum s) (Alphanum t) = bytes_cmp s t
+last_plain_cmp a b = nat_cmp (last_rank a) (last_rank b)
 
 -- ---- the order of releases (SemVer 2.0, section 11), and their bytes
 

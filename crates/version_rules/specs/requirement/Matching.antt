@@ -1,16 +1,9 @@
 -- Which versions a requirement matches, and which a list of requirements matches.
 use Rattle.std.specs.Prelude.{◌≡◌, ⊤, List, IsTrue, MatchOption}
-use Rattle.std.specs.List.{All}
-use Rattle.std.specs.Ordering.{eq_by_cmp}
-use Rattle.version_rules.specs.declared.op.Op.{Op}
+use Rattle.std.specs.{List.All, Ordering.eq_by_cmp}
 use Rattle.version_rules.specs.declared.op.Op.TheVariants.{Exact, Greater, GreaterEq, Less, LessEq, Tilde, Caret, Wildcard}
-use Rattle.version_rules.specs.key.Key.{key_of, precedence}
-use Rattle.version_rules.specs.requirement.Requirement.{PlainRequirement}
-use Rattle.version_rules.specs.grammar.SemVer.{PlainSemVer}
-use Rattle.version_rules.specs.requirement.SemVerMatch.{numbers}
-use Rattle.version_rules.specs.order.Kinds.{semver_cmp}
-use Rattle.version_rules.specs.requirement.VersionMatch.{epoch_and_parts}
-use Rattle.version_rules.specs.grammar.Versioning.{PlainVersioning, Ideal, General, versioning_plain_cmp}
+use Rattle.version_rules.specs.{declared.op.Op.Op, grammar.SemVer.PlainSemVer, grammar.Versioning.PlainVersioning, grammar.Versioning.Ideal, grammar.Versioning.General, grammar.Versioning.versioning_plain_cmp}
+use Rattle.version_rules.specs.{key.Key.key_of, key.Key.precedence, order.Kinds.semver_cmp, requirement.Requirement.PlainRequirement, requirement.SemVerMatch.numbers, requirement.VersionMatch.epoch_and_parts}
 use Rattle.std.specs.declared.cmp.Ordering.TheVariants as ordering
 use Rattle.version_rules.specs.requirement.SemVerMatch as strict
 use Rattle.version_rules.specs.requirement.VersionMatch as general

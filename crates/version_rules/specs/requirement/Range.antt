@@ -1,29 +1,15 @@
 -- The range of keys that a requirement, or a list of them, asks for.
 use Rattle.std.specs.Prelude.{◌≡◌, ℕ, Bool, true, false, ◌&&◌, IsTrue, IfSome, List, [], ◌∷◌, ◌++◌, fold, if◌then◌else◌, Option, Some, None, not}
-use Rattle.std.specs.Option.{option_map_or, option_map}
-use Rattle.std.specs.Ordering.{is_lt}
-use Rattle.std.specs.declared.cmp.Ordering.TheVariants.{Less}
-use Rattle.version_order.specs.keys.Codes.{items_bytes}
-use Rattle.version_order.specs.keys.Lists.{bytes_cmp, split_last}
-use Rattle.version_order.specs.keys.NumberBytes.{number_bytes}
-use Rattle.version_rules.specs.key.PartKey.{PartKey, part_bytes}
-use Rattle.version_rules.specs.declared.kind.Kind.{Kind}
-use Rattle.version_rules.specs.declared.op.Op.{Op}
+use Rattle.std.specs.{List.filter, Option.option_map_or, Option.option_map, Ordering.is_lt, declared.cmp.Ordering.TheVariants.Less}
+use Rattle.version_order.specs.{Keyed.after, declared.ends.End.End, declared.ends.Kept.Kept}
+use Rattle.version_order.specs.declared.ends.Kept.TheVariants.{All, ButLast, ButLastOrOnly, ThroughOther}
+use Rattle.version_order.specs.keys.{Codes.items_bytes, Codes.number_bytes, Lists.bytes_cmp, Lists.split_last}
 use Rattle.version_rules.specs.declared.op.Op.TheVariants.{Exact, Greater, GreaterEq, Less as LessThan, LessEq, Tilde, Caret, Wildcard}
-use Rattle.version_rules.specs.declared.kinds.Kinds.{Kinds}
-use Rattle.version_rules.specs.key.Key.{key_of, key_bytes, Key}
-use Rattle.version_rules.specs.grammar.Versioning.{versioning_kind, PlainVersioning, Complex}
-use Rattle.version_rules.specs.requirement.Requirement.{PlainRequirement}
+use Rattle.version_rules.specs.{declared.ends.Ends.Ends, declared.kind.Kind.Kind, declared.kinds.Kinds.Kinds, declared.op.Op.Op, grammar.Versioning.versioning_kind, grammar.Versioning.PlainVersioning, grammar.Versioning.Complex}
+use Rattle.version_rules.specs.{key.Key.key_of, key.Key.key_bytes, key.Key.Key, key.PartKey.PartKey, key.PartKey.part_bytes, requirement.Requirement.PlainRequirement, requirement.Requirements.requirements_text}
 use Rattle.version_rules.specs.requirement.VersionMatch.{is_plain_zero}
 use Rattle.version_rules.specs.declared.kind.Kind.TheVariants as kind
-use Rattle.version_order.specs.Keyed.{after}
-use Rattle.version_order.specs.declared.ends.End.{End}
-use Rattle.version_rules.specs.declared.ends.Ends.{Ends}
-use Rattle.version_order.specs.declared.ends.Kept.{Kept}
-use Rattle.version_order.specs.declared.ends.Kept.TheVariants.{All, ButLast, ButLastOrOnly, ThroughOther}
 use Rattle.version_order.specs.declared.ends.End.TheVariants as end
-use Rattle.std.specs.List.{filter}
-use Rattle.version_rules.specs.requirement.Requirements.{requirements_text}
 
 -- keys from a low bound up to a high one, which may be missing, of versions of some kinds; if it is
 -- exact, all these versions match

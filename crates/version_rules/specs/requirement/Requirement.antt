@@ -2,9 +2,9 @@
 use Rattle.std.specs.Prelude.{ℕ, List, [], ◌∷◌, Option, Some, None, codes, ◌≡◌, ◌++◌}
 use Rattle.std.specs.Option.{option_map, option_or, IsSomeAnd, option_map_or}
 use Rattle.version_order.specs.texts.Front.{◌>>=◌, Front, after_mark, map_value}
-use Rattle.version_rules.specs.declared.op.Op.{Op}
 use Rattle.version_rules.specs.declared.op.Op.TheVariants.{Exact, Greater, GreaterEq, Less, LessEq, Tilde, Caret, Wildcard}
 use Rattle.version_rules.specs.grammar.Versioning.{PlainVersioning, SpellsVersioning, VersioningOwns, versioning_front, versioning_of, versioning_text}
+use Rattle.version_rules.specs.declared.op.Op.{Op}
 
 -- ---- the operators of requirements
 

@@ -1,11 +1,9 @@
 -- Lists of requirements.
 use Rattle.std.specs.Prelude.{◌≡◌, ℕ, ◌<◌, eqb, List, [], ◌∷◌, length, map, Option, Some}
-use Rattle.std.specs.List.{AllZip, join_with_byte, slice_split}
-use Rattle.std.specs.Option.{option_map, IsSomeAnd}
+use Rattle.std.specs.{List.AllZip, List.join_with_byte, List.slice_split, Option.option_map, Option.IsSomeAnd}
 use Rattle.version_order.specs.texts.Front.{◌>>=◌}
+use Rattle.version_rules.specs.{grammar.Versioning.PlainVersioning, requirement.Matching.MatchesAll}
 use Rattle.version_rules.specs.requirement.Requirement.{PlainRequirement, SpellsRequirement, requirement_of, requirement_text}
-use Rattle.version_rules.specs.requirement.Matching.{MatchesAll}
-use Rattle.version_rules.specs.grammar.Versioning.{PlainVersioning}
 
 -- the byte between the members of a list
 abbrev pub comma : ℕ

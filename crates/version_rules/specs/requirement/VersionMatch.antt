@@ -1,11 +1,8 @@
 -- Which general versions `~` or `^` matches, by epochs and lists of parts. Releases and metadata do
 -- not count.
 use Rattle.std.specs.Prelude.{◌≡◌, ⊤, ℕ, Bool, true, false, zero, List, [], ◌∷◌, ◌++◌, Some, None}
-use Rattle.std.specs.Bool.{MatchBool}
-use Rattle.std.specs.declared.cmp.Ordering.TheVariants.{Less}
-use Rattle.version_rules.specs.key.PartKey.{PartKey, Number, part_cmp}
-use Rattle.version_rules.specs.key.Key.{key_of_version}
-use Rattle.version_rules.specs.grammar.Version.{PlainVersion}
+use Rattle.std.specs.{Bool.MatchBool, declared.cmp.Ordering.TheVariants.Less}
+use Rattle.version_rules.specs.{grammar.Version.PlainVersion, key.Key.key_of_version, key.PartKey.PartKey, key.PartKey.Number, key.PartKey.part_cmp}
 
 -- the epoch of a version, or 0 without one, and its parts: its chunks, then its last part
 abbrev pub EpochAndParts : Type 0

@@ -1,9 +1,7 @@
 -- Ranges worked out by hand, byte by byte.
 use Rattle.std.specs.Prelude.{◌≡◌, ℕ, Bool, true, false, List, [], ◌∷◌, Option, Some, None, codes}
 use Rattle.std.specs.Option.{option_map}
-use Rattle.version_rules.specs.declared.kinds.Kinds.{Kinds}
-use Rattle.version_rules.specs.requirement.Range.{all_kinds, kind_alone, no_kinds, range_of}
-use Rattle.version_rules.specs.requirement.Requirements.{requirements_of}
+use Rattle.version_rules.specs.{declared.kinds.Kinds.Kinds, requirement.Range.all_kinds, requirement.Range.kind_alone, requirement.Range.no_kinds, requirement.Range.range_of, requirement.Requirements.requirements_of}
 use Rattle.version_rules.specs.declared.kind.Kind.TheVariants as kind
 
 -- the text is a list that asks for this range

@@ -2,15 +2,13 @@
 
 ghost use Rattle.std.specs.Prelude.{◌≡◌, ◌↔◌, [], List, Some, ℕ};
 ghost use Rattle.std.specs.Str.{IsAscii};
-ghost use Rattle.version_rules.specs.grammar.MChunk.{EndsChunk};
-ghost use Rattle.version_order.specs.texts.Grammar.{IsKept, IsPrinted, IsSound, IsSoundBefore};
-ghost use Rattle.version_rules.specs.grammar.Conversions.{version_of_semver};
 ghost use Rattle.version_rules.specs.grammar.Mess.{mess_front, mess_of, mess_text, PlainMess, SpellsMess};
+ghost use Rattle.version_rules.specs.grammar.SemVer.{semver_front, semver_of, semver_text, PlainSemVer, SpellsSemVer};
+ghost use Rattle.version_rules.specs.grammar.Version.{version_front, version_of, version_text, PlainVersion, SpellsVersion};
+ghost use Rattle.version_rules.specs.grammar.{Conversions.version_of_semver, MChunk.EndsChunk, Versioning.versioning_of, Versioning.versioning_text, Versioning.PlainVersioning, Versioning.SpellsVersioning};
 ghost use Rattle.version_rules.specs.requirement.Requirement.{requirement_of, requirement_text, PlainRequirement, SpellsRequirement};
 ghost use Rattle.version_rules.specs.requirement.Requirements.{requirements_of, requirements_text, SpellsRequirements};
-ghost use Rattle.version_rules.specs.grammar.SemVer.{semver_front, semver_of, semver_text, PlainSemVer, SpellsSemVer};
-ghost use Rattle.version_rules.specs.grammar.Versioning.{versioning_of, versioning_text, PlainVersioning, SpellsVersioning};
-ghost use Rattle.version_rules.specs.grammar.Version.{version_front, version_of, version_text, PlainVersion, SpellsVersion};
+ghost use Rattle.version_order.specs.texts.Grammar.{IsKept, IsPrinted, IsSound, IsSoundBefore};
 
 // A text parses as a version without rest exactly if it spells that version. A prefix spells the version that it
 // parses as, whatever the rest. A text spells at most one version, which prints the text. Only ASCII spells a version.

@@ -1,10 +1,7 @@
 //! Laws of matching.
 
 ghost use Rattle.std.specs.Prelude.{◌⊎◌, ◌↔◌, IsTrue, List};
-ghost use Rattle.version_rules.specs.requirement.Range.{inexact_members, IsIn, range_of};
-ghost use Rattle.version_rules.specs.requirement.Matching.{MatchesAll};
-ghost use Rattle.version_rules.specs.requirement.Requirement.{PlainRequirement};
-ghost use Rattle.version_rules.specs.grammar.Versioning.{PlainVersioning};
+ghost use Rattle.version_rules.specs.{grammar.Versioning.PlainVersioning, requirement.Matching.MatchesAll, requirement.Range.inexact_members, requirement.Range.IsIn, requirement.Range.range_of, requirement.Requirement.PlainRequirement};
 ghost use Rattle.version_rules.specs.worked.Ranges.{WorkedRanges};
 
 // For every list of requirements and every version, the list matches the version or does not.

@@ -1,25 +1,13 @@
 //! Laws of precedence and of the bytes of keys.
 #![tactic(auto, using(crate::proofs::lemmas::Order::laws))]
 
-ghost use Rattle.std.specs.Cmp.{IsTotalOrder};
-ghost use Rattle.std.specs.Ordering.{ordering_then};
 ghost use Rattle.std.specs.Prelude.{ℕ, ◌≡◌, ◌↔◌, ◌∷◌, ◌++◌, List, Option};
-ghost use Rattle.std.specs.declared.cmp.Ordering.TheVariants.{Equal};
-ghost use Rattle.version_order.specs.keys.Codes.{Writes, list_bytes};
-ghost use Rattle.version_order.specs.keys.Lists.{bytes_cmp};
-ghost use Rattle.version_rules.specs.grammar.MChunk.{PlainMChunk};
-ghost use Rattle.version_rules.specs.key.PartKey.{PartKey};
-ghost use Rattle.version_rules.specs.key.Texts.{AreBytes, key_text, texts_of};
-ghost use Rattle.version_rules.specs.key.Key.{Key, key_of, key_of_semver, key_of_version, precedence, sections_tail, key_bytes};
-ghost use Rattle.version_rules.specs.grammar.Mess.{mess_plain_cmp, PlainMess};
-ghost use Rattle.version_order.specs.texts.Grammar.{PlainSep};
-ghost use Rattle.version_rules.specs.order.Orders.{mess_cmp, version_cmp, versioning_cmp};
-ghost use Rattle.version_rules.specs.grammar.SemVer.{PlainSemVer};
-ghost use Rattle.version_rules.specs.order.Kinds.{semver_cmp, SameButMetadata, version_plain_cmp};
-ghost use Rattle.version_rules.specs.key.Tail.{Tail, section_bytes, sections_cmp, tail_bytes, tail_cmp};
-ghost use Rattle.version_rules.specs.grammar.Version.{PlainVersion};
-ghost use Rattle.version_rules.specs.grammar.Versioning.{versioning_plain_cmp, PlainVersioning, SameVersioning};
-ghost use Rattle.version_rules.specs.worked.Keys.{WorkedKeys};
+ghost use Rattle.std.specs.{Cmp.IsTotalOrder, Ordering.ordering_then, declared.cmp.Ordering.TheVariants.Equal};
+ghost use Rattle.version_order.specs.{keys.Codes.Writes, keys.Codes.list_bytes, keys.Lists.bytes_cmp, texts.Grammar.PlainSep};
+ghost use Rattle.version_rules.specs.key.Key.{Key, key_of, key_of_semver, key_of_version, precedence, sections_tail, key_bytes, Tail, section_bytes, sections_cmp, tail_bytes, tail_cmp};
+ghost use Rattle.version_rules.specs.grammar.{MChunk.PlainMChunk, Mess.mess_plain_cmp, Mess.PlainMess, SemVer.PlainSemVer, Version.PlainVersion, Versioning.versioning_plain_cmp, Versioning.PlainVersioning, Versioning.SameVersioning};
+ghost use Rattle.version_rules.specs.{key.PartKey.PartKey, key.Texts.AreBytes, key.Texts.key_text, key.Texts.texts_of, order.Kinds.semver_cmp, order.Kinds.SameButMetadata, order.Kinds.version_plain_cmp};
+ghost use Rattle.version_rules.specs.{order.Orders.mess_cmp, order.Orders.version_cmp, order.Orders.versioning_cmp, worked.Keys.WorkedKeys};
 
 // The order of messy sections is total, and Equal only for the same sections. Their bytes compare alike.
 fn sections_order()

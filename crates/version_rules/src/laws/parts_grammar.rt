@@ -1,17 +1,12 @@
 //! Laws of the grammars: a front reads what the grammar spells, and nothing else, and a value prints its text.
 
 ghost use Rattle.std.specs.Prelude.{◌≡◌, ◌↔◌};
-ghost use Rattle.std.specs.Char.{is_ascii_alphanumeric, is_ascii_digit};
-ghost use Rattle.std.specs.Fmt.{decimal};
-ghost use Rattle.version_rules.specs.grammar.Body.{body_front, body_text, SpellsBody};
-ghost use Rattle.version_order.specs.texts.Bytes.{is_identifier_byte, is_metadata_byte};
-ghost use Rattle.version_rules.specs.grammar.Chunk.{chunk_front, chunk_text, part_front, PlainChunk, SpellsChunk, SpellsPart};
-ghost use Rattle.version_order.specs.texts.Front.{dotted_front, run_front};
-ghost use Rattle.version_rules.specs.grammar.Last.{last_of, last_text, IsLastOf, PlainLast};
-ghost use Rattle.version_rules.specs.grammar.MChunk.{mchunk_front, mchunk_text, EndsChunk, SpellsMChunk};
-ghost use Rattle.version_rules.specs.grammar.Release.{SpellsMetadata, release_text, SpellsRelease};
-ghost use Rattle.version_rules.specs.grammar.Numeral.{unsigned_front, SpellsNumeral};
+ghost use Rattle.std.specs.{Char.is_ascii_alphanumeric, Char.is_ascii_digit, Fmt.decimal};
+ghost use Rattle.version_rules.specs.grammar.Body.{body_front, body_text, SpellsBody, SpellsMetadata, release_text, SpellsRelease};
+ghost use Rattle.version_rules.specs.grammar.Chunk.{chunk_front, chunk_text, part_front, PlainChunk, SpellsChunk, SpellsPart, unsigned_front, SpellsNumeral};
+ghost use Rattle.version_rules.specs.grammar.{Last.last_of, Last.last_text, Last.IsLastOf, Last.PlainLast, MChunk.mchunk_front, MChunk.mchunk_text, MChunk.EndsChunk, MChunk.SpellsMChunk};
 ghost use Rattle.version_order.specs.texts.Grammar.{EndsList, EndsRun, IsComplete, IsKept, IsPrinted, IsSound, IsSoundBefore};
+ghost use Rattle.version_order.specs.texts.{Bytes.is_identifier_byte, Bytes.is_metadata_byte, Front.dotted_front, Front.run_front};
 
 // A number parses as numerals are spelled, and prints as its numeral.
 fn numerals()

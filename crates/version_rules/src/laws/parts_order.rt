@@ -1,25 +1,12 @@
 //! Laws of the orders of parts and releases, and of their bytes.
 #![tactic(auto, using(crate::proofs::lemmas::Order::part_laws))]
 
-ghost use Rattle.std.specs.Cmp.{IsTotalOrder};
-ghost use Rattle.std.specs.Ordering.{nat_cmp};
-ghost use Rattle.std.specs.List.{list_any};
-ghost use Rattle.std.specs.Char.{is_ascii_digit};
-ghost use Rattle.std.specs.Str.Parse.{digits_value};
-ghost use Rattle.std.specs.Fmt.{decimal};
 ghost use Rattle.std.specs.Prelude.{ℕ, ◌≡◌, ◌↔◌, ◌+◌, ◌<◌, ◌^◌, ◌++◌, ◌∷◌, [], length, List, Option, true, false};
-ghost use Rattle.std.specs.declared.cmp.Ordering.TheVariants.{Equal};
-ghost use Rattle.version_rules.specs.grammar.Chunk.{PlainChunk};
-ghost use Rattle.version_order.specs.keys.Codes.{Writes};
-ghost use Rattle.version_order.specs.texts.DigitRun.{is_digits, starts_with_digit};
-ghost use Rattle.version_rules.specs.grammar.Last.{PlainLast};
-ghost use Rattle.version_rules.specs.order.LastOrder.{last_plain_cmp};
-ghost use Rattle.version_order.specs.keys.Lists.{bytes_cmp};
-ghost use Rattle.version_rules.specs.grammar.MChunk.{PlainMChunk};
-ghost use Rattle.version_order.specs.keys.NumberBytes.{length_bytes, number_bytes, text_bytes};
+ghost use Rattle.std.specs.{Char.is_ascii_digit, Cmp.IsTotalOrder, Fmt.decimal, List.list_any, Ordering.nat_cmp, Str.Parse.digits_value, declared.cmp.Ordering.TheVariants.Equal};
 ghost use Rattle.version_rules.specs.key.PartKey.{Number, PartKey, Word, list_cmp, part_bytes, part_cmp, part_key, parts_bytes, suffix_of, Split, split_bytes, split_cmp, split_of};
-ghost use Rattle.version_rules.specs.order.Parts.{chunks_cmp, last_cmp, mchunk_cmp, chunk_cmp, release_bytes, release_cmp};
-ghost use Rattle.version_rules.specs.worked.Parts.{WorkedBytes, WorkedOrder};
+ghost use Rattle.version_rules.specs.order.Parts.{last_plain_cmp, chunks_cmp, last_cmp, mchunk_cmp, chunk_cmp, release_bytes, release_cmp};
+ghost use Rattle.version_rules.specs.{grammar.Chunk.PlainChunk, grammar.Last.PlainLast, grammar.MChunk.PlainMChunk, worked.Keys.WorkedBytes, worked.Keys.WorkedOrder};
+ghost use Rattle.version_order.specs.{keys.Codes.Writes, keys.Codes.length_bytes, keys.Codes.number_bytes, keys.Codes.text_bytes, keys.Lists.bytes_cmp, texts.Front.is_digits, texts.Front.starts_with_digit};
 
 // A length below 255 is one byte. A longer one is the byte 255, then the bytes of the length less 255.
 fn length_bytes_by_255s()

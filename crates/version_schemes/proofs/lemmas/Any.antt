@@ -1,30 +1,17 @@
 -- Versions of any scheme: what is read of a text, and their orders.
 use Rattle.std.proofs.Common.{◌≡◌, ◌∙◌, ℕ, List, [], Option, None, Some, ap, refl, sym}
 use Rattle.std.proofs.lemmas.Cmp.{nat_cmp_total, nat_list_cmp_total, on_total, then_total, tied_itself}
-use Rattle.std.specs.Cmp.{IsTotalOrder}
-use Rattle.std.specs.Option.{option_cmp, option_map, option_map_or}
-use Rattle.std.specs.Ordering.{nat_cmp, ordering_then}
-use Rattle.std.specs.Prelude.{option_and_then}
-use Rattle.std.specs.declared.cmp.Ordering.{Ordering}
-use Rattle.version_rules.proofs.lemmas.Order.{key_bytes_alone}
-use Rattle.version_rules.proofs.lemmas.Versioning.{versioning_of-spells, versioning_printed}
-use Rattle.version_rules.specs.declared.kind.Kind.TheVariants.{Ideal}
-use Rattle.version_rules.specs.grammar.Versioning.{versioning_kind, PlainVersioning, versioning_of, versioning_text}
-use Rattle.version_rules.specs.key.Key.{key_of, precedence}
-use Rattle.version_order.specs.keys.Codes.{Writes}
-use Rattle.version_order.specs.keys.Lists.{bytes_cmp}
-use Rattle.version_rules.specs.order.Orders.{versioning_cmp}
+use Rattle.std.specs.{Cmp.IsTotalOrder, Option.option_cmp, Option.option_map, Option.option_map_or, Ordering.nat_cmp, Ordering.ordering_then, Prelude.option_and_then, declared.cmp.Ordering.Ordering}
+use Rattle.version_rules.proofs.lemmas.{Order.key_bytes_alone, Versioning.versioning_of-spells, Versioning.versioning_printed}
+use Rattle.version_rules.specs.{declared.kind.Kind.TheVariants.Ideal, grammar.Versioning.versioning_kind, grammar.Versioning.PlainVersioning, grammar.Versioning.versioning_of, grammar.Versioning.versioning_text}
+use Rattle.version_rules.specs.{key.Key.key_of, key.Key.precedence, order.Orders.versioning_cmp}
+use Rattle.version_order.specs.{Keyed.PlainKeyed, Rules.compared, keys.Codes.Writes, keys.Lists.bytes_cmp}
 use Rattle.version_texts.proofs.lemmas.order.Ties.{texts_alike, texts_tie_total}
-use Rattle.version_texts.specs.Order.{texts_tie}
-use Rattle.version_order.specs.Keyed.{PlainKeyed}
-use Rattle.version_texts.specs.Mixed.{mixed}
+use Rattle.version_texts.specs.{Mixed.mixed, Order.texts_tie}
 use Rattle.version_order.proofs.lemmas.Codes.{order_by_keys}
 use Rattle.version_schemes.proofs.lemmas.Table.{compare_by_keys, keys_some}
-use Rattle.version_schemes.specs.Scheme.{rules, scheme_number}
-use Rattle.version_order.specs.Rules.{compared}
 use Rattle.version_schemes.specs.any.Order.{PlainAny, any_cmp, any_of, any_precedence, with_key}
-use Rattle.version_schemes.specs.declared.scheme.Scheme.{Scheme}
-use Rattle.version_schemes.specs.declared.scheme.Scheme.TheVariants.{Mixed}
+use Rattle.version_schemes.specs.{Scheme.rules, Scheme.scheme_number, declared.scheme.Scheme.Scheme, declared.scheme.Scheme.TheVariants.Mixed}
 
 -- what is read of a text
 

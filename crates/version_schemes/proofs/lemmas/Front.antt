@@ -1,13 +1,10 @@
 -- Bytes written into a buffer as far as they fit.
 use Rattle.std.proofs.Common.{◌≡◌, ◌∙◌, ◌+◌, ◌-◌, ◌≤◌, ◌||◌, ℕ, zero, suc, Bool, true, List, [], ◌∷◌, ◌++◌, ap, append-nil, arith, drop, false, length, nat_lt, refl, replicate, set, sym, take}
-use Rattle.std.proofs.lemmas.Bool.{or_right}
-use Rattle.std.proofs.lemmas.Bool.Decides.{nat_tests}
+use Rattle.std.proofs.lemmas.{Bool.or_right, Bool.Decides.nat_tests, List.length-append, List.length-replicate, List.take_all}
 use Rattle.std.proofs.Math.Seq.{take-append_seam}
-use Rattle.std.proofs.lemmas.List.{length-append, length-replicate, take_all}
 use Rattle.version_order.proofs.lemmas.Sinks.{put_behind}
 use Rattle.version_order.specs.keys.Sinks.{length-put, put_at, put_nothing}
-use Rattle.version_schemes.specs.Front.{TakesFront}
-use Rattle.version_schemes.specs.declared.front.Front.{Front}
+use Rattle.version_schemes.specs.{Front.TakesFront, declared.key.Front.Front}
 
 -- nothing is written past the end
 pub put_past : (room : List ℕ) (place : ℕ) (bytes : List ℕ) → length room ≤ place → put_at room place bytes ≡ room

@@ -3,37 +3,23 @@ use Rattle.std.proofs.Common.{◌≡◌, ◌∙◌, ◌∷◌, [], IfSome, List,
 use Rattle.std.proofs.lemmas.Bool.{or_right}
 use Rattle.std.specs.Option.{is_some}
 use Rattle.scheme_deb.specs.Laws.{deb_compares, deb_nothing, deb_some_key}
-use Rattle.scheme_gem.specs.Laws.{gem_compares, gem_nothing, gem_some_key}
+use Rattle.scheme_gem.specs.{Laws.gem_compares, Laws.gem_nothing, Laws.gem_some_key, Order.gem_bytes, Rules.gem_facts, Texts.gem_of}
 use Rattle.scheme_pypi.specs.Laws.{pypi_compares, pypi_nothing, pypi_some_key}
 use Rattle.scheme_rpm.specs.Laws.{rpm_compares, rpm_nothing, rpm_some_key}
-use Rattle.scheme_semver.specs.Laws.{semver_compares, semver_nothing, semver_some_key}
+use Rattle.scheme_semver.specs.{Laws.semver_compares, Laws.semver_nothing, Laws.semver_some_key, Order.semver_bytes, Rules.semver_facts, Texts.semver_of}
 use Rattle.scheme_deb.proofs.lemmas.Costs.{deb_within}
 use Rattle.scheme_gem.proofs.lemmas.Costs.{gem_cost}
-use Rattle.scheme_gem.specs.Order.{gem_bytes}
-use Rattle.scheme_gem.specs.Rules.{gem_facts}
-use Rattle.scheme_gem.specs.Texts.{gem_of}
 use Rattle.scheme_pypi.proofs.lemmas.Costs.{pypi_within}
 use Rattle.scheme_rpm.proofs.lemmas.Costs.{rpm_within}
 use Rattle.scheme_semver.proofs.lemmas.Costs.{semver_cost}
-use Rattle.scheme_semver.specs.Order.{semver_bytes}
-use Rattle.scheme_semver.specs.Rules.{semver_facts}
-use Rattle.scheme_semver.specs.Texts.{semver_of}
-use Rattle.version_order.proofs.lemmas.Codes.{writes_on, compares_by_keys, is_read, some_key}
-use Rattle.version_order.proofs.lemmas.Costs.{ends_cost}
-use Rattle.version_order.specs.Facts.{key_room}
-use Rattle.version_order.specs.Keyed.{AreWithin}
-use Rattle.version_order.specs.Rules.{ComparesByKeys}
-use Rattle.version_order.specs.Viable.{IsViable}
+use Rattle.version_order.proofs.lemmas.{Codes.writes_on, Codes.compares_by_keys, Codes.is_read, Codes.some_key, Costs.ends_cost}
+use Rattle.version_order.specs.{Facts.key_room, Keyed.AreWithin, Rules.ComparesByKeys, Viable.IsViable}
 use Rattle.version_rules.proofs.lemmas.Order.{key_writes}
-use Rattle.version_rules.specs.grammar.Versioning.{versioning_of}
-use Rattle.version_rules.specs.key.Key.{key_of}
-use Rattle.version_texts.proofs.lemmas.requirement.EndOrder.{mixed_within}
-use Rattle.version_texts.proofs.lemmas.Viable.{any_kind}
-use Rattle.version_texts.specs.Mixed.{mixed, mixed_facts, mixed_some}
-use Rattle.version_texts.specs.Scan.{is_general}
-use Rattle.version_schemes.specs.Scheme.{is_mixed, names, rules, scheme_named}
-use Rattle.version_schemes.specs.declared.scheme.Scheme.{Scheme}
+use Rattle.version_rules.specs.{grammar.Versioning.versioning_of, key.Key.key_of}
+use Rattle.version_texts.proofs.lemmas.{Viable.any_kind, requirement.EndOrder.mixed_within}
+use Rattle.version_texts.specs.{Mixed.mixed, Mixed.mixed_facts, Mixed.mixed_some, Scan.is_general}
 use Rattle.version_schemes.specs.declared.scheme.Scheme.TheVariants.{Deb, Gem, Mixed, Pypi, Rpm, SemVer}
+use Rattle.version_schemes.specs.{Scheme.is_mixed, Scheme.names, Scheme.rules, Scheme.scheme_named, declared.scheme.Scheme.Scheme}
 
 -- texts compare by the scheme's own words as their keys do
 pub compare_by_keys : (scheme : Scheme) → ComparesByKeys (rules scheme)

@@ -1,24 +1,15 @@
 -- Versions of any scheme, in plain terms.
 use Rattle.std.specs.Prelude.{ℕ, List}
-use Rattle.scheme_deb.specs.Deb.{plain_deb}
-use Rattle.scheme_deb.specs.Order.{deb_bytes}
-use Rattle.scheme_gem.specs.Rules.{plain_gem}
-use Rattle.scheme_gem.specs.Order.{gem_bytes}
-use Rattle.scheme_pypi.specs.Pypi.{plain_pypi}
-use Rattle.scheme_pypi.specs.Order.{pypi_bytes}
-use Rattle.scheme_rpm.specs.Rpm.{plain_rpm}
-use Rattle.scheme_rpm.specs.Order.{rpm_bytes}
-use Rattle.scheme_semver.specs.Rules.{plain_semver}
-use Rattle.scheme_semver.specs.Order.{semver_bytes}
-use Rattle.version_rules.specs.declared.kind.Kind.TheVariants.{Ideal}
-use Rattle.version_rules.specs.grammar.Versioning.{versioning_kind, versioning_text}
-use Rattle.version_schemes.specs.any.Order.{PlainAny}
-use Rattle.version_schemes.specs.declared.any.AnyVersion.{AnyVersion}
-use Rattle.version_schemes.specs.declared.any.AnyVersion.TheVariants as any
-use Rattle.version_schemes.specs.declared.scheme.Scheme.{Scheme}
+use Rattle.scheme_deb.specs.{Deb.plain_deb, Order.deb_bytes}
+use Rattle.scheme_gem.specs.{Order.gem_bytes, Rules.plain_gem}
+use Rattle.scheme_pypi.specs.{Order.pypi_bytes, Pypi.plain_pypi}
+use Rattle.scheme_rpm.specs.{Order.rpm_bytes, Rpm.plain_rpm}
+use Rattle.scheme_semver.specs.{Order.semver_bytes, Rules.plain_semver}
+use Rattle.version_rules.specs.{declared.kind.Kind.TheVariants.Ideal, grammar.Versioning.versioning_kind, grammar.Versioning.versioning_text}
 use Rattle.version_schemes.specs.declared.scheme.Scheme.TheVariants.{Deb, Gem, Mixed, Pypi, Rpm, SemVer}
-use Rattle.version_texts.specs.Mixed.{mixed}
-use Rattle.version_texts.specs.VersioningRef.{plain_versioning_ref}
+use Rattle.version_schemes.specs.{any.Order.PlainAny, declared.any.AnyVersion.AnyVersion, declared.scheme.Scheme.Scheme}
+use Rattle.version_texts.specs.{Mixed.mixed, VersioningRef.plain_versioning_ref}
+use Rattle.version_schemes.specs.declared.any.AnyVersion.TheVariants as any
 
 -- one whose scheme has no kinds
 abbrev without_kind : Scheme → List ℕ → List ℕ → PlainAny

@@ -1,16 +1,9 @@
 -- Versions of any scheme.
-use Rattle.std.specs.Prelude.{ℕ, List, Option, if◌then◌else◌}
-use Rattle.std.specs.Option.{option_map, option_map_or}
-use Rattle.std.specs.Ordering.{nat_cmp, on, then_cmp}
-use Rattle.std.specs.declared.cmp.Ordering.{Ordering}
-use Rattle.version_rules.specs.declared.kind.Kind.{Kind}
-use Rattle.version_rules.specs.declared.kind.Kind.TheVariants.{Ideal}
-use Rattle.version_rules.specs.grammar.Versioning.{versioning_kind, versioning_of}
-use Rattle.version_order.specs.keys.Lists.{bytes_cmp}
-use Rattle.version_schemes.specs.Scheme.{is_mixed, rules, scheme_number}
-use Rattle.version_schemes.specs.declared.scheme.Scheme.{Scheme}
+use Rattle.std.specs.{Option.option_map, Option.option_map_or, Ordering.nat_cmp, Ordering.on, Ordering.then_cmp, Prelude.ℕ, Prelude.List, Prelude.Option, Prelude.if◌then◌else◌, declared.cmp.Ordering.Ordering}
+use Rattle.version_rules.specs.{declared.kind.Kind.Kind, declared.kind.Kind.TheVariants.Ideal, grammar.Versioning.versioning_kind, grammar.Versioning.versioning_of}
+use Rattle.version_order.specs.{Keyed.PlainKeyed, keys.Lists.bytes_cmp}
+use Rattle.version_schemes.specs.{Scheme.is_mixed, Scheme.rules, Scheme.scheme_number, declared.scheme.Scheme.Scheme}
 use Rattle.version_texts.specs.Order.{texts_tie}
-use Rattle.version_order.specs.Keyed.{PlainKeyed}
 
 -- a version: its scheme, its text, its key, and the kind that breaks ties of keys with the text. Where a scheme
 -- has no kinds, nothing breaks these: all are strict.

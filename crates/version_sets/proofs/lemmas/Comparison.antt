@@ -1,18 +1,10 @@
 -- The ends of a comparison rise.
-use Rattle.std.proofs.Common.{◌≡◌, ◌∙◌, ◌<◌, ℕ, true, List, [], ◌∷◌, ◌++◌, ap, arith, refl}
-use Rattle.std.specs.Cmp.{nat_cmp_total, ranks, tied_itself}
-use Rattle.std.specs.List.Sorted.{IsStrictlySortedBy}
-use Rattle.std.specs.Ordering.{MatchOrdering, nat_cmp}
-use Rattle.std.specs.declared.cmp.Ordering.{Ordering}
-use Rattle.std.specs.declared.cmp.Ordering.TheVariants.{Less, Equal, Greater}
-use Rattle.version_order.specs.declared.ends.Kept.{Kept}
-use Rattle.version_order.specs.keys.Lists.{bytes_cmp}
-use Rattle.version_order.specs.Keyed.{after, BeginsKey, PlainKeyed}
-use Rattle.version_sets.specs.Comparison.{asks_parts, ends_with}
-use Rattle.version_sets.specs.Form.{Rise}
-use Rattle.version_sets.specs.declared.read.comparison.Comparison.{Comparison}
+use Rattle.std.proofs.Common.{[], ◌≡◌, ◌∙◌, ◌<◌, ℕ, true, List, ◌∷◌, ◌++◌, ap, arith, refl}
+use Rattle.std.proofs.lemmas.Grind.{common_steps}
+use Rattle.std.specs.{Cmp.nat_cmp_total, Cmp.tied_itself, List.Sorted.IsStrictlySortedBy, Ordering.nat_cmp, declared.cmp.Ordering.TheVariants.Less}
+use Rattle.version_order.specs.{Keyed.BeginsKey, Keyed.PlainKeyed, declared.ends.Kept.Kept, keys.Lists.bytes_cmp}
+use Rattle.version_sets.specs.{Comparison.asks_parts, Comparison.ends_with, Form.Rise, declared.read.comparison.Comparison.Comparison}
 use Rattle.version_order.specs.declared.ends.Kept.TheVariants as kept
-use Rattle.version_sets.specs.declared.read.comparison.Comparison.TheVariants as comparison
 
 begins_less : (bytes : List ℕ) (b : ℕ) (more : List ℕ) → bytes_cmp bytes (bytes ++ b ∷ more) ≡ Less
 begins_less [] b more = refl
@@ -23,12 +15,7 @@ none_less [] some = absurd (some refl)
 none_less (b ∷ bytes) some = refl
 
 below_four : (byte : ℕ) → byte < 4 → nat_cmp byte 4 ≡ Less
-below_four byte low = by (nat_cmp byte 4) (ranks byte 4)
-  where
-    by : (r : Ordering) → MatchOrdering r (byte < 4) (byte ≡ 4) (4 < byte) → r ≡ Less
-    by Less k = refl
-    by Equal k = absurd (omega (arith, k, low))
-    by Greater k = absurd (omega (arith, k, low))
+below_four byte low = grind (arith, common_steps)
 
 above_less : (begun : List ℕ) (byte : ℕ) (rest : List ℕ) → byte < 4
     → bytes_cmp (begun ++ byte ∷ rest) (begun ++ 4 ∷ []) ≡ Less
@@ -59,26 +46,5 @@ some_more (x ∷ bytes) b e = cc e
 pub rises : (c : Comparison) (version : PlainKeyed) → ¬ (version.key ≡ [])
     → (asks_parts c ≡ true → (kept : Kept) → BeginsKey (version.begun kept) version.key)
     → Rise (ends_with c version)
-rises comparison.Equal version some begins = two_rise version.key (after version.key) (begins_less version.key 0 [])
-rises comparison.Unequal version some begins =
-    three_rise [] version.key (after version.key) (none_less version.key some) (begins_less version.key 0 [])
-    (none_less (after version.key) (some_more version.key 0))
-rises comparison.Less version some begins = two_rise [] version.key (none_less version.key some)
-rises comparison.LessEq version some begins =
-    two_rise [] (after version.key) (none_less (after version.key) (some_more version.key 0))
-rises comparison.Greater version some begins = one_rises (after version.key)
-rises comparison.GreaterEq version some begins = one_rises version.key
-rises comparison.Earlier version some begins = two_rise [] version.key (none_less version.key some)
-rises comparison.Later version some begins = one_rises (after version.key)
-rises comparison.Tilde version some begins =
-    two_rise version.key (version.begun kept.ButLastOrOnly ++ 4 ∷ [])
-    (key_above (version.begun kept.ButLastOrOnly) version.key (begins refl kept.ButLastOrOnly))
-rises comparison.Caret version some begins =
-    two_rise version.key (version.begun kept.ThroughOther ++ 4 ∷ [])
-    (key_above (version.begun kept.ThroughOther) version.key (begins refl kept.ThroughOther))
-rises comparison.Prefix version some begins =
-    two_rise (version.begun kept.All) (version.begun kept.All ++ 4 ∷ []) (begins_less (version.begun kept.All) 4 [])
-rises comparison.NotPrefix version some begins =
-    let begun = version.begun kept.All in
-    three_rise [] begun (begun ++ 4 ∷ []) (none_less begun (begins refl kept.All).some) (begins_less begun 4 [])
-    (none_less (begun ++ 4 ∷ []) (some_more begun 4))
+rises c version some begins =
+    grind (arith, common_steps, two_rise, begins_less, three_rise, none_less, some_more, one_rises, key_above)

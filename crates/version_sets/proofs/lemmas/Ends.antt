@@ -1,20 +1,10 @@
 -- Sets of keys by their ends: two that hold the same keys have the same ends; all else; a merge.
-use Rattle.std.proofs.Common.{arith, ◌<◌, ◌≤◌, zero, suc, ◌+◌, ◌%◌, drop, lit<, subst, ◌==◌, ◌≡◌, ◌∙◌, ◌⊎◌, inl, inr, ℕ, Bool, true, false, not, List, [], ◌∷◌, length, if◌then◌else◌, ap, refl, sym}
-use Rattle.std.proofs.lemmas.Cmp.{nat_list_cmp_total}
-use Rattle.std.proofs.Math.Nat.{mod-lt, suc-mod}
-use Rattle.std.proofs.lemmas.Bool.{eqb-true}
-use Rattle.std.proofs.lemmas.List.{nil_from_length}
-use Rattle.std.specs.Bool.{beq}
-use Rattle.std.specs.Cmp.{IsTotalOrder, tied_itself}
-use Rattle.std.specs.Ordering.{is_lt, ordering_reverse}
-use Rattle.std.specs.List.Sorted.{IsStrictlySortedBy}
-use Rattle.std.specs.List.{AllByRecursion}
-use Rattle.std.specs.declared.cmp.Ordering.{Ordering}
+use Rattle.std.proofs.Common.{[], arith, ◌≤◌, zero, suc, ◌+◌, ◌%◌, drop, subst, ◌==◌, ◌≡◌, ◌∙◌, ◌⊎◌, inl, inr, ℕ, Bool, true, false, not, List, ◌∷◌, length, ap, refl, sym}
+use Rattle.std.proofs.lemmas.{Bool.eqb-true, Cmp.nat_list_cmp_total, Grind.common_steps, List.nil_from_length}
+use Rattle.std.specs.{Bool.beq, Cmp.IsTotalOrder, Cmp.tied_itself, List.AllByRecursion, List.Sorted.IsStrictlySortedBy, Ordering.is_lt, Ordering.ordering_reverse, declared.cmp.Ordering.Ordering}
 use Rattle.std.specs.declared.cmp.Ordering.TheVariants.{Less, Equal, Greater}
-use Rattle.version_order.specs.keys.Codes.{bytes_same}
-use Rattle.version_order.specs.keys.Lists.{bytes_cmp}
-use Rattle.version_sets.specs.Form.{AreMerged, Rise, has}
-use Rattle.version_sets.specs.Pile.{kept, merged}
+use Rattle.version_order.specs.keys.{Codes.bytes_same, Lists.bytes_cmp}
+use Rattle.version_sets.specs.{Form.AreMerged, Form.Rise, Form.has, Pile.kept, Pile.merged}
 
 total : IsTotalOrder bytes_cmp
 total = nat_list_cmp_total
@@ -43,32 +33,19 @@ not_yet key end ends less = rw less refl
 
 from_there : (key end : List ℕ) (ends : List (List ℕ)) → ¬ (bytes_cmp key end ≡ Less)
     → has (end ∷ ends) key ≡ not (has ends key)
-from_there key end ends from = by (bytes_cmp key end) refl
-  where
-    by : (o : Ordering) → bytes_cmp key end ≡ o
-        → (if is_lt o then false else not (has ends key)) ≡ not (has ends key)
-    by Less e = absurd (from e)
-    by Equal e = refl
-    by Greater e = refl
+from_there key end ends from = grind (arith, common_steps)
 
 less_or_not : (o : Ordering) → (o ≡ Less) ⊎ ¬ (o ≡ Less)
-less_or_not Less = inl refl
-less_or_not Equal = inr (λ e. cc e)
-less_or_not Greater = inr (λ e. cc e)
+less_or_not o = grind (arith, common_steps)
 
 pub lt_less : (o : Ordering) → is_lt o ≡ true → o ≡ Less
-lt_less Less e = refl
-lt_less Equal e = cc e
-lt_less Greater e = cc e
+lt_less o e = grind (arith, common_steps)
 
 turned : (a b : List ℕ) → bytes_cmp a b ≡ Greater → bytes_cmp b a ≡ Less
 turned a b greater = total.antisymm b a ∙ ap ordering_reverse greater
 
 not_same : (a b : Bool) → not a ≡ not b → a ≡ b
-not_same true true e = refl
-not_same true false e = cc e
-not_same false true e = cc e
-not_same false false e = refl
+not_same a b e = grind (arith, common_steps)
 
 -- sets that hold the same keys have the same ends
 pub same : (one other : List (List ℕ)) → Rise one → Rise other
@@ -113,29 +90,16 @@ flip false b = b
 -- an end is kept where the two sides of it differ
 pub kept_differ : (now after : Bool) (end : List ℕ) (ends : List (List ℕ))
     → not (beq after now) ≡ true → kept now after end ends ≡ end ∷ ends
-kept_differ true true end ends differ = cc differ
-kept_differ true false end ends differ = refl
-kept_differ false true end ends differ = refl
-kept_differ false false end ends differ = cc differ
+kept_differ now after end ends differ = grind (arith, common_steps)
 
 pub kept_as_before : (now after : Bool) (end : List ℕ) (ends : List (List ℕ))
     → not (beq after now) ≡ false → kept now after end ends ≡ ends
-kept_as_before true true end ends alike = refl
-kept_as_before true false end ends alike = cc alike
-kept_as_before false true end ends alike = cc alike
-kept_as_before false false end ends alike = refl
+kept_as_before now after end ends alike = grind (arith, common_steps)
 
 kept_has : (now after : Bool) (end : List ℕ) (ends : List (List ℕ)) (key : List ℕ)
     → ¬ (bytes_cmp key end ≡ Less)
     → flip now (has (kept now after end ends) key) ≡ flip after (has ends key)
-kept_has true true end ends key from = refl
-kept_has true false end ends key from = ap not (from_there key end ends from) ∙ turn (has ends key)
-  where
-    turn : (b : Bool) → not (not b) ≡ b
-    turn true = refl
-    turn false = refl
-kept_has false true end ends key from = from_there key end ends from
-kept_has false false end ends key from = refl
+kept_has now after end ends key from = grind (arith, common_steps)
 
 -- a key above all ends of both
 abbrev pub Above : List ℕ → List (List ℕ) → Type 0
@@ -143,37 +107,21 @@ Above low ends = AllByRecursion (λ end. bytes_cmp low end ≡ Less) ends
 
 kept_above : (now after : Bool) (low end : List ℕ) (ends : List (List ℕ)) → bytes_cmp low end ≡ Less
     → Above low ends → Above low (kept now after end ends)
-kept_above true true low end ends less all = all
-kept_above true false low end ends less all = (less, all)
-kept_above false true low end ends less all = (less, all)
-kept_above false false low end ends less all = all
+kept_above now after low end ends less all = grind (arith, common_steps)
 
 flip_none : (a : Bool) (ends : List (List ℕ)) (key : List ℕ) → Above key ends
     → flip a (has ends key) ≡ a
-flip_none a ends key over = ap (flip a) (before ends key over) ∙ by a
-  where
-    by : (a : Bool) → flip a false ≡ a
-    by true = refl
-    by false = refl
+flip_none a ends key over = grind (arith, common_steps, before)
 
 -- past an end the side is the other one
 flip_past : (a : Bool) (end : List ℕ) (ends : List (List ℕ)) (key : List ℕ)
     → ¬ (bytes_cmp key end ≡ Less) → flip a (has (end ∷ ends) key) ≡ flip (not a) (has ends key)
-flip_past a end ends key from = ap (flip a) (from_there key end ends from) ∙ by a (has ends key)
-  where
-    by : (a b : Bool) → flip a (not b) ≡ flip (not a) b
-    by true true = refl
-    by true false = refl
-    by false true = refl
-    by false false = refl
+flip_past a end ends key from = grind (arith, common_steps)
 
 kept_rise : (now after : Bool) (end : List ℕ) (ends : List (List ℕ)) → Above end ends → Rise ends
     → Rise (kept now after end ends)
 unfolding IsStrictlySortedBy
-kept_rise true true end ends over rise = rise
-kept_rise true false end ends over rise = (over, rise)
-kept_rise false true end ends over rise = (over, rise)
-kept_rise false false end ends over rise = rise
+kept_rise now after end ends over rise = grind (arith, common_steps)
 
 -- what is counted of each end
 abbrev pub counted : (List ℕ → ℕ) → List (List ℕ) → ℕ
@@ -182,10 +130,7 @@ counted of (end ∷ ends) = of end + counted of ends
 
 kept_total : (of : List ℕ → ℕ) (now after : Bool) (end : List ℕ) (ends : List (List ℕ))
     → counted of (kept now after end ends) ≤ of end + counted of ends
-kept_total of true true end ends = omega arith
-kept_total of true false end ends = omega arith
-kept_total of false true end ends = omega arith
-kept_total of false false end ends = omega arith
+kept_total of now after end ends = grind (arith, common_steps)
 
 -- The ends of a side that are left behind an end, which was the first of them, or is below all.
 record Side (end : List ℕ) (a : Bool) (ends : List (List ℕ)) (a_after : Bool) (left : List (List ℕ)) : Type 0 where
@@ -197,22 +142,10 @@ record Side (end : List ℕ) (a : Bool) (ends : List (List ℕ)) (a_after : Bool
 
 passed : (a : Bool) (end : List ℕ) (ends : List (List ℕ)) → Rise (end ∷ ends) → Side end a (end ∷ ends) (not a) ends
 unfolding IsStrictlySortedBy
-passed a end ends rise = record {
-  above = λ low all. all.1;
-  over = rise.0;
-  below = λ key less. (less, below_all key end ends less rise.0);
-  past = λ key from. flip_past a end ends key from;
-  rise = rise.1;
-}
+passed a end ends rise = grind (arith, common_steps, below_all, flip_past)
 
 stays : (a : Bool) (end : List ℕ) (ends : List (List ℕ)) → Rise ends → Above end ends → Side end a ends a ends
-stays a end ends rise over = record {
-  above = λ low all. all;
-  over = over;
-  below = λ key less. below_all key end ends less over;
-  past = λ key from. refl;
-  rise = rise;
-}
+stays a end ends rise over = grind (arith, common_steps, below_all)
 
 -- what is made of ends that rise, by what is before them
 pub record AreKeys (rule : Bool → Bool → Bool) (a b : Bool) (one other new : List (List ℕ)) : Type 0 where
@@ -260,14 +193,7 @@ next rule a b a_after b_after end one other one_left other_left rest fewer sides
 pub is_made : (rule : Bool → Bool → Bool) (a b : Bool) (one other : List (List ℕ))
     → IsMade rule a b one other (merged rule a b one other)
 unfolding IsStrictlySortedBy
-is_made rule a b [] [] = record {
-  size = λ of. omega arith;
-  keys = λ rise rise_too. record {
-    above = λ low over over_too. tt;
-    rise = tt;
-    are = λ key. flip_none (rule a b) [] key tt ∙ sym (λ i. rule (flip_none a [] key tt i) (flip_none b [] key tt i));
-  };
-}
+is_made rule a b [] [] = grind (arith, common_steps, flip_none)
 is_made rule a b (x ∷ one) [] =
     next rule a b (not a) b x (x ∷ one) [] one [] (merged rule (not a) b one []) (λ of. omega arith)
     (λ rise rise_too. (passed a x one rise, stays b x [] tt tt, λ low over over_too. over.0))
@@ -348,12 +274,7 @@ abbrev pub odd : ℕ → Bool
 odd n = n % 2 == 1
 
 odd_next : (n : ℕ) → odd (n + 1) ≡ not (odd n)
-odd_next n = ap odd (omega arith) ∙ ap (λ r. r == 1) (suc-mod n 2) ∙ by (n % 2) (mod-lt n (lit< tt))
-  where
-    by : (r : ℕ) → r < 2 → (suc r % 2 == 1) ≡ not (r == 1)
-    by zero small = refl
-    by (suc zero) small = refl
-    by (suc (suc r)) small = absurd (omega (arith, small))
+odd_next n = grind (arith, common_steps)
 
 pub rise_drop : (ends : List (List ℕ)) (n : ℕ) → Rise ends → Rise (drop n ends)
 unfolding IsStrictlySortedBy
@@ -366,18 +287,12 @@ pub above_from : (ends : List (List ℕ)) (place : ℕ) (end : List ℕ) (behind
     → Rise ends → drop place ends ≡ end ∷ behind → bytes_cmp key end ≡ Less
     → Above key (drop place ends)
 unfolding IsStrictlySortedBy
-above_from ends place end behind key rise is less =
-    let rising = subst Rise is (rise_drop ends place rise) in
-    subst (Above key) (sym is) (less, below_all key end behind less rising.0)
+above_from ends place end behind key rise is less = grind (arith, common_steps, rise_drop, below_all)
 
 below_later : (first : List ℕ) (ends : List (List ℕ)) (place : ℕ) (end : List ℕ) (behind : List (List ℕ))
     → AllByRecursion (λ further. bytes_cmp first further ≡ Less) ends → drop place ends ≡ end ∷ behind
     → bytes_cmp first end ≡ Less
-below_later first [] zero end behind all is = cc is
-below_later first [] (suc place) end behind all is = cc is
-below_later first (next ∷ ends) zero end behind all is = ap (bytes_cmp first) (sym (cc is)) ∙ all.0
-below_later first (next ∷ ends) (suc place) end behind all is =
-    below_later first ends place end behind all.1 is
+below_later first ends place end behind all is = grind (arith, common_steps)
 
 -- a key that is not below an end has passed it, and all before it
 pub passed_from : (ends : List (List ℕ)) (place : ℕ) (end : List ℕ) (key : List ℕ) → Rise ends
@@ -386,8 +301,7 @@ pub passed_from : (ends : List (List ℕ)) (place : ℕ) (end : List ℕ) (key :
 unfolding IsStrictlySortedBy
 passed_from [] zero end key rise is from = cc is
 passed_from [] (suc place) end key rise is from = cc is
-passed_from (first ∷ ends) zero end key rise is from =
-    from_there key first ends (λ less. from (ap (bytes_cmp key) (sym (cc is)) ∙ less))
+passed_from (first ∷ ends) zero end key rise is from = grind (arith, common_steps, from_there)
 passed_from (first ∷ ends) (suc place) end key rise is from =
     let further : suc place + 1 ≡ suc (place + 1) = omega arith in
     let here : drop place ends ≡ end ∷ drop (place + 1) ends =

@@ -1,21 +1,12 @@
 -- Alternatives that leave a key out: what a reading says of the members behind a piece.
-use Rattle.std.proofs.Common.{◌≡◌, ◌∙◌, ◌≤◌, ◌+◌, ◌<◌, ◌&&◌, ℕ, suc, Bool, true, false, List, [], ◌∷◌, length, Option, Some, None, IfSome, ap, arith, refl, subst, sym}
-use Rattle.std.proofs.lemmas.Bool.{or_parts}
-use Rattle.std.specs.List.{list_all}
-use Rattle.std.specs.Option.{is_some}
-use Rattle.version_order.specs.declared.facts.Operators.{Operators}
-use Rattle.version_order.specs.Keyed.{PlainKeyed}
-use Rattle.version_sets.specs.Comparison.{ends_with}
-use Rattle.version_sets.specs.Form.{has}
+use Rattle.std.proofs.Common.{[], ◌≡◌, ◌∙◌, ◌≤◌, ◌+◌, ◌<◌, ℕ, suc, true, false, List, ◌∷◌, length, Option, Some, None, IfSome, ap, arith, refl, subst, sym}
+use Rattle.std.proofs.lemmas.{Bool.or_parts, Grind.common_steps}
+use Rattle.std.specs.{List.list_all, Option.is_some}
+use Rattle.version_order.specs.{Keyed.PlainKeyed, declared.facts.Operators.Operators}
 use Rattle.version_sets.specs.Excluding.{AreLeft, EndsAt, StandsBefore, first_out, found_or, leave_out, left_read, room_left, span_of, steps_left, with_found}
-use Rattle.version_sets.specs.Pieces.{PlainPiece, pieces}
-use Rattle.version_sets.specs.Reading.{Asked, Member, Not, Reading, Right, With, Wrong, after_step, answered, pieces_room, read_pieces, set_has, with_member}
-use Rattle.version_sets.specs.Steps.{PlainStep, step}
-use Rattle.version_sets.specs.declared.read.comparison.Comparison.{Comparison}
-use Rattle.version_sets.specs.declared.read.excluding.Span.{Span}
-use Rattle.version_sets.specs.declared.read.pieces.Pieces.{Pieces}
-use Rattle.version_sets.specs.declared.read.steps.State.{State}
-use Rattle.version_sets.specs.declared.read.steps.State.TheVariants.{Wanted}
+use Rattle.version_sets.specs.Reading.{Asked, Member, Reading, Right, With, after_step, answered, pieces_room, set_has, with_member}
+use Rattle.version_sets.specs.{Comparison.ends_with, Form.has, Pieces.PlainPiece, Pieces.pieces, Steps.PlainStep, Steps.step, declared.read.comparison.Comparison.Comparison, declared.read.excluding.Span.Span}
+use Rattle.version_sets.specs.declared.read.{pieces.Pieces.Pieces, steps.State.State, steps.State.TheVariants.Wanted}
 
 -- a reading is one with a member more
 pub record IsMore (member : Member) (rest : Reading) (first : List Member) (others : List (List Member)) : Type 0 where
@@ -25,9 +16,7 @@ pub record IsMore (member : Member) (rest : Reading) (first : List Member) (othe
 
 pub one_more : (member : Member) (rest : Reading) (first : List Member) (others : List (List Member))
     → with_member member rest ≡ Right first others → IsMore member rest first others
-one_more member (Wrong place reason) first others e = cc e
-one_more member (Right more behind) first others e =
-    record { more = more; rest_is = cc e; first_is = cc e }
+one_more member rest first others e = grind (arith, common_steps)
 
 -- a member was asked for, and there is one
 pub record IsAsked (member : List (List ℕ) → Member) (given : Asked) (rest : Reading) (first : List Member)
@@ -41,9 +30,7 @@ pub is_asked : (read_as : List ℕ → Option PlainKeyed) (words : Operators) (s
     (rest : Reading) (first : List Member) (others : List (List Member))
     → answered read_as words start place end given rest ≡ Right first others
     → IsAsked (λ ends. record { start = start; end = end; ends = ends }) given rest first others
-is_asked read_as words start place end (Not reason) rest first others e = cc e
-is_asked read_as words start place end (With c version) rest first others e =
-    record { comparison = c; version = version; is = refl; has_more = one_more _ rest first others e }
+is_asked read_as words start place end given rest first others e = grind (arith, common_steps)
 
 -- what the pieces behind a piece are read as, by what it does
 pub behind_step : (read_as : List ℕ → Option PlainKeyed) (words : Operators) (state : State) (here next : Pieces)
@@ -52,9 +39,7 @@ pub behind_step : (read_as : List ℕ → Option PlainKeyed) (words : Operators)
     → next.place + length next.left.now ≡ here.place + length here.left.now → told ≡ step state place piece
     → left_read read_as words state here ≡ Right first others
     → after_step read_as words (λ state. left_read read_as words state next) told ≡ Right first others
-behind_step read_as words state here next place piece told first others split end is e =
-    (λ i. after_step read_as words (λ state. read_pieces read_as words (end i) state (pieces next.place next.left.now)) (is i))
-    ∙ ap (read_pieces read_as words (here.place + length here.left.now) state) (sym split) ∙ e
+behind_step read_as words state here next place piece told first others split end is e = search (arith)
 
 -- a member that has a key, and one that has not
 pub passes : (key : List ℕ) (member : Member) (more : List Member) → has member.ends key ≡ true
@@ -133,16 +118,7 @@ one_out : (key : List ℕ) (first : List Member) (more : List Span)
     → list_all (λ member. has member.ends key) first ≡ false
     → length (with_found (first_out key first) more) ≡ suc (length more)
 one_out key [] more e = cc e
-one_out key (member ∷ first) more e = by (has member.ends key) refl (one_out key first more)
-  where
-    all_have : List Member → Bool
-    all_have = list_all (λ member. has member.ends key)
-
-    by : (has_it : Bool) → has member.ends key ≡ has_it
-        → (all_have first ≡ false → length (with_found (first_out key first) more) ≡ suc (length more))
-        → length (with_found (first_out key (member ∷ first)) more) ≡ suc (length more)
-    by true is rest = rw is (rest (ap (λ b. b && all_have first) (sym is) ∙ e))
-    by false is rest = rw is refl
+one_out key (member ∷ first) more e = grind (arith, common_steps, one_out key first more)
 
 -- so that there are as many such members as alternatives
 pub all_out : (key : List ℕ) (all : List (List Member)) → set_has all key ≡ false

@@ -1,12 +1,8 @@
 -- What lies where in the bytes of a set.
-use Rattle.std.proofs.Common.{◌⊎◌, ◌||◌, inl, inr, Bool, true, false, if◌then◌else◌, nat_lt, append_assoc, map, ◌≡◌, ◌∙◌, ◌+◌, ◌-◌, ◌*◌, ◌<◌, ◌≤◌, ◌^◌, ℕ, zero, suc, List, [], ◌∷◌, ◌++◌, length, get_or, take, drop, ap, arith, refl, sym}
+use Rattle.std.proofs.Common.{[], ◌⊎◌, append_assoc, map, ◌≡◌, ◌∙◌, ◌+◌, ◌-◌, ◌*◌, ◌<◌, ◌≤◌, ◌^◌, ℕ, zero, suc, List, ◌∷◌, ◌++◌, length, get_or, take, drop, ap, arith, refl, sym}
+use Rattle.std.proofs.lemmas.{Bool.le-ltb, Grind.common_steps, List.drop_at, List.length-append, List.take_at, List.FromFn.length-map-range_with_len, Nat.from_le_bytes-to_le_bytes_8}
 use Rattle.std.proofs.Math.Seq.{drop-append-add, get_or-append_seam, take-append_seam, drop-append_seam}
-use Rattle.std.proofs.lemmas.Bool.{le-ltb, lt-ltb}
-use Rattle.std.proofs.lemmas.List.{drop_at, length-append, take_at}
-use Rattle.std.proofs.lemmas.List.FromFn.{length-map-range_with_len}
-use Rattle.std.specs.List.{concat, flat_map, range_with_len}
-use Rattle.std.proofs.lemmas.Nat.{from_le_bytes-to_le_bytes_8}
-use Rattle.std.specs.Int.{from_le_bytes, w64}
+use Rattle.std.specs.{Int.from_le_bytes, Int.w64, List.concat, List.flat_map, List.range_with_len}
 use Rattle.version_sets.specs.Form.{between, count_told, end_at, ends_in, form_bytes, form_ends, number, over_at, places}
 
 pub number_length : (n : ℕ) → length (number n) ≡ 8
@@ -70,13 +66,7 @@ over_within : (ends : List (List ℕ)) (i : ℕ) → length (concat (take i ends
 over_within [] zero = omega arith
 over_within [] (suc i) = omega arith
 over_within (end ∷ ends) zero = omega arith
-over_within (end ∷ ends) (suc i) =
-    omega (
-      arith,
-      over_within ends i,
-      length-append end (concat (take i ends)),
-      length-append end (concat ends),
-    )
+over_within (end ∷ ends) (suc i) = grind (arith, common_steps, over_within ends i, length-append)
 
 -- where so many ends are over, as it is read
 over_read : (ends : List (List ℕ)) (few : ℕ) → few ≤ length ends → length (concat ends) < 2 ^ 64
@@ -112,8 +102,7 @@ end_read ends place within small =
 row_length : (ns : List ℕ) → length (flat_map number ns) ≡ 8 * length ns
 unfolding number
 row_length [] = refl
-row_length (n ∷ ns) =
-    omega (arith, row_length ns, length-append (number n) (flat_map number ns), number_length n)
+row_length (n ∷ ns) = grind (arith, common_steps, row_length ns, length-append, number_length)
 
 pub row_size : (ends : List (List ℕ)) → length (flat_map number (places 0 ends)) ≡ 8 * length ends
 row_size ends = row_length (places 0 ends) ∙ ap (λ n. 8 * n) (places_length 0 ends)
@@ -121,15 +110,7 @@ row_size ends = row_length (places 0 ends) ∙ ap (λ n. 8 * n) (places_length 0
 pub form_length : (order : ℕ) (ends : List (List ℕ))
     → length (form_bytes order ends) ≡ 9 + 8 * length ends + length (concat ends)
 unfolding form_bytes number
-form_length order ends =
-    let row = flat_map number (places 0 ends) in
-    omega (
-      arith,
-      row_size ends,
-      number_length (length ends),
-      length-append (number (length ends)) (row ++ concat ends),
-      length-append row (concat ends),
-    )
+form_length order ends = grind (arith, common_steps, row_size, number_length, length-append)
 
 -- two texts cut alike are the same in both pieces
 pub cut_alike : (a b x y : List ℕ) → length a ≡ length b → a ++ x ≡ b ++ y → (a ≡ b) × (x ≡ y)
@@ -148,9 +129,7 @@ same_number n m same small small_too =
 pub count_is : (bytes : List ℕ) (first count : ℕ) (rest : List ℕ) → bytes ≡ first ∷ (number count ++ rest)
     → count < 2 ^ 64 → count_told bytes ≡ count
 unfolding number
-count_is bytes first count rest is small =
-    ap count_told is ∙ ap (from_le_bytes w64) (take-append_seam (number count) rest)
-    ∙ from_le_bytes-to_le_bytes_8 count small
+count_is bytes first count rest is small = grind (arith, common_steps)
 
 -- the pieces of the bytes of a set
 module _ (order first count : ℕ) (ends : List (List ℕ)) (small : count < 2 ^ 64) (few : length ends < 2 ^ 64) where
@@ -220,8 +199,7 @@ ends_left_from : (f : ℕ → List ℕ) (from count place : ℕ) → place < cou
     → drop place (map f (range_with_len from count))
     ≡ f (from + place) ∷ drop (place + 1) (map f (range_with_len from count))
 ends_left_from f from zero place within = absurd (omega (arith, within))
-ends_left_from f from (suc count) zero within =
-    ap (λ n. f n ∷ map f (range_with_len (from + 1) count)) (omega arith)
+ends_left_from f from (suc count) zero within = grind (arith, common_steps)
 ends_left_from f from (suc count) (suc place) within =
     let further : suc place + 1 ≡ suc (place + 1) = omega arith in
     rw further (ends_left_from f (from + 1) count place (omega (arith, within))
@@ -257,17 +235,4 @@ between_is bytes from over rise fits = rw (le-ltb over from rise, le-ltb (length
 
 pub nothing_between : (bytes : List ℕ) (from over : ℕ) → (over < from) ⊎ (length bytes < over)
     → between bytes from over ≡ between bytes 0 0
-nothing_between bytes from over wrong = by wrong ∙ sym (none (nat_lt 0 0 || nat_lt (length bytes) 0))
-  where
-    none : (b : Bool) → (if b then [] else take (0 - 0) (drop 0 bytes)) ≡ []
-    none true = refl
-    none false = refl
-
-    past : (b : Bool) → nat_lt (length bytes) over ≡ true
-        → (if b || nat_lt (length bytes) over then [] else take (over - from) (drop from bytes)) ≡ []
-    past true behind = refl
-    past false behind = rw behind refl
-
-    by : (over < from) ⊎ (length bytes < over) → between bytes from over ≡ []
-    by (inl fall) = rw (lt-ltb over from fall) refl
-    by (inr behind) = past (nat_lt over from) (lt-ltb (length bytes) over behind)
+nothing_between bytes from over wrong = grind (arith, common_steps)

@@ -1,31 +1,17 @@
 -- What members hold: by the order, and by the parts with which versions begin.
-use Rattle.std.proofs.Common.{◌≡◌, ◌∙◌, ◌+◌, ◌*◌, ℕ, List, [], ◌∷◌, ◌++◌, append-nil, ap, arith, length, refl, sym, ◌↔◌, true, false, not, Some, append_assoc, nat_cmp}
-use Rattle.std.specs.List.{concat, flat_map}
-use Rattle.version_order.specs.keys.Sinks.{put_at, put_both, put_nothing}
-use Rattle.version_order.proofs.lemmas.Sinks.{put_behind}
-use Rattle.version_sets.specs.Form.{form_bytes, number, places, has}
-use Rattle.version_sets.proofs.lemmas.Form.{number_length, row_size}
-use Rattle.std.specs.Cmp.{nat_cmp_total, tied_itself}
-use Rattle.std.specs.FinMap.{nat_cmp-IsAntisymmetric}
+use Rattle.std.proofs.Common.{[], ◌≡◌, ◌∙◌, ◌+◌, ◌*◌, ℕ, List, ◌∷◌, ◌++◌, append-nil, ap, arith, length, refl, sym, ◌↔◌, true, false, not, Some, append_assoc, nat_cmp}
+use Rattle.std.proofs.lemmas.Grind.{common_steps}
 use Rattle.std.specs.Ordering.{is_eq, is_ge, is_gt, is_le, is_lt, ordering_then}
-use Rattle.std.specs.declared.cmp.Ordering.{Ordering}
+use Rattle.std.specs.{Cmp.nat_cmp_total, Cmp.tied_itself, FinMap.nat_cmp-IsAntisymmetric, List.concat, List.flat_map, declared.cmp.Ordering.Ordering}
 use Rattle.std.specs.declared.cmp.Ordering.TheVariants.{Less, Equal, Greater}
-use Rattle.version_order.proofs.lemmas.Codes.{writes_alone}
-use Rattle.version_rules.proofs.lemmas.Order.{key_writes}
-use Rattle.version_order.proofs.lemmas.NumberBytes.{number_writes}
-use Rattle.version_rules.proofs.lemmas.Key.{lists_same, part_writes}
-use Rattle.version_rules.specs.grammar.Versioning.{PlainVersioning}
-use Rattle.version_order.specs.keys.Codes.{Writes, items_bytes}
-use Rattle.version_rules.specs.key.Key.{Key, key_of, precedence, key_bytes}
-use Rattle.version_order.specs.keys.NumberBytes.{number_bytes}
+use Rattle.version_order.specs.{Keyed.after, Keyed.BeginsKey, Keyed.PlainKeyed, keys.Codes.Writes, keys.Codes.items_bytes, keys.Codes.number_bytes, keys.Lists.bytes_cmp, keys.Sinks.put_at, keys.Sinks.put_both, keys.Sinks.put_nothing}
+use Rattle.version_order.proofs.lemmas.{Codes.writes_alone, NumberBytes.number_writes, Sinks.put_behind}
+use Rattle.version_sets.specs.{Comparison.ends_with, Form.form_bytes, Form.number, Form.places, Form.has, Pile.AreByOrder, Pile.BeginsWith}
+use Rattle.version_sets.proofs.lemmas.Form.{number_length, row_size}
+use Rattle.version_rules.proofs.lemmas.{Key.lists_same, Key.part_writes, Order.key_writes}
+use Rattle.version_rules.specs.key.Key.{Key, key_of, precedence, key_bytes, tail_bytes}
 use Rattle.version_rules.specs.key.PartKey.{PartKey, Number, Word, part_bytes, part_cmp, parts_bytes}
-use Rattle.version_rules.specs.key.Tail.{tail_bytes}
-use Rattle.version_rules.specs.laws.Part.{part_total}
-use Rattle.version_order.specs.keys.Lists.{bytes_cmp}
-use Rattle.version_rules.specs.requirement.Range.{begun}
-use Rattle.version_order.specs.Keyed.{after, BeginsKey, PlainKeyed}
-use Rattle.version_sets.specs.Comparison.{ends_with}
-use Rattle.version_sets.specs.Pile.{AreByOrder, BeginsWith}
+use Rattle.version_rules.specs.{grammar.Versioning.PlainVersioning, laws.Part.part_total, requirement.Range.begun}
 
 -- ---- bytes written into a buffer, piece by piece
 
@@ -45,17 +31,12 @@ put_over place rest bytes long =
     ∙ ap (λ (l : List ℕ). bytes ++ l) (put_nothing rest 0)
 
 pub put_whole : (place bytes : List ℕ) → length place ≡ length bytes → put_at place 0 bytes ≡ bytes
-put_whole place bytes long =
-    ap (λ (l : List ℕ). put_at l 0 bytes) (sym (append-nil place)) ∙ put_over place [] bytes long
-    ∙ append-nil bytes
+put_whole place bytes long = grind (arith, common_steps, append-nil place, put_over place, append-nil bytes)
 
 pub put_between : (front place rest bytes : List ℕ) (start : ℕ) → length front ≡ start
     → length place ≡ length bytes
     → put_at (front ++ (place ++ rest)) start bytes ≡ front ++ (bytes ++ rest)
-put_between front place rest bytes start at long =
-    ap (λ n. put_at (front ++ (place ++ rest)) n bytes) (sym at)
-    ∙ put_behind front (place ++ rest) bytes
-    ∙ ap (λ (l : List ℕ). front ++ l) (put_over place rest bytes long)
+put_between front place rest bytes start at long = grind (arith, common_steps, put_behind, put_over)
 
 -- bytes, and then others behind them
 pub put_next : (room after : List ℕ) (start next : ℕ) (bytes others : List ℕ)
@@ -99,9 +80,7 @@ module _ {V : Type 0} {order : V → V → Ordering} {key : V → List ℕ} (wri
 
 equal_is : (key low high : List ℕ) (o : Ordering) → bytes_cmp key low ≡ o
     → bytes_cmp key high ≡ ordering_then o Less → has (low ∷ high ∷ []) key ≡ is_eq o
-equal_is key low high Less at over = rw at refl
-equal_is key low high Equal at over = rw (at, over) refl
-equal_is key low high Greater at over = rw (at, over) refl
+equal_is key low high o at over = grind (arith, common_steps)
 
 -- all but what two ends hold
 pub all_but : (ends : List (List ℕ)) (key : List ℕ) → has ([] ∷ ends) key ≡ not (has ends key)
@@ -116,19 +95,13 @@ below_is key high o at = all_but (high ∷ []) key ∙ by o at
     by Greater at = rw at refl
 
 from_is : (key low : List ℕ) (o : Ordering) → bytes_cmp key low ≡ o → has (low ∷ []) key ≡ is_ge o
-from_is key low Less at = rw at refl
-from_is key low Equal at = rw at refl
-from_is key low Greater at = rw at refl
+from_is key low o at = grind (arith, common_steps)
 
 then_less_lt : (o : Ordering) → is_lt (ordering_then o Less) ≡ is_le o
-then_less_lt Less = refl
-then_less_lt Equal = refl
-then_less_lt Greater = refl
+then_less_lt o = grind (arith, common_steps)
 
 then_less_ge : (o : Ordering) → is_ge (ordering_then o Less) ≡ is_gt o
-then_less_ge Less = refl
-then_less_ge Equal = refl
-then_less_ge Greater = refl
+then_less_ge o = grind (arith, common_steps)
 
 pub by_order : {V : Type 0} (order : V → V → Ordering) (plain : V → PlainKeyed)
     → Writes order (λ v. (plain v).key) → (v r : V)
@@ -156,17 +129,7 @@ by_order order plain writes v r =
 -- a key in an interval is not below the low end, and below the high one
 interval : (key low high : List ℕ)
     → (has (low ∷ high ∷ []) key ≡ true) ↔ ((¬ (bytes_cmp key low ≡ Less)) × (bytes_cmp key high ≡ Less))
-interval key low high = by (bytes_cmp key low) (bytes_cmp key high) refl refl
-  where
-    by : (o p : Ordering) → bytes_cmp key low ≡ o → bytes_cmp key high ≡ p
-        → (has (low ∷ high ∷ []) key ≡ true) ↔ ((¬ (bytes_cmp key low ≡ Less)) × (bytes_cmp key high ≡ Less))
-    by Less p at over = (λ e. cc (rw at at e), λ e. absurd (e.0 at))
-    by Equal Less at over = (λ e. (λ less. cc (at, less), over), λ e. rw (at, over) refl)
-    by Equal Equal at over = (λ e. cc (rw (at, over) at e), λ e. cc (over, e.1))
-    by Equal Greater at over = (λ e. cc (rw (at, over) at e), λ e. cc (over, e.1))
-    by Greater Less at over = (λ e. (λ less. cc (at, less), over), λ e. rw (at, over) refl)
-    by Greater Equal at over = (λ e. cc (rw (at, over) at e), λ e. cc (over, e.1))
-    by Greater Greater at over = (λ e. cc (rw (at, over) at e), λ e. cc (over, e.1))
+interval key low high = grind (arith, common_steps)
 
 abbrev items : List PartKey → List ℕ
 items = items_bytes part_bytes
@@ -273,25 +236,14 @@ between k epoch ps = (
 pub prefix_is : (r v : PlainVersioning)
     → (has (begun (key_of r).epoch (key_of r).body ∷ (begun (key_of r).epoch (key_of r).body ++ 4 ∷ []) ∷ [])
     (key_bytes (key_of v)) ≡ true) ↔ BeginsWith (key_of r).epoch (key_of r).body (key_of v)
-prefix_is r v =
-    let low = begun (key_of r).epoch (key_of r).body in
-    let inside = interval (key_bytes (key_of v)) low (low ++ 4 ∷ []) in
-    let begins = between (key_of v) (key_of r).epoch (key_of r).body in
-    (λ e. begins.0 (inside.0 e), λ b. inside.1 (begins.1 b))
+prefix_is r v = search (arith, interval, between)
 
 -- bytes below others are below what these begin
 below_longer : (bytes low more : List ℕ) → bytes_cmp bytes low ≡ Less → bytes_cmp bytes (low ++ more) ≡ Less
 below_longer [] [] more less = cc less
 below_longer [] (y ∷ low) more less = refl
 below_longer (x ∷ bytes) [] more less = cc less
-below_longer (x ∷ bytes) (y ∷ low) more less = by (nat_cmp x y) refl (below_longer bytes low more)
-  where
-    by : (o : Ordering) → nat_cmp x y ≡ o
-        → (bytes_cmp bytes low ≡ Less → bytes_cmp bytes (low ++ more) ≡ Less)
-        → bytes_cmp (x ∷ bytes) ((y ∷ low) ++ more) ≡ Less
-    by Less is step = rw is refl
-    by Equal is step = rw is (step (rw is at less))
-    by Greater is step = cc (rw is at less)
+below_longer (x ∷ bytes) (y ∷ low) more less = grind (arith, common_steps, below_longer bytes low more)
 
 -- from a key on, below the bound of parts with which it begins
 pub series_is : (k key_r : Key) (epoch : ℕ) (ps : List PartKey) → BeginsKey (begun epoch ps) (key_bytes key_r)

@@ -1,14 +1,9 @@
 -- The pieces of a text, by what it begins with.
-use Rattle.std.proofs.Common.{◌≡◌, ◌≤◌, ℕ, zero, suc, List, [], ◌∷◌, ap, arith, length, refl, set, ◌∙◌, ◌+◌, ◌&&◌, Bool, true, false, ◌++◌, drop, inl, inr, one-add, sym}
-use Rattle.version_order.specs.keys.Sinks.{put_at}
-use Rattle.std.proofs.lemmas.Bool.{and_parts, cases_Bool, ne_eqb}
-use Rattle.std.proofs.lemmas.Bool.Decides.{nat_tests}
-use Rattle.std.specs.List.{list_all}
-use Rattle.std.specs.List.{prefix_len, take_while}
-use Rattle.version_order.proofs.lemmas.Front.{begins-drop}
-use Rattle.version_order.proofs.lemmas.Plain.{run_and_rest}
-use Rattle.version_order.proofs.lemmas.Runs.{not_true}
-use Rattle.version_order.specs.texts.Front.{begins}
+use Rattle.std.proofs.Common.{[], ◌≡◌, ◌≤◌, ℕ, zero, suc, List, ◌∷◌, ap, arith, length, refl, set, ◌∙◌, ◌+◌, ◌&&◌, Bool, true, false, ◌++◌, drop, inl, inr, one-add}
+use Rattle.std.proofs.lemmas.{Bool.cases_Bool, Bool.ne_eqb, Bool.Decides.nat_tests, Grind.common_steps}
+use Rattle.version_order.specs.{keys.Sinks.put_at, texts.Front.begins}
+use Rattle.std.specs.List.{list_all, prefix_len, take_while}
+use Rattle.version_order.proofs.lemmas.{Cuts.run_and_rest, Front.begins-drop}
 use Rattle.version_sets.specs.Pieces.{PlainPiece, Bar, Bars, Comma, Word, is_bar, is_blank, is_comma, is_word_byte, pieces, with_byte, with_piece}
 
 -- ---- bytes written into a buffer one by one
@@ -39,10 +34,7 @@ record IsOfWord (b : ℕ) : Type 0 where
   no_bar : is_bar b ≡ false
 
 of_word : (b : ℕ) → is_word_byte b ≡ true → IsOfWord b
-of_word b word =
-    let front = and_parts _ _ word in
-    let both = and_parts _ _ front.0 in
-    record { no_blank = not_true _ both.0; no_comma = not_true _ both.1; no_bar = not_true _ front.1 }
+of_word b word = grind (arith, common_steps)
 
 -- ---- pieces
 
@@ -85,11 +77,7 @@ pub at_word : (place b : ℕ) (word rest : List ℕ) → is_word_byte b ≡ true
     → pieces place ((b ∷ word) ++ rest)
     ≡ (place, Word (b ∷ word)) ∷ pieces (suc place + length word) rest
 at_word place b [] [] is all other = one_byte place b false [] (of_word b is)
-at_word place b [] (c ∷ rest) is all other =
-    let byte = of_word b is in
-    no_bars place b c rest byte.no_bar ∙ one_byte place b (is_word_byte c) (pieces (suc place) (c ∷ rest)) byte
-    ∙ ap (λ next. with_byte place b next (pieces (suc place) (c ∷ rest))) other
-    ∙ ap (λ n. (place, Word (b ∷ [])) ∷ pieces n (c ∷ rest)) (omega arith)
+at_word place b [] (c ∷ rest) is all other = grind (arith, common_steps, of_word, no_bars, one_byte)
 at_word place b (w ∷ word) rest is all other =
     let byte = of_word b is in
     let next : is_word_byte w ≡ true = first (is_word_byte w) (list_all is_word_byte word) all in
@@ -107,9 +95,7 @@ at_word place b (w ∷ word) rest is all other =
 
 pub first_comma : (text rest : List ℕ) (first : ℕ) → text ≡ first ∷ rest → first ≡ 44 → (place : ℕ)
     → pieces place text ≡ (place, Comma) ∷ pieces (place + 1) rest
-first_comma text rest first whole is place =
-    ap (pieces place) (whole ∙ ap (λ b. b ∷ rest) is) ∙ at_comma place rest
-    ∙ ap (λ n. (place, Comma) ∷ pieces n rest) (omega arith)
+first_comma text rest first whole is place = grind (arith, common_steps, at_comma)
 
 pub first_bars : (text rest behind : List ℕ) (first : ℕ) → text ≡ first ∷ rest → first ≡ 124
     → rest ≡ 124 ∷ behind → (place : ℕ) → pieces place text ≡ (place, Bars) ∷ pieces (place + 2) behind
@@ -119,9 +105,7 @@ first_bars text rest behind first whole is more place =
 
 pub first_bar : (text rest : List ℕ) (first : ℕ) → text ≡ first ∷ rest → first ≡ 124
     → begins is_bar rest ≡ false → (place : ℕ) → pieces place text ≡ (place, Bar) ∷ pieces (place + 1) rest
-first_bar text rest first whole is other place =
-    ap (pieces place) (whole ∙ ap (λ b. b ∷ rest) is) ∙ at_bar place rest other
-    ∙ ap (λ n. (place, Bar) ∷ pieces n rest) (omega arith)
+first_bar text rest first whole is other place = grind (arith, common_steps, at_bar)
 
 -- a byte that is no blank, comma or bar
 pub no_other : (b : ℕ) → is_blank b ≡ false → ¬ (b ≡ 44) → ¬ (b ≡ 124) → is_word_byte b ≡ true
@@ -132,18 +116,8 @@ of_run : (text tail word rest : List ℕ) (first : ℕ) → text ≡ first ∷ t
     → begins is_word_byte rest ≡ false
     → ((place : ℕ) → pieces place text ≡ (place, Word word) ∷ pieces (place + length word) rest)
     × (1 ≤ length word)
-of_run text tail [] rest first whole is cut all other =
-    let here : begins is_word_byte rest ≡ true = ap (begins is_word_byte) (sym cut ∙ whole) ∙ is in
-    cc (here, other)
-of_run text tail (b ∷ word) rest first whole is cut all other = (
-  λ place.
-      ap (pieces place) cut ∙ at_word place b word rest (rw same at is) (rw (rw same at is) at all) other
-      ∙ ap (λ n. (place, Word (b ∷ word)) ∷ pieces n rest) (omega arith),
-  omega arith,
-)
-  where
-    same : first ≡ b
-    same = cc (sym whole ∙ cut)
+of_run text tail [] rest first whole is cut all other = grind (arith, common_steps)
+of_run text tail (b ∷ word) rest first whole is cut all other = grind (arith, common_steps, at_word)
 
 pub first_word : (text tail word rest : List ℕ) (first : ℕ) → text ≡ first ∷ tail → is_word_byte first ≡ true
     → word ≡ take_while is_word_byte text → rest ≡ drop (prefix_len is_word_byte text) text

@@ -1,18 +1,11 @@
 -- Sets one behind another in a room: one more, and one in the place of two.
-use Rattle.std.proofs.Common.{◌≡◌, ◌+◌, ◌≤◌, ℕ, Bool, false, List, [], ◌∷◌, arith, length, length-append, refl, ◌∙◌, ◌-◌, ◌*◌, ◌<◌, ◌&&◌, ◌||◌, ◌++◌, Option, None, Some, append_assoc, ap, get_or, set, subst, sym, take}
-use Rattle.std.proofs.Math.Bool.{and_assoc, and_comm, or_assoc, or_comm}
-use Rattle.std.specs.List.{concat, flat_map}
-use Rattle.version_sets.specs.Pile.{merged, Begin, IsPile, all_have, through}
-use Rattle.std.proofs.lemmas.List.{get_or-set_other, get_or-set_same, take_at}
-use Rattle.std.specs.Option.{IsSomeAnd}
+use Rattle.std.proofs.Common.{[], ◌≡◌, ◌+◌, ◌≤◌, ℕ, Bool, false, List, ◌∷◌, arith, length, length-append, refl, ◌∙◌, ◌-◌, ◌*◌, ◌<◌, ◌++◌, Option, None, Some, append_assoc, ap, get_or, set, subst, sym, take}
+use Rattle.std.proofs.lemmas.{Grind.common_steps, List.get_or-set_other, List.get_or-set_same, List.take_at}
+use Rattle.std.specs.{List.concat, List.flat_map, Option.IsSomeAnd}
 use Rattle.version_sets.specs.Form.{Rise, has, form_bytes, number, places}
-use Rattle.version_sets.specs.Set.{both_ends, by_rule, left}
-use Rattle.version_sets.specs.declared.merge.Merge.{Merge}
-use Rattle.version_sets.specs.declared.merge.Rule.{Rule}
-use Rattle.version_sets.specs.declared.merge.Rule.TheVariants.{Both, Either, FirstAlone}
-use Rattle.version_sets.specs.declared.read.pile.Pile.{Pile}
-use Rattle.version_sets.proofs.lemmas.Ends.{are_merged, counted, is_made}
-use Rattle.version_sets.proofs.lemmas.Form.{form_length}
+use Rattle.version_sets.specs.Pile.{merged, Begin, IsPile, all_have, through}
+use Rattle.version_sets.specs.{Set.both_ends, Set.by_rule, Set.left, declared.merge.Merge.Merge, declared.merge.Rule.Rule, declared.merge.Rule.TheVariants.FirstAlone, declared.read.pile.Pile.Pile}
+use Rattle.version_sets.proofs.lemmas.{Ends.are_merged, Ends.counted, Ends.is_made, Form.form_length}
 
 -- ---- how many ends a merge has, and how many bytes these are
 
@@ -51,35 +44,19 @@ module _ (rule : Bool → Bool → Bool) (a b : Bool) (one other : List (List �
 pub no_longer : (order : ℕ) (rule : Bool → Bool → Bool) (one other : List (List ℕ))
     → length (form_bytes order (merged rule false false one other))
     ≤ length (form_bytes order one) + length (form_bytes order other)
-no_longer order rule one other =
-    omega (
-      arith,
-      form_length order one,
-      form_length order other,
-      form_length order (merged rule false false one other),
-      merged_few rule false false one other,
-      merged_short rule false false one other,
-    )
+no_longer order rule one other = grind (arith, common_steps, form_length, merged_few, merged_short)
 
 -- ---- one in the place of two
 
 pub nothing_alone : (rule : Rule) → by_rule rule false false ≡ false
-nothing_alone Both = refl
-nothing_alone Either = refl
-nothing_alone FirstAlone = refl
+nothing_alone rule = grind (arith, common_steps)
 
 -- the rule of what is made of sets goes for two of them
 all_merged : (rule : Rule) → ¬ (rule ≡ FirstAlone) → (made first last : List (List ℕ))
     (sets : List (List (List ℕ))) (key : List ℕ)
     → has made key ≡ by_rule rule (has first key) (has last key)
     → all_have rule (made ∷ sets) key ≡ all_have rule (last ∷ first ∷ sets) key
-all_merged Both other made first last sets key is =
-    ap (λ b. b && all_have Both sets key) (is ∙ and_comm (has first key) (has last key))
-    ∙ and_assoc (has last key) (has first key) (all_have Both sets key)
-all_merged Either other made first last sets key is =
-    ap (λ b. b || all_have Either sets key) (is ∙ or_comm (has first key) (has last key))
-    ∙ or_assoc (has last key) (has first key) (all_have Either sets key)
-all_merged FirstAlone other made first last sets key is = absurd (other refl)
+all_merged rule other made first last sets key is = grind (arith, common_steps)
 
 -- a pile of two sets or more
 pub record IsOfTwo (room below : List ℕ) (pile : Pile) (end : ℕ) (sets : List (List (List ℕ))) : Type 0 where
@@ -91,10 +68,8 @@ pub record IsOfTwo (room below : List ℕ) (pile : Pile) (end : ℕ) (sets : Lis
 pub of_two : (room below : List ℕ) (pile : Pile) (end : ℕ) (sets : List (List (List ℕ)))
     → IsPile room below pile end sets → 1 < pile.depth → IsOfTwo room below pile end sets
 of_two room below pile end [] is deep = absurd (omega (arith, is.begin, deep))
-of_two room below pile end (last ∷ []) is deep =
-    absurd (omega (arith, is.begin.1, is.begin.3, deep))
-of_two room below pile end (last ∷ first ∷ before) is deep =
-    record { last = last; first = first; before = before; sets_are = refl }
+of_two room below pile end (last ∷ []) is deep = grind (arith, common_steps)
+of_two room below pile end (last ∷ first ∷ before) is deep = grind (arith, common_steps)
 
 -- where the last two begin
 pub two_begin : (order : ℕ) (below starts : List ℕ) (depth : ℕ) (last first : List (List ℕ))
@@ -102,12 +77,7 @@ pub two_begin : (order : ℕ) (below starts : List ℕ) (depth : ℕ) (last firs
     → Begin order below starts (depth + 1) (last ∷ first ∷ before)
     → (get_or starts depth 0 ≡ length (through order below (first ∷ before)))
     × (get_or starts (depth - 1) 0 ≡ length (through order below before))
-two_begin order below starts depth last first before begin =
-    let at : depth ≡ begin.0 = omega (arith, begin.1) in
-    let at_first : depth - 1 ≡ begin.3.0 = omega (arith, begin.1, begin.3.1) in (
-      ap (λ n. get_or starts n 0) at ∙ begin.2,
-      ap (λ n. get_or starts n 0) at_first ∙ begin.3.2,
-    )
+two_begin order below starts depth last first before begin = search (arith)
 
 -- the bytes of one set in the place of those of two
 pub made : (room after below : List ℕ) (pile : Pile) (end first_at : ℕ) (last first : List (List ℕ))
@@ -202,39 +172,13 @@ module _ (room below : List ℕ) (pile : Pile) (end : ℕ) (sets : List (List (L
   module _ (first_at : ℕ) (merge : Merge) (is : AreTwo room below pile end first_at sets merge) where
     -- what is made has room in their place, and behind them
     pub in_place : length (form_bytes pile.order (left merge)) ≤ end - first_at
-    in_place =
-        omega (
-          arith,
-          ap (λ (ends : List (List ℕ)). length (form_bytes pile.order ends)) is.merged_are,
-          no_longer pile.order (by_rule pile.rule) is.two.first is.two.last,
-          is.are.size,
-          is.at,
-          length-append (through pile.order below (is.two.first ∷ is.two.before)) (form_bytes pile.order is.two.last),
-          length-append (through pile.order below is.two.before) (form_bytes pile.order is.two.first),
-        )
+    in_place = grind (arith, common_steps, no_longer, length-append)
 
     pub behind_them : 8 * both_ends merge + length (concat (left merge)) ≤ end
-    behind_them =
-        omega (
-          arith,
-          ap (λ (ends : List (List ℕ)). length (concat ends)) is.merged_are,
-          merged_short (by_rule pile.rule) false false is.two.first is.two.last,
-          is.both_are,
-          is.are.size,
-          length-append (through pile.order below (is.two.first ∷ is.two.before)) (form_bytes pile.order is.two.last),
-          length-append (through pile.order below is.two.before) (form_bytes pile.order is.two.first),
-          form_length pile.order is.two.first,
-          form_length pile.order is.two.last,
-        )
+    behind_them = grind (arith, common_steps, merged_short, length-append, form_length)
 
     pub few_enough : length (left merge) ≤ both_ends merge
-    few_enough =
-        omega (
-          arith,
-          ap (λ (ends : List (List ℕ)). length ends) is.merged_are,
-          merged_few (by_rule pile.rule) false false is.two.first is.two.last,
-          is.both_are,
-        )
+    few_enough = grind (arith, common_steps, merged_few)
 
 -- one set more
 begin_set : (order : ℕ) (below starts : List ℕ) (depth place start : ℕ) (sets : List (List (List ℕ)))

@@ -1,14 +1,9 @@
 -- A set while it is read: one member more, the end of an alternative, the end of the text.
-use Rattle.std.proofs.Common.{◌≡◌, ◌∙◌, ◌+◌, ◌≤◌, ◌&&◌, ◌||◌, ℕ, zero, suc, Bool, true, false, List, [], ◌∷◌, ◌++◌, append-nil, append_assoc, ap, arith, drop, length, length-append, refl, sym, take}
-use Rattle.std.proofs.Math.Bool.{and-true, and_assoc, or_assoc}
-use Rattle.std.proofs.lemmas.List.{take-append-drop, take_at}
-use Rattle.std.specs.List.{list_all}
+use Rattle.std.proofs.Common.{[], ◌≡◌, ◌∙◌, ◌+◌, ◌≤◌, ◌&&◌, ◌||◌, ℕ, zero, suc, Bool, true, false, List, ◌∷◌, ◌++◌, append-nil, append_assoc, ap, arith, length, length-append, refl, sym, take}
+use Rattle.std.proofs.lemmas.{Grind.common_steps, List.take-append-drop}
 use Rattle.version_order.specs.keys.Sinks.{put_at}
-use Rattle.version_sets.specs.Form.{Rise, has, form_bytes}
-use Rattle.version_sets.specs.Pile.{IsPile, through}
-use Rattle.version_sets.specs.Reader.{Continues}
-use Rattle.version_sets.specs.Reading.{Member, Reading, Right, Wrong, next_alternative, set_has, with_member}
-use Rattle.version_sets.specs.declared.read.pile.Pile.{Pile}
+use Rattle.version_sets.specs.Reading.{Member, Reading, Right, Wrong, next_alternative, with_member}
+use Rattle.version_sets.specs.{Form.Rise, Form.has, Form.form_bytes, Pile.IsPile, Pile.through, Reader.Continues, declared.read.pile.Pile.Pile}
 
 -- ---- rooms
 
@@ -57,22 +52,12 @@ through_begins order below (last ∷ sets) =
 pub below_kept : (room below : List ℕ) (pile : Pile) (end : ℕ) (sets : List (List (List ℕ)))
     → IsPile room below pile end sets → take (length below) room ≡ below
 below_kept room below pile end sets is =
-    let front = through_begins pile.order below sets in
-    let whole : room ≡ below ++ (front.0 ++ drop end room) =
-    sym (take-append-drop end room)
-    ∙ ap (λ (l : List ℕ). l ++ drop end room) (is.bytes ∙ front.1)
-    ∙ append_assoc below front.0 (drop end room) in
-    ap (take (length below)) whole ∙ take_at below (front.0 ++ drop end room) (length below) refl
+    grind (arith, common_steps, through_begins pile.order below sets, take-append-drop end room)
 
 -- a pile lies in each room that begins with the same bytes
 pub same_bytes : (room other below : List ℕ) (pile : Pile) (end : ℕ) (sets : List (List (List ℕ)))
     → take end other ≡ take end room → IsPile room below pile end sets → IsPile other below pile end sets
-same_bytes room other below pile end sets same is = record {
-  bytes = same ∙ is.bytes;
-  size = is.size;
-  begin = is.begin;
-  rise = is.rise;
-}
+same_bytes room other below pile end sets same is = grind (arith, common_steps)
 
 -- the one set of a pile of one
 pub record IsOfOne (room below : List ℕ) (pile : Pile) (end : ℕ) (sets : List (List (List ℕ))) : Type 0 where
@@ -86,15 +71,8 @@ pub of_one : (room below : List ℕ) (pile : Pile) (end : ℕ) (sets : List (Lis
     → IsPile room below pile end sets → 1 ≤ pile.depth → pile.depth ≤ 1
     → IsOfOne room below pile end sets
 of_one room below pile end [] is some few = absurd (omega (arith, is.begin, some))
-of_one room below pile end (ends ∷ []) is some few = record {
-  ends = ends;
-  sets_are = refl;
-  rise = is.rise.0;
-  bytes = is.bytes;
-  size = is.size ∙ length-append below (form_bytes pile.order ends);
-}
-of_one room below pile end (ends ∷ next ∷ sets) is some few =
-    absurd (omega (arith, is.begin.1, is.begin.3.1, few))
+of_one room below pile end (ends ∷ []) is some few = grind (arith, common_steps, length-append)
+of_one room below pile end (ends ∷ next ∷ sets) is some few = grind (arith, common_steps)
 
 -- ---- what is read
 
@@ -105,25 +83,9 @@ at_first (Right first others) = (first, others, refl, λ key. refl)
 pub with_one : (whole rest : Reading) (done own : List ℕ → Bool) (member : Member)
     → Continues whole done own (with_member member rest)
     → Continues whole done (λ key. own key && has member.ends key) rest
-with_one whole (Wrong place reason) done own member is = is
-with_one whole (Right first others) done own member is = (
-  is.0,
-  is.1,
-  is.2,
-  λ key. is.3 key
-      ∙ ap (λ b. done key || (b || set_has others key))
-      (sym (and_assoc (own key) (has member.ends key) (list_all (λ member. has member.ends key) first))),
-)
+with_one whole rest done own member is = grind (arith, common_steps)
 
 pub with_next : (whole rest : Reading) (done own : List ℕ → Bool)
     → Continues whole done own (next_alternative rest)
     → Continues whole (λ key. done key || own key) (λ key. true) rest
-with_next whole (Wrong place reason) done own is = is
-with_next whole (Right first others) done own is = (
-  is.0,
-  is.1,
-  is.2,
-  λ key. is.3 key
-      ∙ ap (λ b. done key || (b || set_has (first ∷ others) key)) (and-true (own key))
-      ∙ sym (or_assoc (done key) (own key) (set_has (first ∷ others) key)),
-)
+with_next whole rest done own is = grind (arith, common_steps)

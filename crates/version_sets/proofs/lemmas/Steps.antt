@@ -1,25 +1,17 @@
 -- What a step tells of its piece, and how long a member is.
-use Rattle.std.proofs.Common.{◌≡◌, ◌+◌, ◌*◌, ◌≤◌, ℕ, Bool, true, false, List, [], ◌∷◌, Option, Some, None, if◌then◌else◌, ap, arith, inl, inr, length, length-append, refl, subst, sym}
-use Rattle.std.specs.Prelude.{⊤}
+use Rattle.std.proofs.Common.{[], ◌≡◌, ◌+◌, ◌*◌, ◌≤◌, ℕ, Bool, true, false, List, ◌∷◌, Option, Some, None, if◌then◌else◌, ap, arith, inl, inr, length, length-append, refl, subst, sym}
+use Rattle.std.proofs.lemmas.{Grind.common_steps, List.length-map}
+use Rattle.std.specs.{List.concat, Prelude.⊤}
 use Rattle.std.proofs.Math.Nat.{mul-le-mul_right, suc-mul}
-use Rattle.std.proofs.lemmas.List.{length-map}
-use Rattle.std.specs.List.{concat}
 use Rattle.version_order.proofs.lemmas.Front.{after_mark-Some, cases_Option}
-use Rattle.version_order.specs.declared.ends.End.{End}
-use Rattle.version_order.specs.texts.Front.{after_mark}
+use Rattle.version_order.specs.{Keyed.AreWithin, Keyed.PlainKeyed, Keyed.end_of, declared.ends.End.End, texts.Front.after_mark}
 use Rattle.version_rules.specs.requirement.Requirement.{after_word}
-use Rattle.version_order.specs.Keyed.{AreWithin, PlainKeyed, end_of}
 use Rattle.version_sets.specs.Comparison.{bytes_of, comparison_ends, comparison_front, ends_with, first_word, words}
-use Rattle.version_sets.specs.Form.{form_bytes}
 use Rattle.version_sets.specs.Pieces.{PlainPiece, Bar, Bars, Comma, Word}
-use Rattle.version_sets.specs.Reading.{piece_room}
 use Rattle.version_sets.specs.Steps.{PlainStep, All, Asks, Fault, Goes, begin_member, is_all, step}
-use Rattle.version_sets.specs.declared.read.comparison.Comparison.{Comparison}
-use Rattle.version_sets.specs.declared.read.fault.Reason.TheVariants.{NoOperator}
-use Rattle.version_sets.specs.declared.read.steps.State.{State}
+use Rattle.version_sets.specs.{Form.form_bytes, Reading.piece_room, declared.read.comparison.Comparison.Comparison, declared.read.fault.Reason.TheVariants.NoOperator, declared.read.steps.State.State}
 use Rattle.version_sets.specs.declared.read.steps.State.TheVariants.{Come, Opened, Wanted}
 use Rattle.version_sets.proofs.lemmas.Form.{form_length}
-use Rattle.version_sets.specs.declared.read.comparison.Comparison.TheVariants as comparison
 
 -- ---- words
 
@@ -92,10 +84,7 @@ word_tells state place word = by (comparison_front word) refl
 piece_tells : (state : State) (place : ℕ) (piece : PlainPiece) → Tells state place piece (step state place piece)
 piece_tells Wanted place (Word word) = word_tells Wanted place word
 piece_tells Come place (Word word) = word_tells Come place word
-piece_tells (Opened c start) place (Word word) = (
-  record { word = word; is = refl; longer = omega arith; over = refl },
-  λ opened starts before. omega (arith, starts, before),
-)
+piece_tells (Opened c start) place (Word word) = grind (arith, common_steps)
 piece_tells Wanted place Comma = tt
 piece_tells Wanted place Bars = tt
 piece_tells Wanted place Bar = tt
@@ -116,27 +105,10 @@ ends_small : (version : PlainKeyed) (most : ℕ) (ends : List End) → ((end : E
     → length (concat (bytes_of version ends)) ≤ length ends * most
 ends_small version most [] small = omega arith
 ends_small version most (a ∷ ends) small =
-    omega (
-      arith,
-      small a,
-      ends_small version most ends small,
-      length-append (end_of a version) (concat (bytes_of version ends)),
-      suc-mul (length ends) most,
-    )
+    grind (arith, common_steps, ends_small version most ends small, length-append, suc-mul)
 
 few_ends : (c : Comparison) → length (comparison_ends c) ≤ 3
-few_ends comparison.Equal = omega arith
-few_ends comparison.Unequal = omega arith
-few_ends comparison.Less = omega arith
-few_ends comparison.LessEq = omega arith
-few_ends comparison.Greater = omega arith
-few_ends comparison.GreaterEq = omega arith
-few_ends comparison.Earlier = omega arith
-few_ends comparison.Later = omega arith
-few_ends comparison.Tilde = omega arith
-few_ends comparison.Caret = omega arith
-few_ends comparison.Prefix = omega arith
-few_ends comparison.NotPrefix = omega arith
+few_ends c = grind (arith, common_steps)
 
 -- a member has no more bytes than a word has room for that is as long as its version
 pub member_small : (order : ℕ) (read_as : List ℕ → Option PlainKeyed) (most : ℕ → ℕ) (c : Comparison)

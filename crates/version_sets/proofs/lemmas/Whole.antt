@@ -1,13 +1,10 @@
 -- The bytes of a set, one end further.
-use Rattle.std.proofs.Common.{◌≡◌, ◌∙◌, ◌+◌, ◌<◌, ◌^◌, ℕ, true, List, [], ◌∷◌, ◌++◌, Option, None, Some, ap, arith, length, length-append, refl, sym}
-use Rattle.std.specs.List.{concat, flat_map}
-use Rattle.std.specs.List.Sorted.{IsStrictlySortedBy}
-use Rattle.std.specs.Ordering.{is_lt}
+use Rattle.std.proofs.Common.{[], ◌≡◌, ◌∙◌, ◌+◌, ◌<◌, ◌^◌, ℕ, true, List, ◌∷◌, ◌++◌, Option, None, Some, ap, arith, length, length-append, refl, sym}
+use Rattle.std.proofs.lemmas.Grind.{common_steps}
+use Rattle.std.specs.{List.concat, List.flat_map, List.Sorted.IsStrictlySortedBy, Ordering.is_lt}
 use Rattle.version_order.specs.keys.Lists.{bytes_cmp}
-use Rattle.version_sets.specs.Form.{Rise, number, places}
-use Rattle.version_sets.specs.Set.{AreLeft, RiseAbove, is_above}
-use Rattle.version_sets.proofs.lemmas.Ends.{below_all, lt_less}
-use Rattle.version_sets.proofs.lemmas.Form.{cut_alike, number_length, same_number}
+use Rattle.version_sets.specs.{Form.Rise, Form.number, Form.places, Set.AreLeft, Set.RiseAbove, Set.is_above}
+use Rattle.version_sets.proofs.lemmas.{Ends.below_all, Ends.lt_less, Form.cut_alike, Form.number_length, Form.same_number}
 
 above : (last : Option (List ℕ)) (end : List ℕ) (ends : List (List ℕ)) → is_above last end ≡ true
     → Rise (end ∷ ends) → RiseAbove last (end ∷ ends)
@@ -22,12 +19,7 @@ pub with_end : (from : ℕ) (last : Option (List ℕ)) (row rest bytes end behin
     (ends : List (List ℕ)) → row ≡ number over ++ rest → bytes ≡ end ++ behind → over ≡ from + length end
     → is_above last end ≡ true → AreLeft over (Some end) rest behind ends
     → AreLeft from last row bytes (end ∷ ends)
-with_end from last row rest bytes end behind over ends row_is bytes_are over_is is left = record {
-  row_is = row_is ∙ (λ i. number (over_is i) ++ (left.row_is
-      ∙ ap (λ n. flat_map number (places n ends)) over_is) i);
-  bytes_are = bytes_are ∙ ap (λ (l : List ℕ). end ++ l) left.bytes_are;
-  rise = above last end ends is left.rise;
-}
+with_end from last row rest bytes end behind over ends row_is bytes_are over_is is left = search (arith, above)
 
 -- The first of the ends that are left.
 pub record IsNext (from : ℕ) (last : Option (List ℕ)) (over : ℕ) (rest bytes : List ℕ) : Type 0 where
@@ -94,14 +86,7 @@ module _ (from : ℕ) (last : Option (List ℕ)) (over : ℕ) (rest bytes : List
     (first : IsNext from last over rest bytes) (small : over < 2 ^ 64) (within : from + length bytes < 2 ^ 64) where
   -- where the first end is over, itself, and what is behind it
   pub first_over : over ≡ from + length first.end
-  first_over =
-      same_number over (from + length first.end) first.over_is small
-      (omega (
-        arith,
-        within,
-        ap length first.bytes_are,
-        length-append first.end (concat first.ends),
-      ))
+  first_over = grind (arith, common_steps, same_number, length-append)
 
   pub first_cut : (end behind : List ℕ) → bytes ≡ end ++ behind → over ≡ from + length end
       → (end ≡ first.end) × (behind ≡ concat first.ends)

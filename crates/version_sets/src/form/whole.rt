@@ -2,8 +2,7 @@
 
 ghost use Rattle.std.specs.Prelude.{◌≡◌, ◌++◌, ◌<◌, ◌^◌, length, IfNone, IfSome, List, None, false, true, ℕ};
 ghost use Rattle.std.specs.Option.{option_map, IsSomeAnd};
-ghost use Rattle.version_sets.specs.Form.{Rise, form_bytes, number};
-ghost use Rattle.version_sets.specs.Set.{is_above, AreLeft};
+ghost use Rattle.version_sets.specs.{Form.Rise, Form.form_bytes, Form.number, Set.is_above, Set.AreLeft};
 
 use crate::form::Form;
 use version_order::compare_bytes;

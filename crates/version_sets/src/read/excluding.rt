@@ -2,16 +2,10 @@
 
 ghost use Rattle.std.specs.Prelude.{◌≡◌, ◌∷◌, ◌+◌, ◌*◌, ◌≤◌, ◌<◌, ◌^◌, [], length, not, true, Bool, IfErr, IfNone, IfOk, IfSome, List, None, Option, ℕ};
 ghost use Rattle.std.proofs.Props.{props};
-ghost use Rattle.version_sets.specs.Form.{has, form_bytes, Rise};
 ghost use Rattle.version_sets.specs.Excluding.{first_out, leave_out, left_read, room_left, steps_left, AreLeft, EndsAt, StandsBefore};
-ghost use Rattle.version_sets.specs.Comparison.{ends_with};
-ghost use Rattle.version_sets.specs.Pieces.{pieces, Word};
 ghost use Rattle.version_sets.specs.Reading.{asked, piece_room, pieces_room, read_set, set_room, Member, Right, With};
-ghost use Rattle.version_sets.specs.declared.read.comparison.Comparison.{Comparison as Comparisons};
-ghost use Rattle.version_sets.specs.declared.read.steps.State.TheVariants.{Wanted};
-ghost use Rattle.version_order.specs.declared.facts.Operators.{Operators};
-ghost use Rattle.version_order.specs.Facts.{key_room};
-ghost use Rattle.version_order.specs.Keyed.{PlainKeyed};
+ghost use Rattle.version_sets.specs.{Comparison.ends_with, Form.has, Form.form_bytes, Form.Rise, Pieces.pieces, Pieces.Word, declared.read.comparison.Comparison.Comparison as Comparisons, declared.read.steps.State.TheVariants.Wanted};
+ghost use Rattle.version_order.specs.{Facts.key_room, Keyed.PlainKeyed, declared.facts.Operators.Operators};
 
 use crate::form::Form;
 use crate::read::comparison::Comparison;

@@ -2,10 +2,8 @@
 
 ghost use Rattle.std.specs.Prelude.{◌≡◌, ◌+◌, ◌<◌, ◌^◌, IfErr, IfOk};
 ghost use Rattle.std.specs.Option.{option_map};
-ghost use Rattle.version_sets.specs.Pieces.{piece_length, plain_piece};
 ghost use Rattle.version_sets.specs.Reading.{after_step, fault_of, read_set, Reading, Wrong};
-ghost use Rattle.version_sets.specs.Steps.{step};
-ghost use Rattle.version_sets.specs.declared.read.steps.State.{State as States};
+ghost use Rattle.version_sets.specs.{Pieces.piece_length, Pieces.plain_piece, Steps.step, declared.read.steps.State.State as States};
 
 use crate::read::fault::Fault;
 use crate::read::member::asked;

@@ -1,15 +1,10 @@
 //! Members with a version: the version that is asked for, and the set that they are by themselves.
 
 ghost use Rattle.std.specs.Prelude.{◌≡◌, ◌+◌, ◌*◌, ◌≤◌, ◌∷◌, [], length, IfOk, IfSome, ℕ};
-ghost use Rattle.std.specs.List.{concat, flat_map};
-ghost use Rattle.std.specs.Option.{option_map};
-ghost use Rattle.version_sets.specs.Comparison.{before_star, bytes_of, ends_with};
-ghost use Rattle.version_sets.specs.Form.{form_bytes, number, places, Rise};
-ghost use Rattle.version_sets.specs.Reading.{asked, plain_asked, with_version, IsWithin};
+ghost use Rattle.std.specs.{List.concat, List.flat_map, Option.option_map};
+ghost use Rattle.version_sets.specs.{Comparison.before_star, Comparison.bytes_of, Comparison.ends_with, Form.form_bytes, Form.number, Form.places, Form.Rise, Reading.asked, Reading.plain_asked, Reading.with_version, Reading.IsWithin};
 ghost use Rattle.version_sets.specs.declared.read.comparison.Comparison.TheVariants.{Equal};
-ghost use Rattle.version_order.specs.keys.Sinks.{put_at, saturated, IsWritten};
-ghost use Rattle.version_order.specs.Facts.{key_room};
-ghost use Rattle.version_order.specs.Keyed.{end_of};
+ghost use Rattle.version_order.specs.{Facts.key_room, Keyed.end_of, keys.Sinks.put_at, keys.Sinks.saturated, keys.Sinks.IsWritten};
 
 use crate::read::comparison::Comparison;
 use crate::read::fault::Reason;

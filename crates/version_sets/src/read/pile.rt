@@ -3,10 +3,8 @@
 
 ghost use Rattle.std.specs.Prelude.{◌≡◌, ◌∷◌, ◌++◌, ◌*◌, ◌+◌, ◌<◌, ◌≤◌, false, get_or, length, set, take, true, IfSome, List, ℕ};
 ghost use Rattle.std.specs.Option.{IsSomeAnd};
-ghost use Rattle.version_sets.specs.Form.{Rise, form_bytes};
 ghost use Rattle.version_sets.specs.Pile.{merged, all_have, through, Begin, IsPile, Kept};
-ghost use Rattle.version_sets.specs.Set.{both_ends, by_rule, ends_of, left};
-ghost use Rattle.version_sets.specs.declared.merge.Rule.TheVariants.{FirstAlone};
+ghost use Rattle.version_sets.specs.{Form.Rise, Form.form_bytes, Set.both_ends, Set.by_rule, Set.ends_of, Set.left, declared.merge.Rule.TheVariants.FirstAlone};
 
 use crate::form::Form;
 use crate::merge::{Merge, Rule};

@@ -2,15 +2,9 @@
 //! another in a room.
 
 ghost use Rattle.std.specs.Prelude.{◌≡◌, ◌∷◌, ◌*◌, ◌+◌, ◌<◌, ◌≤◌, ◌^◌, ◌&&◌, ◌||◌, [], false, length, true, Bool, IfErr, IfOk, List, ℕ};
-ghost use Rattle.version_sets.specs.Form.{has, Rise, form_bytes};
-ghost use Rattle.version_sets.specs.Pieces.{piece_length, plain_piece};
-ghost use Rattle.version_sets.specs.Reader.{Continues, Fits, Holds, IsWrittenSet};
-ghost use Rattle.version_sets.specs.Reading.{after_step, piece_room, Reading, Wrong};
-ghost use Rattle.version_sets.specs.Steps.{step};
-ghost use Rattle.version_sets.specs.declared.read.steps.State.{State as States};
-ghost use Rattle.version_sets.specs.declared.read.steps.State.TheVariants.{Come};
-ghost use Rattle.version_order.specs.keys.Sinks.{put_at};
-ghost use Rattle.version_order.specs.Facts.{key_room};
+ghost use Rattle.version_sets.specs.{Form.has, Form.Rise, Form.form_bytes, Pieces.piece_length, Pieces.plain_piece, Reader.Continues, Reader.Fits, Reader.Holds, Reader.IsWrittenSet};
+ghost use Rattle.version_sets.specs.{Reading.after_step, Reading.piece_room, Reading.Reading, Reading.Wrong, Steps.step, declared.read.steps.State.State as States, declared.read.steps.State.TheVariants.Come};
+ghost use Rattle.version_order.specs.{Facts.key_room, keys.Sinks.put_at};
 
 use crate::merge::Rule;
 use crate::read::fault::Fault;

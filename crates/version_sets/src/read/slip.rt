@@ -1,8 +1,7 @@
 //! Versions that people write for something else, by their texts alike in each order.
 
 ghost use Rattle.std.specs.Prelude.{◌≡◌, ◌&&◌, drop, not, true};
-ghost use Rattle.std.specs.Char.{is_ascii_digit};
-ghost use Rattle.std.specs.List.{list_any};
+ghost use Rattle.std.specs.{Char.is_ascii_digit, List.list_any};
 ghost use Rattle.version_sets.specs.Slips.{begins_with_v, behind_epoch, has_part_x, is_x, part_ends, slip_of, ties};
 
 use version_order::{Class, SchemeVersion, split_run};

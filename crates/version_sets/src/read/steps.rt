@@ -1,8 +1,7 @@
 //! What a piece of a text does, by what has come before it.
 
 ghost use Rattle.std.specs.Prelude.{◌≡◌, ◌+◌, ◌<◌, ◌^◌, length};
-ghost use Rattle.version_sets.specs.Pieces.{piece_length, plain_piece};
-ghost use Rattle.version_sets.specs.Steps.{begin_member, plain_step, step, unfinished};
+ghost use Rattle.version_sets.specs.{Pieces.piece_length, Pieces.plain_piece, Steps.begin_member, Steps.plain_step, Steps.step, Steps.unfinished};
 
 use crate::read::comparison::Comparison;
 use crate::read::fault::{Fault, Reason};

@@ -1,17 +1,10 @@
 -- The newest of the candidates so far, and one more.
 use Rattle.std.proofs.Common.{◌≡◌, ◌∙◌, ◌<◌, ◌+◌, ◌⊎◌, ℕ, Option, Some, None, IfSome, IfNone, arith, inl, inr, refl, sym, ap, get_or, List, [], ◌∷◌, suc, zero}
 use Rattle.std.proofs.lemmas.Bool.{cases_Bool, eqb-false, eqb-true}
-use Rattle.std.specs.Ordering.{ordering_reverse}
-use Rattle.std.specs.declared.cmp.Ordering.{Ordering}
-use Rattle.std.specs.declared.cmp.Ordering.TheVariants.{Less, Equal, Greater}
-use Rattle.version_rules.specs.key.Key.{Key, key_of, precedence}
-use Rattle.version_rules.specs.laws.Key.{precedence_total}
-use Rattle.version_rules.specs.grammar.Versioning.{PlainVersioning}
-use Rattle.version_tasks.specs.Newest.{IsNewest, IsWanted, NoVersion, text_at}
-use Rattle.version_tasks.specs.declared.newest.Wanted.{Wanted}
-use Rattle.std.specs.Borrow.{Bor}
-use Rattle.version_texts.specs.VersioningRef.{plain_versioning_ref}
-use Rattle.version_texts.specs.declared.versioning_ref.VersioningRef.{VersioningRef}
+use Rattle.std.specs.{Borrow.Bor, Ordering.ordering_reverse, declared.cmp.Ordering.Ordering, declared.cmp.Ordering.TheVariants.Less, declared.cmp.Ordering.TheVariants.Equal, declared.cmp.Ordering.TheVariants.Greater}
+use Rattle.version_rules.specs.{grammar.Versioning.PlainVersioning, key.Key.Key, key.Key.key_of, key.Key.precedence, laws.Key.precedence_total}
+use Rattle.version_tasks.specs.{Newest.IsNewest, Newest.IsWanted, Newest.NoVersion, Newest.text_at, declared.newest.Wanted.Wanted}
+use Rattle.version_texts.specs.{VersioningRef.plain_versioning_ref, declared.versioning_ref.VersioningRef.VersioningRef}
 
 -- what is held is the newest of so many candidates
 pub record Holds (candidates : ℕ → PlainVersioning → Type 0) (count : ℕ)

@@ -3,12 +3,10 @@ use Rattle.std.proofs.Common.{◌≡◌, ◌-◌, ◌∙◌, ℕ, List, [], ◌�
 use Rattle.std.proofs.lemmas.List.{take_at}
 use Rattle.std.specs.Option.{option_map}
 use Rattle.version_order.specs.texts.Bytes.{plus}
-use Rattle.version_rules.specs.grammar.SemVer.{PlainSemVer, optional_text, semver_text}
-use Rattle.version_rules.specs.grammar.Version.{PlainVersion, version_text}
 use Rattle.version_rules.specs.grammar.Versioning.{PlainVersioning, Ideal, General, Complex, versioning_text}
+use Rattle.version_rules.specs.grammar.{SemVer.PlainSemVer, SemVer.optional_text, SemVer.semver_text, Version.PlainVersion, Version.version_text}
 use Rattle.version_tasks.specs.Stability.{counted_text}
-use Rattle.version_texts.specs.VersioningRef.{bare_semver, bare_version, field_span, span_behind}
-use Rattle.version_texts.specs.declared.versioning_ref.field.Field.TheVariants.{Metadata}
+use Rattle.version_texts.specs.{VersioningRef.bare_semver, VersioningRef.bare_version, VersioningRef.field_span, VersioningRef.span_behind, declared.versioning_ref.field.Field.TheVariants.Metadata}
 
 -- a plus and metadata, or nothing
 abbrev meta_text : Option (List ℕ) → List ℕ

@@ -1,18 +1,13 @@
 -- The version in a tag, separator by separator.
-use Rattle.std.proofs.lemmas.Bool.{cases_Bool}
-use Rattle.std.proofs.Common.{◌≡◌, ◌<◌, ◌&&◌, ◌∙◌, if◌then◌else◌, ℕ, zero, suc, Bool, true, false, List, [], ◌∷◌, drop, length, take, Option, Some, None, refl, sym, ap, arith, inl, inr, ◌≤◌, ◌-◌, ◌+◌}
-use Rattle.std.specs.Char.{is_ascii_digit}
-use Rattle.std.specs.Option.{is_some, option_map, option_or, IfSome}
-use Rattle.std.specs.Str.{bytes_eq}
-use Rattle.version_order.specs.texts.Front.{◌>>=◌}
+use Rattle.std.proofs.lemmas.{Bool.cases_Bool, List.drop-drop}
+use Rattle.std.specs.{Char.is_ascii_digit, Option.is_some, Option.option_map, Option.option_or, Option.IfSome, Str.bytes_eq}
+use Rattle.version_order.specs.texts.Front.{◌>>=◌, starts_with_digit}
 use Rattle.version_rules.specs.grammar.Versioning.{versioning_of, versioning_text}
 use Rattle.version_rules.proofs.lemmas.Versioning.{versioning_of-spells, versioning_printed}
-use Rattle.version_texts.specs.VersioningRef.{plain_versioning_ref}
-use Rattle.version_texts.specs.declared.versioning_ref.VersioningRef.{VersioningRef}
-use Rattle.version_tasks.specs.Next.{after_separator}
+use Rattle.version_texts.specs.{VersioningRef.plain_versioning_ref, declared.versioning_ref.VersioningRef.VersioningRef}
 use Rattle.version_tasks.specs.Tag.{after_prefix, first_below, is_point, is_separator, may_begin, place_in_tag, text_at_beginning, text_in_tag, is_v, text_after_prefix, without_v}
-use Rattle.std.proofs.lemmas.List.{drop-drop}
-use Rattle.version_order.specs.texts.DigitRun.{starts_with_digit}
+use Rattle.version_tasks.specs.Next.{after_separator}
+use Rattle.std.proofs.Common.{◌≡◌, ◌<◌, ◌&&◌, ◌∙◌, if◌then◌else◌, ℕ, zero, suc, Bool, true, false, List, [], ◌∷◌, drop, length, take, Option, Some, None, refl, sym, ap, arith, inl, inr, ◌≤◌, ◌-◌, ◌+◌}
 
 -- ---- the first place that passes a test
 

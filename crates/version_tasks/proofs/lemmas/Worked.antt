@@ -1,26 +1,15 @@
 -- The worked rows, by computation.
 use Rattle.std.proofs.Common.{◌≡◌, ◌&&◌, ◌^◌, ◌∙◌, ◌-◌, if◌then◌else◌, ℕ, suc, Bool, true, List, [], ◌∷◌, drop, length, map, nat_lt, Option, Some, None, refl, sym, ap, arith, inl, inr}
-use Rattle.std.proofs.lemmas.Bool.{and_parts, cases_Bool, ltb-true}
-use Rattle.std.proofs.lemmas.Bool.Decides.{nat_tests}
-use Rattle.std.specs.Cmp.{first_so, second_so}
-use Rattle.std.specs.List.{list_all}
-use Rattle.version_rules.specs.grammar.Versioning.{PlainVersioning, is_prerelease}
+use Rattle.std.proofs.lemmas.{Bool.and_parts, Bool.cases_Bool, Bool.ltb-true, Bool.Decides.nat_tests}
+use Rattle.std.specs.{Cmp.first_so, Cmp.second_so, Fmt.digits, List.list_all}
+use Rattle.version_rules.specs.grammar.{Body.body_front, Chunk.chunk_front_of, Chunk.unsigned_front, Last.numbered_last, MChunk.mchunk_front, MChunk.variant_of, Mess.further_front, Mess.mess_front, Mess.mess_of}
+use Rattle.version_rules.specs.grammar.{SemVer.semver_front, SemVer.semver_of, Version.epoch_front, Version.version_front, Version.version_of, Versioning.PlainVersioning, Versioning.is_prerelease}
 use Rattle.version_texts.specs.VersioningRef.{version_in}
-use Rattle.version_tasks.specs.Next.{IsNext, NoNext, numbers_of}
 use Rattle.version_tasks.specs.Worked.{AreNext, HaveNoNext, WorkedRows, next_rows, no_next_rows}
+use Rattle.version_tasks.specs.{Next.IsNext, Next.NoNext, Next.numbers_of, Tag.place_in_tag}
 use Rattle.version_tasks.proofs.lemmas.Next.Order.{are_zeros, fit, is_next, next_number, none_beyond, none_past, none_without, number_at, raised, raised_follows, raised_number}
 use Rattle.version_tasks.proofs.lemmas.Next.Text.{numbered, numbered_form}
-use Rattle.std.specs.Fmt.{digits}
-use Rattle.version_rules.specs.grammar.Body.{body_front}
-use Rattle.version_rules.specs.grammar.Chunk.{chunk_front_of}
 use Rattle.version_order.specs.texts.Front.{dotted_front, optional, repeated, run_front}
-use Rattle.version_rules.specs.grammar.Last.{numbered_last}
-use Rattle.version_rules.specs.grammar.MChunk.{mchunk_front, variant_of}
-use Rattle.version_rules.specs.grammar.Mess.{further_front, mess_front, mess_of}
-use Rattle.version_rules.specs.grammar.Numeral.{unsigned_front}
-use Rattle.version_rules.specs.grammar.SemVer.{semver_front, semver_of}
-use Rattle.version_rules.specs.grammar.Version.{epoch_front, version_front, version_of}
-use Rattle.version_tasks.specs.Tag.{place_in_tag}
 
 -- ---- what comes next after a version, computed
 

@@ -1,8 +1,7 @@
 -- Lemmas of other crates by names that an attribute can write.
 use Rattle.version_order.proofs.lemmas.Front.{take_while-all, list_all-take_while}
+use Rattle.std.proofs.lemmas.{Bool.eq-eqb, Bool.lt-ltb, List.length-take-le}
 use Rattle.std.proofs.Common.{append-nil, length-append}
-use Rattle.std.proofs.lemmas.List.{length-take-le}
-use Rattle.std.proofs.lemmas.Bool.{eq-eqb, lt-ltb}
 
 pub ruleset all_taken = (take_while-all)
 

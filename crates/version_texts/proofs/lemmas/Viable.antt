@@ -1,30 +1,17 @@
-use Rattle.std.proofs.Common.{◌≡◌, ◌==◌, ◌&&◌, ◌||◌, ◌∙◌, ℕ, Bool, true, false, List, [], ◌∷◌, ◌++◌, ap, arith, drop, length, not, refl, subst, sym, inl, inr, ◌+◌, ◌<◌, Option, None, Some, take, if◌then◌else◌}
-use Rattle.std.specs.Char.{is_ascii_alphanumeric, is_ascii_digit}
-use Rattle.std.specs.Cmp.{first_so, second_so}
-use Rattle.std.specs.List.{list_all, prefix_len, take_while}
-use Rattle.std.proofs.lemmas.Bool.{and_from, cases_Bool, eqb-true, or_right}
+use Rattle.std.proofs.Common.{◌≡◌, ◌==◌, ◌&&◌, ◌||◌, ◌∙◌, ℕ, Bool, true, false, List, [], ◌∷◌, ◌++◌, ap, arith, drop, length, not, refl, subst, sym, inl, inr, ◌+◌, ◌<◌, Option, None, Some, take, if◌then◌else◌, rules}
+use Rattle.std.specs.{Char.is_ascii_alphanumeric, Char.is_ascii_digit, Cmp.first_so, Cmp.second_so, List.list_all, List.prefix_len, List.take_while, Option.is_some, Option.option_map}
+use Rattle.std.proofs.lemmas.{Bool.and_from, Bool.cases_Bool, Bool.eqb-true, Bool.or_right, Bool.Decides.nat_tests, List.drop-drop, List.take-append-drop}
 use Rattle.std.proofs.Math.Dec.{eqb-suc-zero}
-use Rattle.std.proofs.lemmas.Bool.Decides.{nat_tests}
 use Rattle.version_order.specs.texts.Bytes.{dot, hyphen, is_identifier_byte, is_metadata_byte, plus, is_section_byte, colon}
-use Rattle.version_order.specs.texts.Class.{is_mark}
-use Rattle.version_order.specs.texts.Front.{begins, is_run}
-use Rattle.version_order.proofs.lemmas.Front.{list_all-take_while, all_weaker, take_while-all}
-use Rattle.version_texts.specs.Scan.{is_chunk, is_messy, is_metadata_tail, is_not_plus, is_numeral, is_released, is_tail, body_of, epoch_is_numeral, has_three_numbers, is_general, is_parts, behind_body, body_end, body_start, digits_len, from_body, has_epoch}
+use Rattle.version_order.specs.{Viable.IsLeft, texts.Class.is_mark, texts.Front.begins, texts.Front.is_run, texts.Front.is_digits, texts.Front.starts_with_digit}
 use Rattle.version_order.proofs.lemmas.Runs.{and-false, not_true, run_in_section, behind_mark, larger_run, begins_inner, digit_alphanumeric}
-use Rattle.version_texts.proofs.lemmas.scan.Section.{no_mark_in_run, no_dot_in_run, chunk_digits}
-use Rattle.version_order.specs.Viable.{IsLeft}
-use Rattle.version_order.proofs.lemmas.Bytes.{identifier_no_dot, dot_no_identifier, dot_no_letter}
-use Rattle.version_order.proofs.lemmas.Viable.Pieces.{split_pieces, split_within, and-assoc}
 use Rattle.version_order.proofs.lemmas.Viable.Left.{alone, grown, run_left, behind, is_nothing, last_piece, nothing_apart, nothing_left, run_is_run, next, next_piece, wrong_piece, after_run, at_end, last_rest, next_closed, next_rest, next_tail, nothing_nil, whole_run, where_begins}
-use Rattle.std.proofs.lemmas.List.{drop-drop, take-append-drop}
-use Rattle.version_order.specs.texts.DigitRun.{is_digits, starts_with_digit}
-use Rattle.version_order.specs.texts.Cuts.{pieces}
-use Rattle.version_texts.proofs.lemmas.scan.TextKind.{kind_law}
-use Rattle.version_rules.specs.declared.kind.Kind.{Kind}
+use Rattle.version_order.proofs.lemmas.{Bytes.identifier_no_dot, Bytes.dot_no_identifier, Bytes.dot_no_letter, Front.list_all-take_while, Front.all_weaker, Front.take_while-all}
+use Rattle.version_order.proofs.lemmas.Viable.Pieces.{split_pieces, split_within, and-assoc}
+use Rattle.version_texts.specs.Scan.{is_chunk, is_messy, is_metadata_tail, is_not_plus, is_numeral, is_released, is_tail, epoch_is_numeral, is_general, is_parts, body_end, body_start, digits_len, from_body, has_epoch}
+use Rattle.version_texts.proofs.lemmas.scan.{Section.no_mark_in_run, Section.no_dot_in_run, Section.chunk_digits, Shape.has_epoch-append, TextKind.kind_law}
+use Rattle.version_rules.specs.grammar.Versioning.{versioning_of}
 use Rattle.version_rules.specs.declared.kind.Kind.TheVariants as kind
-use Rattle.version_rules.specs.grammar.Versioning.{versioning_kind, versioning_of}
-use Rattle.std.specs.Option.{is_some, option_map}
-use Rattle.version_texts.proofs.lemmas.scan.Shape.{has_epoch-append}
 
 -- ---- what is left of a text as a version of each kind, piece by piece
 
@@ -94,9 +81,7 @@ some_bytes (b ∷ run) = eqb-suc-zero (length (run ++ 97 ∷ []))
 -- with a letter behind it, any run is a chunk
 pub word : (test : ℕ → Bool) → test 97 ≡ true → (run : List ℕ) → list_all test run ≡ true
     → is_chunk test (run ++ 97 ∷ []) ≡ true
-word test letter run all =
-    and_from _ _ (run_is_run test (run ++ 97 ∷ []) (grown test letter run all) (some_bytes run))
-    (or_right (is_numeral (run ++ 97 ∷ [])) _ (rw (no_digits run) refl))
+word test letter run all = grind (arith, and_from, run_is_run, grown, all, some_bytes, or_right, no_digits)
 
 -- ---- releases
 
@@ -162,17 +147,13 @@ metadata_tail (byte ∷ text) e = rw e refl
 
 pub unreleased_tail : (text left : List ℕ) → begins (λ b. b == hyphen) text ≡ false → IsLeft is_metadata_tail text left
     → IsLeft is_tail text left
-unreleased_tail text left none =
-    where_begins (λ b. b == hyphen) false is_tail is_metadata_tail metadata_tail
-    (λ t e. tail_begins t e (λ b. b == hyphen) refl) text left none
+unreleased_tail text left none = search (rules, where_begins, metadata_tail, tail_begins)
 
 tail_apart_from : (test : ℕ → Bool) → test hyphen ≡ false → test plus ≡ false → (text : List ℕ) → is_tail text ≡ true
     → begins test text ≡ false
 tail_apart_from test no_hyphen no_plus [] passes = refl
-tail_apart_from test no_hyphen no_plus (byte ∷ text) passes = elim (cases_Bool (byte == hyphen)) [
-  | inl here ↦ ap test (eqb-true byte hyphen here) ∙ no_hyphen
-  | inr other ↦ tail_begins (byte ∷ text) (sym (metadata_tail (byte ∷ text) other) ∙ passes) test no_plus
-]
+tail_apart_from test no_hyphen no_plus (byte ∷ text) passes =
+    grind (arith, cases_Bool, eqb-true, tail_begins, metadata_tail, no_plus)
 
 -- ---- parts
 
@@ -226,11 +207,7 @@ module _ (text run rest : List ℕ) (run_is : run ≡ take_while is_ascii_alphan
 -- an epoch, if there is one, and what follows it
 general_parts : (text : List ℕ) → is_general text ≡ (epoch_is_numeral text && is_parts (from_body text))
 unfolding body_end
-general_parts text =
-    let behind_is : behind_body text ≡ drop (prefix_len is_section_byte (from_body text)) (from_body text) =
-    sym (drop-drop (prefix_len is_section_byte (from_body text)) (body_start text) text) in
-    ap (λ (l : List ℕ). (epoch_is_numeral text && list_all is_part (pieces (body_of text))) && is_tail l) behind_is
-    ∙ and-assoc (epoch_is_numeral text) _ _
+general_parts text = grind (arith, drop-drop, and-assoc)
 
 -- what follows the first part of a version without an epoch
 abbrev more : List ℕ → Bool
@@ -261,16 +238,10 @@ module _ (text : List ℕ) (epoch : has_epoch text ≡ true) where
   starts = rw epoch refl
 
   numeral_epoch : epoch_is_numeral text ≡ is_numeral (take_while is_ascii_digit text)
-  numeral_epoch = rw starts (by (digits_len text))
-    where
-      by : (n : ℕ) → ((n + 1 == 0) || is_numeral (take_while is_ascii_digit text))
-          ≡ is_numeral (take_while is_ascii_digit text)
-      by n = grind arith
+  numeral_epoch = grind (arith, starts)
 
   digits_run : is_digits (take_while is_ascii_digit text) ≡ true
-  digits_run = and_from _ _
-      (begins_inner is_ascii_digit is_ascii_digit (λ b h. h) text ∙ first_so (starts_with_digit text) _ epoch)
-      (list_all-take_while is_ascii_digit text)
+  digits_run = grind (arith, and_from, begins_inner, first_so, list_all-take_while)
 
   same_run : take_while is_ascii_alphanumeric text ≡ take_while is_ascii_digit text
   same_run = ap (λ (n : ℕ). take n text) run_len
@@ -283,20 +254,11 @@ module _ (text : List ℕ) (epoch : has_epoch text ≡ true) where
   some (b ∷ l) e = rw (digit_alphanumeric b e) (omega arith)
 
   part_numeral : is_part (take_while is_ascii_alphanumeric text) ≡ is_numeral (take_while is_ascii_digit text)
-  part_numeral =
-      chunk_digits is_ascii_alphanumeric text (some text (first_so (starts_with_digit text) _ epoch))
-      (ap (list_all is_ascii_digit) same_run ∙ list_all-take_while is_ascii_digit text)
-      ∙ ap is_numeral same_run
+  part_numeral = grind (arith, chunk_digits, some, first_so, same_run, list_all-take_while)
 
   with_epoch : is_general text
       ≡ first_by (take_while is_ascii_alphanumeric text) (drop (prefix_len is_ascii_alphanumeric text) text)
-  with_epoch =
-      general_parts text
-      ∙ (λ i. numeral_epoch i && is_parts (drop (starts i) text))
-      ∙ sym ((λ i. part_numeral i && next (ends_epoch (same_run i)) is_parts more (same_rest i))
-      ∙ ap (λ (b : Bool). is_numeral (take_while is_ascii_digit text)
-      && (if b && true then is_parts (drop (digits_len text + 1) text) else more
-      (colon ∷ drop (digits_len text + 1) text))) digits_run)
+  with_epoch = grind (arith, general_parts, numeral_epoch, starts, part_numeral, next, same_run, same_rest, digits_run)
 
 module _ (text : List ℕ) (none : has_epoch text ≡ false) where
   at_start : body_start text ≡ 0
@@ -323,20 +285,11 @@ module _ (text : List ℕ) (none : has_epoch text ≡ false) where
 
   without_epoch : is_general text
       ≡ first_by (take_while is_ascii_alphanumeric text) (drop (prefix_len is_ascii_alphanumeric text) text)
-  without_epoch =
-      let run = take_while is_ascii_alphanumeric text in
-      all_parts ∙ parts_split text
-      ∙ ap (λ (b : Bool). is_part run && b)
-      (no_colon run (drop (prefix_len is_ascii_alphanumeric text) text)
-      (sym (take-append-drop (prefix_len is_ascii_alphanumeric text) text))
-      (list_all-take_while is_ascii_alphanumeric text))
+  without_epoch = grind (arith, all_parts, parts_split, no_colon, take-append-drop, list_all-take_while)
 
 general_split : (text : List ℕ) → is_general text
     ≡ first_by (take_while is_ascii_alphanumeric text) (drop (prefix_len is_ascii_alphanumeric text) text)
-general_split text = elim (cases_Bool (has_epoch text)) [
-  | inl epoch ↦ with_epoch text epoch
-  | inr none ↦ without_epoch text none
-]
+general_split text = search (rules, cases_Bool, with_epoch, without_epoch)
 
 -- ---- by the first run
 
@@ -345,30 +298,13 @@ more_closed = next_closed is_ascii_alphanumeric is_dot is_part is_parts is_tail 
 
 more_no_colon : (run text : List ℕ) → more text ≡ true → begins (ends_epoch run) text ≡ false
 more_no_colon run [] passes = refl
-more_no_colon run (c ∷ text) passes = elim (cases_Bool (ends_epoch run c)) [
-  | inr other ↦ other
-  | inl ends ↦
-      let here : c ≡ colon = eqb-true c colon (second_so (is_digits run) _ ends) in
-      cc (rw here at passes)
-]
+more_no_colon run (c ∷ text) passes = grind (arith, cases_Bool, eqb-true, second_so)
 
 first_closed : (run text : List ℕ) → first_by run text ≡ true → begins is_ascii_alphanumeric text ≡ false
-first_closed run text passes = by text (second_so (is_part run) _ passes)
-  where
-    by : (text : List ℕ) → next (ends_epoch run) is_parts more text ≡ true → begins is_ascii_alphanumeric text ≡ false
-    by [] e = refl
-    by (c ∷ text) e = elim (cases_Bool (ends_epoch run c)) [
-      | inl ends ↦ ap is_ascii_alphanumeric (eqb-true c colon (second_so (is_digits run) _ ends))
-      | inr other ↦ more_closed (c ∷ text)
-          (sym (ap (λ (b : Bool). if b then is_parts text else more (c ∷ text)) other) ∙ e)
-    ]
+first_closed run text passes = grind (arith, second_so, next, cases_Bool, eqb-true, more_closed)
 
 begins_epoch : (run rest : List ℕ) → begins (ends_epoch run) rest ≡ (is_digits run && begins (λ b. b == colon) rest)
-begins_epoch run [] = sym (by (is_digits run))
-  where
-    by : (b : Bool) → (b && false) ≡ false
-    by true = refl
-    by false = refl
+begins_epoch run [] = grind arith
 begins_epoch run (b ∷ rest) = refl
 
 module _ (text run rest : List ℕ) (run_is : run ≡ take_while is_ascii_alphanumeric text)
@@ -377,13 +313,7 @@ module _ (text run rest : List ℕ) (run_is : run ≡ take_while is_ascii_alphan
   all = ap (list_all is_ascii_alphanumeric) run_is ∙ list_all-take_while is_ascii_alphanumeric text
 
   word_alone : is_general (run ++ 97 ∷ []) ≡ true
-  word_alone =
-      let whole = run ++ 97 ∷ [] in
-      let bytes = grown is_ascii_alphanumeric refl run all in
-      let nothing = nothing_nil _ (sym (whole_run is_ascii_alphanumeric whole) ∙ bytes) in
-      general_split whole
-      ∙ (λ i. first_by (take_while-all is_ascii_alphanumeric whole bytes i) (nothing i))
-      ∙ ap (λ (b : Bool). b && true) (word is_ascii_alphanumeric refl run all)
+  word_alone = grind (arith, grown, all, nothing_nil, whole_run, general_split, take_while-all, word)
 
   pub no_first : is_part run ≡ false → IsLeft is_general text rest
   no_first fails =
@@ -437,6 +367,4 @@ some_kind false three true = refl
 some_kind false three false = refl
 
 pub any_kind : (text : List ℕ) → is_some (versioning_of text) ≡ (is_general text || is_messy text)
-any_kind text =
-    sym (is_some-map versioning_kind (versioning_of text)) ∙ ap (λ (k : Option Kind). is_some k) (kind_law text)
-    ∙ some_kind (is_general text) (has_three_numbers text) (is_messy text)
+any_kind text = grind (arith, is_some-map, kind_law, some_kind)

@@ -1,8 +1,7 @@
 //! How long a key may be, and a list that gets one.
 
 ghost use Rattle.std.specs.Prelude.{◌≡◌, ◌+◌, ◌-◌, ◌<◌, ◌≤◌, ◌^◌, length, IfOk, List, Some, ℕ};
-ghost use Rattle.version_rules.specs.key.Key.{key_of, key_bytes};
-ghost use Rattle.version_rules.specs.grammar.Versioning.{versioning_of, PlainVersioning};
+ghost use Rattle.version_rules.specs.{grammar.Versioning.versioning_of, grammar.Versioning.PlainVersioning, key.Key.key_of, key.Key.key_bytes};
 ghost use Rattle.version_texts.specs.Key.{room_for};
 ghost use Rattle.version_order.specs.keys.Sinks.{saturated};
 

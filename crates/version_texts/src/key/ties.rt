@@ -2,8 +2,7 @@
 
 ghost use Rattle.std.specs.Prelude.{◌≡◌, ◌<◌, ◌^◌, Some};
 ghost use Rattle.std.specs.declared.cmp.Ordering.TheVariants.{Equal};
-ghost use Rattle.version_rules.specs.key.Key.{key_of, precedence, key_tie_cmp};
-ghost use Rattle.version_rules.specs.grammar.Versioning.{versioning_kind, PlainVersioning, versioning_of};
+ghost use Rattle.version_rules.specs.{grammar.Versioning.versioning_kind, grammar.Versioning.PlainVersioning, grammar.Versioning.versioning_of, key.Key.key_of, key.Key.precedence, key.Key.key_tie_cmp};
 ghost use Rattle.version_texts.specs.Order.{kind_on, kind_place, marked_number, texts_tie};
 
 use crate::order::ties::{compare_general, compare_messy};

@@ -1,13 +1,9 @@
 //! A whole key, or the bytes of an end, written into a buffer or compared with given bytes.
 
 ghost use Rattle.std.specs.Prelude.{◌≡◌, ◌+◌, ◌≤◌, length};
-ghost use Rattle.version_rules.specs.requirement.Range.{end_bytes};
-ghost use Rattle.version_rules.specs.key.Key.{key_bytes};
-ghost use Rattle.version_order.specs.keys.Lists.{bytes_cmp};
-ghost use Rattle.version_rules.specs.key.Tail.{tail_bytes};
-ghost use Rattle.version_texts.specs.Scan.{tail_in, Fits};
-ghost use Rattle.version_order.specs.keys.Sinks.{put_at};
-ghost use Rattle.version_texts.specs.Key.{tail_of, text_key};
+ghost use Rattle.version_rules.specs.{key.Key.key_bytes, key.Key.tail_bytes, requirement.Range.end_bytes};
+ghost use Rattle.version_order.specs.keys.{Lists.bytes_cmp, Sinks.put_at};
+ghost use Rattle.version_texts.specs.{Key.tail_of, Key.text_key, Scan.tail_in, Scan.Fits};
 
 use crate::key::{put_front, put_tail, tail_at};
 use crate::requirement::range::put_end;

@@ -2,10 +2,9 @@
 
 ghost use Rattle.std.specs.Prelude.{ℕ, suc, ◌≡◌, ◌↔◌, ◌⊎◌, take};
 ghost use Rattle.std.specs.declared.cmp.Ordering.TheVariants.{Equal};
-ghost use Rattle.version_rules.specs.key.Key.{key_of, precedence};
-ghost use Rattle.version_rules.specs.grammar.Versioning.{PlainVersioning, SameVersioning};
-ghost use Rattle.version_texts.specs.Order.{difference_of};
+ghost use Rattle.version_rules.specs.{grammar.Versioning.PlainVersioning, grammar.Versioning.SameVersioning, key.Key.key_of, key.Key.precedence};
 ghost use Rattle.version_texts.specs.declared.order.difference.Difference.TheVariants.{Epoch, Part, Same, Tail, Tie};
+ghost use Rattle.version_texts.specs.Order.{difference_of};
 
 // Two versions are the same or tie exactly if precedence is Equal, and they are the same exactly if they are so apart
 // from the metadata of strict versions.

@@ -1,14 +1,9 @@
 //! Laws of empty ranges.
 
 ghost use Rattle.std.specs.Prelude.{◌≡◌, ℕ, List, Some};
-ghost use Rattle.version_rules.specs.requirement.Matching.{MatchesAll};
-ghost use Rattle.version_rules.specs.requirement.Range.{range_of, IsIn, PlainRange};
-ghost use Rattle.version_rules.specs.requirement.Requirement.{PlainRequirement};
+ghost use Rattle.version_rules.specs.{grammar.Versioning.PlainVersioning, requirement.Matching.MatchesAll, requirement.Range.range_of, requirement.Range.IsIn, requirement.Range.PlainRange, requirement.Requirement.PlainRequirement};
 ghost use Rattle.version_rules.specs.requirement.Requirements.{requirements_of};
-ghost use Rattle.version_rules.specs.grammar.Versioning.{PlainVersioning};
-ghost use Rattle.version_texts.specs.Requirement.{ExcludeEachOther};
-ghost use Rattle.version_texts.specs.Range.{IsEmpty};
-ghost use Rattle.version_texts.specs.declared.requirement.conflict.Conflict.{Conflict};
+ghost use Rattle.version_texts.specs.{Range.IsEmpty, Requirement.ExcludeEachOther, declared.requirement.conflict.Conflict.Conflict};
 
 // No version is in an empty range. So a list whose range is empty matches none, nor does a list two of whose members
 // exclude each other.

@@ -2,10 +2,8 @@
 //! its shape.
 
 ghost use Rattle.std.specs.Prelude.{◌≡◌, List, Some, ℕ};
-ghost use Rattle.version_texts.specs.Scan.{shape_at, Fits};
-ghost use Rattle.version_texts.specs.Key.{text_key};
-ghost use Rattle.version_rules.specs.key.Key.{key_of};
-ghost use Rattle.version_rules.specs.grammar.Versioning.{versioning_kind, versioning_of, PlainVersioning};
+ghost use Rattle.version_texts.specs.{Key.text_key, Scan.shape_at, Scan.Fits};
+ghost use Rattle.version_rules.specs.{grammar.Versioning.versioning_kind, grammar.Versioning.versioning_of, grammar.Versioning.PlainVersioning, key.Key.key_of};
 
 // The pieces that the shape of a version names lie in its text, and have only bytes of their kinds. The key of the
 // version is the one that these pieces give.

@@ -1,11 +1,8 @@
 //! Laws of the kinds of texts: the tests on the pieces of a text tell which grammar it spells.
 
-ghost use Rattle.std.specs.Option.{option_map};
 ghost use Rattle.std.specs.Prelude.{◌≡◌, ◌&&◌, is_some, List, ℕ};
-ghost use Rattle.version_rules.specs.grammar.Versioning.{versioning_kind, versioning_of};
-ghost use Rattle.version_rules.specs.grammar.Mess.{mess_of};
-ghost use Rattle.version_rules.specs.grammar.SemVer.{semver_of};
-ghost use Rattle.version_rules.specs.grammar.Version.{version_of};
+ghost use Rattle.std.specs.Option.{option_map};
+ghost use Rattle.version_rules.specs.grammar.{Mess.mess_of, SemVer.semver_of, Version.version_of, Versioning.versioning_kind, Versioning.versioning_of};
 ghost use Rattle.version_texts.specs.Scan.{has_three_numbers, is_general, is_messy, kind_in};
 
 // A text parses as a strict version exactly if its pieces are those of a general one, and its body is three numbers.

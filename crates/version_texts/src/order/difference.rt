@@ -1,9 +1,7 @@
 //! Where two versions differ first, read off their texts. Nothing here allocates.
 
 ghost use Rattle.std.specs.Prelude.{◌≡◌};
-ghost use Rattle.version_texts.specs.Order.{first_differing, key_difference};
-ghost use Rattle.version_texts.specs.Scan.{Fits};
-ghost use Rattle.version_texts.specs.Key.{parts_of, text_key};
+ghost use Rattle.version_texts.specs.{Key.parts_of, Key.text_key, Order.first_differing, Order.key_difference, Scan.Fits};
 
 use crate::key::body_at;
 use crate::order::delimiters::Delimiters;

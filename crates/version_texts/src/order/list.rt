@@ -2,8 +2,7 @@
 
 ghost use Rattle.std.specs.Prelude.{◌≡◌, IfNone, IfSome, None, Some};
 ghost use Rattle.std.specs.declared.cmp.Ordering.TheVariants.{Equal};
-ghost use Rattle.version_rules.specs.key.PartKey.{list_cmp, part_cmp, part_key};
-ghost use Rattle.version_rules.specs.key.Tail.{sections_cmp};
+ghost use Rattle.version_rules.specs.key.{Key.sections_cmp, PartKey.list_cmp, PartKey.part_cmp, PartKey.part_key};
 ghost use Rattle.version_texts.specs.Key.{lists_of, parts_of, sections_of};
 
 use crate::order::delimiters::Delimiters;

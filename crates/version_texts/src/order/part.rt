@@ -1,16 +1,10 @@
 //! The first parts of two texts, compared.
 
 ghost use Rattle.std.specs.Prelude.{◌≡◌, Some, false};
-ghost use Rattle.std.specs.List.{before_first};
-ghost use Rattle.std.specs.Option.{option_cmp};
-ghost use Rattle.std.specs.declared.cmp.Ordering.TheVariants.{Equal};
-ghost use Rattle.version_order.specs.texts.DigitRun.{number_front};
-ghost use Rattle.version_order.specs.texts.Front.{begins};
-ghost use Rattle.version_order.specs.keys.Lists.{bytes_cmp, none_last_cmp};
+ghost use Rattle.std.specs.{List.before_first, Option.option_cmp, declared.cmp.Ordering.TheVariants.Equal};
+ghost use Rattle.version_order.specs.{keys.Lists.bytes_cmp, keys.Lists.none_last_cmp, texts.Cuts.from_first, texts.Front.number_front, texts.Front.begins};
 ghost use Rattle.version_rules.specs.key.PartKey.{part_cmp, part_key, suffix_of, numbered_cmp, split_cmp, split_of};
-ghost use Rattle.version_texts.specs.declared.order.delimiters.Run.TheVariants.{Word};
-ghost use Rattle.version_texts.specs.Key.{delimits, in_run};
-ghost use Rattle.version_order.specs.texts.Cuts.{from_first};
+ghost use Rattle.version_texts.specs.{Key.delimits, Key.in_run, declared.order.delimiters.Run.TheVariants.Word};
 
 use crate::order::delimiters::{Delimiters, Run};
 use crate::order::run::compare_runs;

@@ -1,13 +1,9 @@
 //! Releases, compared.
 
 ghost use Rattle.std.specs.Prelude.{◌≡◌};
-ghost use Rattle.std.specs.Char.{is_ascii_digit};
-ghost use Rattle.std.specs.List.{list_all};
-ghost use Rattle.std.specs.Ordering.{nat_cmp};
-ghost use Rattle.std.specs.declared.cmp.Ordering.TheVariants.{Equal, Greater};
-ghost use Rattle.version_order.specs.texts.DigitRun.{run_value};
+ghost use Rattle.std.specs.{Char.is_ascii_digit, List.list_all, Ordering.nat_cmp, declared.cmp.Ordering.TheVariants.Equal, declared.cmp.Ordering.TheVariants.Greater};
+ghost use Rattle.version_order.specs.texts.{Cuts.behind_piece, Cuts.first_piece, Front.run_value};
 ghost use Rattle.version_rules.specs.order.Parts.{chunk_cmp, release_cmp};
-ghost use Rattle.version_order.specs.texts.Cuts.{behind_piece, first_piece};
 ghost use Rattle.version_texts.specs.Key.{chunk_of, chunks_of};
 
 use crate::order::delimiters::Delimiters;

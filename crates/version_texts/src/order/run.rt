@@ -1,8 +1,7 @@
 //! Runs of bytes, compared byte beside byte: no more is read of one than the other has.
 
 ghost use Rattle.std.specs.Prelude.{◌≡◌, drop};
-ghost use Rattle.std.specs.List.{prefix_len, take_while};
-ghost use Rattle.std.specs.declared.cmp.Ordering.TheVariants.{Equal};
+ghost use Rattle.std.specs.{List.prefix_len, List.take_while, declared.cmp.Ordering.TheVariants.Equal};
 ghost use Rattle.version_order.specs.keys.Lists.{bytes_cmp};
 ghost use Rattle.version_texts.specs.Key.{in_run};
 

@@ -3,8 +3,8 @@
 ghost use Rattle.std.specs.Prelude.{◌≡◌, ◌≤◌, length};
 ghost use Rattle.std.specs.Ordering.{ordering_then};
 ghost use Rattle.version_order.specs.keys.Lists.{bytes_cmp};
-ghost use Rattle.version_texts.specs.Scan.{body_start};
 ghost use Rattle.version_texts.specs.Order.{bodies_tie, byte_place, general_tie, is_lettered, is_numbered, last_tie, messy_tie};
+ghost use Rattle.version_texts.specs.Scan.{body_start};
 
 use crate::scan::numeral::spells_numeral;
 use std::cmp::Ordering;

@@ -1,11 +1,10 @@
 //! Which members of a list of requirements exclude each other.
 
 ghost use Rattle.std.specs.Prelude.{◌≡◌, ◌↔◌, is_some, IfSome, IsSome, IsSomeAnd, IsTrue, Some};
-ghost use Rattle.std.specs.declared.cmp.Ordering.TheVariants.{Less};
+ghost use Rattle.std.specs.{Option.option_map, declared.cmp.Ordering.TheVariants.Less};
 ghost use Rattle.version_order.specs.keys.Lists.{bytes_cmp};
 ghost use Rattle.version_rules.specs.requirement.Range.{common_kinds, has_kind, no_kinds, range_of, requirement_range};
 ghost use Rattle.version_rules.specs.requirement.Requirements.{requirements_of};
-ghost use Rattle.std.specs.Option.{option_map};
 ghost use Rattle.version_texts.specs.Requirement.{ExcludeEachOther, IsByEnds, IsFailing, IsOneAtMost, NotEach};
 ghost use Rattle.version_texts.specs.Range.{IsCrossed, IsEmpty, bound_bytes, plain_range_ref};
 

@@ -2,13 +2,10 @@
 
 ghost use Rattle.std.specs.Prelude.{◌≡◌, ◌++◌, IfNone, IsSome, List, ℕ};
 ghost use Rattle.std.specs.Option.{option_map};
-ghost use Rattle.version_order.specs.keys.Codes.{items_bytes};
-ghost use Rattle.version_rules.specs.requirement.Range.{end_bytes};
-ghost use Rattle.version_order.specs.keys.Lists.{bytes_cmp};
-ghost use Rattle.version_rules.specs.key.PartKey.{part_bytes};
+ghost use Rattle.version_order.specs.keys.{Codes.items_bytes, Lists.bytes_cmp};
+ghost use Rattle.version_rules.specs.{key.PartKey.part_bytes, requirement.Range.end_bytes};
 ghost use Rattle.version_texts.specs.Range.{after_key, fixed_bytes, is_key, kept_of, mark_of, Begins, IsOfPart};
-ghost use Rattle.version_texts.specs.Key.{parts_behind, parts_of, text_key};
-ghost use Rattle.version_texts.specs.Scan.{Fits};
+ghost use Rattle.version_texts.specs.{Key.parts_behind, Key.parts_of, Key.text_key, Scan.Fits};
 
 use crate::key::body_at;
 use crate::key::whole::compare_end;

@@ -2,8 +2,7 @@
 
 ghost use Rattle.std.specs.Prelude.{◌≡◌, ◌↔◌, ◌+◌, ◌≤◌, ◌∷◌, ◌++◌, [], IfNone, IfSome, IsSomeAnd, IsTrue, length};
 ghost use Rattle.std.specs.List.{All};
-ghost use Rattle.version_rules.specs.requirement.Requirement.{PlainRequirement};
-ghost use Rattle.version_rules.specs.requirement.Requirements.{comma, requirements_of};
+ghost use Rattle.version_rules.specs.requirement.{Requirement.PlainRequirement, Requirements.comma, Requirements.requirements_of};
 ghost use Rattle.version_texts.specs.Requirement.{IsFirstFailing, NotEach, cut_at_commas};
 
 use crate::requirement::members::split_first;

@@ -1,14 +1,11 @@
 //! The members of a list of requirements that its range leaves open.
 
 ghost use Rattle.std.specs.Prelude.{◌≡◌, ◌↔◌, ◌∷◌, [], IfNone, IfSome, IsTrue, length};
-ghost use Rattle.std.specs.List.{join_with_byte, All};
-ghost use Rattle.std.specs.Option.{IsSomeAnd};
-ghost use Rattle.version_rules.specs.requirement.Matching.{MatchesAll};
-ghost use Rattle.version_rules.specs.requirement.Range.{requirement_range, IsIn};
-ghost use Rattle.version_rules.specs.requirement.Requirements.{comma, requirements_of};
+ghost use Rattle.std.specs.{List.join_with_byte, List.All, Option.IsSomeAnd};
+ghost use Rattle.version_rules.specs.requirement.{Matching.MatchesAll, Range.requirement_range, Range.IsIn, Requirements.comma, Requirements.requirements_of};
 ghost use Rattle.version_texts.specs.Requirement.{inexact_part, inexact_pieces, is_inexact, cut_at_commas, pieces_of};
-ghost use Rattle.version_order.specs.keys.Sinks.{saturated, IsWritten};
 ghost use Rattle.version_texts.specs.VersioningRef.{plain_versioning_ref};
+ghost use Rattle.version_order.specs.keys.Sinks.{saturated, IsWritten};
 
 use crate::requirement::members::Members;
 use crate::requirement::requirement_ref::RequirementRef;

@@ -1,12 +1,9 @@
 //! What an operator asks of two versions, by their texts and shapes. Nothing here allocates.
 
 ghost use Rattle.std.specs.Prelude.{◌≡◌, ◌∷◌, ◌↔◌, IsTrue, Some};
-ghost use Rattle.version_texts.specs.Range.{epoch_and_parts_of};
-ghost use Rattle.version_texts.specs.Scan.{body_in, shape_of, Fits};
-ghost use Rattle.version_texts.specs.Key.{first_part, more_parts, parts_of, text_key};
-ghost use Rattle.version_rules.specs.requirement.Matching.{MatchesCaret, MatchesTilde};
+ghost use Rattle.version_texts.specs.{Key.first_part, Key.more_parts, Key.parts_of, Key.text_key, Range.epoch_and_parts_of, Scan.body_in, Scan.shape_of, Scan.Fits};
+ghost use Rattle.version_rules.specs.{grammar.Versioning.versioning_of, grammar.Versioning.PlainVersioning, requirement.Matching.MatchesCaret, requirement.Matching.MatchesTilde};
 ghost use Rattle.version_rules.specs.requirement.VersionMatch.{MatchesCaret as PartsCaret, MatchesTilde as PartsTilde};
-ghost use Rattle.version_rules.specs.grammar.Versioning.{versioning_of, PlainVersioning};
 
 pub(crate) mod parts;
 

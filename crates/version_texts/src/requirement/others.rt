@@ -2,11 +2,8 @@
 
 ghost use Rattle.std.specs.Prelude.{◌≡◌, ◌↔◌, IsTrue, Some};
 ghost use Rattle.std.specs.Option.{option_map};
-ghost use Rattle.version_rules.specs.requirement.Matching.{MatchesAll};
-ghost use Rattle.version_rules.specs.requirement.Range.{range_of};
-ghost use Rattle.version_rules.specs.requirement.Requirements.{requirements_of};
-ghost use Rattle.version_texts.specs.Range.{plain_range_ref};
-ghost use Rattle.version_texts.specs.VersioningRef.{plain_versioning_ref};
+ghost use Rattle.version_rules.specs.requirement.{Matching.MatchesAll, Range.range_of, Requirements.requirements_of};
+ghost use Rattle.version_texts.specs.{Range.plain_range_ref, VersioningRef.plain_versioning_ref};
 
 use crate::requirement::inexact::inexact_match;
 use crate::requirement::range_ref::RangeRef;

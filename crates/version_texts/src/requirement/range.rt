@@ -2,8 +2,7 @@
 
 ghost use Rattle.std.specs.Prelude.{◌≡◌, ◌++◌, IfSome, List, ℕ};
 ghost use Rattle.version_rules.specs.requirement.Range.{end_bytes, kept_parts, begun, but_last, through_other};
-ghost use Rattle.version_texts.specs.Key.{parts_behind, parts_of, text_key};
-ghost use Rattle.version_texts.specs.Scan.{Fits};
+ghost use Rattle.version_texts.specs.{Key.parts_behind, Key.parts_of, Key.text_key, Scan.Fits};
 
 use crate::key::{body_at, epoch_at, put_begun, put_key};
 use crate::requirement::matching::parts::TextParts;

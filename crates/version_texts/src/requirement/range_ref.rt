@@ -1,16 +1,12 @@
 //! Ranges of keys, borrowed from the texts of requirements.
 
 ghost use Rattle.std.specs.Prelude.{◌≡◌, ◌↔◌, ◌≤◌, ◌++◌, ◌∷◌, IfSome, IsTrue, length, take};
-ghost use Rattle.std.specs.Option.{option_map};
-ghost use Rattle.std.specs.declared.cmp.Ordering.TheVariants.{Less};
+ghost use Rattle.std.specs.{Option.option_map, declared.cmp.Ordering.TheVariants.Less};
 ghost use Rattle.version_rules.specs.requirement.Range.{end_bytes, bytes_of, common, earlier_high, later, range_of, requirement_range, IsIn};
-ghost use Rattle.version_rules.specs.key.Key.{key_of};
-ghost use Rattle.version_order.specs.keys.Lists.{bytes_cmp};
-ghost use Rattle.version_rules.specs.requirement.Requirements.{comma, requirements_of};
+ghost use Rattle.version_rules.specs.{key.Key.key_of, requirement.Requirements.comma, requirement.Requirements.requirements_of};
+ghost use Rattle.version_order.specs.keys.{Lists.bytes_cmp, Sinks.saturated, Sinks.IsWritten};
 ghost use Rattle.version_texts.specs.Range.{IsCrossed, bound_bytes, high_length, low_bytes, plain_range_ref, IsParsed};
-ghost use Rattle.version_texts.specs.Requirement.{plain_requirement_ref};
-ghost use Rattle.version_order.specs.keys.Sinks.{saturated, IsWritten};
-ghost use Rattle.version_texts.specs.VersioningRef.{plain_versioning_ref};
+ghost use Rattle.version_texts.specs.{Requirement.plain_requirement_ref, VersioningRef.plain_versioning_ref};
 
 use crate::requirement::members::Members;
 use crate::requirement::requirement_ref::RequirementRef;

@@ -2,11 +2,8 @@
 
 ghost use Rattle.std.specs.Prelude.{◌≡◌, ◌↔◌, IsTrue};
 ghost use Rattle.std.specs.Option.{option_map};
-ghost use Rattle.version_texts.specs.Requirement.{plain_requirement_ref};
-ghost use Rattle.version_texts.specs.VersioningRef.{plain_versioning_ref};
-ghost use Rattle.version_rules.specs.requirement.Matching.{Matches};
-ghost use Rattle.version_rules.specs.requirement.Range.{requirement_range};
-ghost use Rattle.version_rules.specs.requirement.Requirement.{requirement_of};
+ghost use Rattle.version_texts.specs.{Requirement.plain_requirement_ref, VersioningRef.plain_versioning_ref};
+ghost use Rattle.version_rules.specs.requirement.{Matching.Matches, Range.requirement_range, Requirement.requirement_of};
 
 use crate::versioning_ref::VersioningRef;
 use version_rules::{Op, asks_for, ends_of};

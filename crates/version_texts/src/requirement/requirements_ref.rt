@@ -1,13 +1,10 @@
 //! Lists of requirements that are borrowed from their texts.
 
 ghost use Rattle.std.specs.Prelude.{◌≡◌, ◌↔◌, nat_eq, IfSome, IsTrue};
-ghost use Rattle.std.specs.List.{starts_with};
-ghost use Rattle.std.specs.Option.{is_none, is_some, IsSomeAnd};
+ghost use Rattle.std.specs.{List.starts_with, Option.is_none, Option.is_some, Option.IsSomeAnd};
 ghost use Rattle.version_texts.specs.Requirement.{plain_requirement_ref, from_second, others_of, wrong_member, IsFront};
 ghost use Rattle.version_texts.specs.VersioningRef.{plain_versioning_ref};
-ghost use Rattle.version_rules.specs.requirement.Matching.{MatchesAll};
-ghost use Rattle.version_rules.specs.requirement.Requirements.{requirements_of, Keeps};
-ghost use Rattle.version_rules.specs.grammar.Versioning.{versioning_of};
+ghost use Rattle.version_rules.specs.{grammar.Versioning.versioning_of, requirement.Matching.MatchesAll, requirement.Requirements.requirements_of, requirement.Requirements.Keeps};
 
 use crate::requirement::members::{Members, split_first};
 use crate::requirement::others::Others;

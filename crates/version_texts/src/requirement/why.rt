@@ -1,12 +1,10 @@
 //! Which member of a list of requirements does not match a version, and why.
 
 ghost use Rattle.std.specs.Prelude.{◌≡◌, ◌↔◌, is_some, length, IfSome, IsNone, IsSomeAnd};
-ghost use Rattle.version_rules.specs.requirement.Matching.{Matches, MatchesAll};
-ghost use Rattle.version_rules.specs.requirement.Requirements.{requirements_of};
-ghost use Rattle.version_texts.specs.Range.{plain_range_ref};
-ghost use Rattle.version_order.specs.keys.Sinks.{saturated, IsWritten};
-ghost use Rattle.version_texts.specs.VersioningRef.{plain_versioning_ref};
+ghost use Rattle.version_rules.specs.requirement.{Matching.Matches, Matching.MatchesAll, Requirements.requirements_of};
 ghost use Rattle.version_texts.specs.Requirement.{excluded_text, reason_text, words_after, words_between, IsExcluded, IsWhy};
+ghost use Rattle.version_texts.specs.{Range.plain_range_ref, VersioningRef.plain_versioning_ref};
+ghost use Rattle.version_order.specs.keys.Sinks.{saturated, IsWritten};
 
 use crate::requirement::first_failing::{ListTest, first_failing};
 use crate::requirement::members::text_between;

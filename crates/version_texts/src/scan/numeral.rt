@@ -2,10 +2,9 @@
 
 ghost use Rattle.std.specs.Prelude.{◌≡◌, ◌^◌, None, Some, if◌then◌else◌, nat_lt, true};
 ghost use Rattle.std.specs.Str.Parse.{digits_value};
-ghost use Rattle.version_order.specs.texts.DigitRun.{is_digits};
+ghost use Rattle.version_order.specs.texts.Front.{is_digits};
 ghost use Rattle.version_rules.specs.grammar.MChunk.{value_of_digits};
-ghost use Rattle.version_texts.specs.VersioningRef.{numeral_value};
-ghost use Rattle.version_texts.specs.Scan.{is_numeral};
+ghost use Rattle.version_texts.specs.{Scan.is_numeral, VersioningRef.numeral_value};
 
 use version_order::is_digits;
 

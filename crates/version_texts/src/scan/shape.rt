@@ -2,7 +2,7 @@
 
 ghost use Rattle.std.specs.Prelude.{◌≡◌, List, ℕ};
 ghost use Rattle.version_texts.specs.Key.{tail_of};
-ghost use Rattle.version_rules.specs.key.Tail.{tail_rank};
+ghost use Rattle.version_rules.specs.key.Key.{tail_rank};
 
 use version_rules::Kind;
 

@@ -1,30 +1,16 @@
 -- Values made of other values.
 use Rattle.std.proofs.Common.{◌≡◌, ℕ, ◌<◌, ◌^◌, List, [], ◌∷◌, ◌++◌, Option, Some, None, IfSome, if◌then◌else◌, ◌||◌, refl, sym, ap, ◌∙◌, arith, map, append_assoc, append-nil}
 use Rattle.std.proofs.lemmas.Fmt.{decimal_is_IsNumeral}
-use Rattle.std.specs.Cmp.{nat_cmp_total, tied_itself}
-use Rattle.std.specs.Fmt.{decimal}
-use Rattle.std.specs.Option.{is_some, option_map_or, unwrap_or}
-use Rattle.std.specs.declared.cmp.Ordering.TheVariants.{Less, Equal}
-use Rattle.version_rules.proofs.lemmas.Numeral.{decimal-digits}
-use Rattle.version_rules.proofs.lemmas.Key.{plain_number}
-use Rattle.version_rules.specs.grammar.Chunk.{PlainChunk, chunk_text}
-use Rattle.version_rules.specs.grammar.Last.{PlainLast, last_text}
-use Rattle.version_rules.specs.grammar.MChunk.{mchunk_text}
-use Rattle.version_rules.specs.key.PartKey.{PartKey, chunk_parts, part_key, section_parts}
-use Rattle.version_rules.specs.laws.Part.{list_total}
+use Rattle.std.specs.{Cmp.nat_cmp_total, Cmp.tied_itself, Fmt.decimal, List.flat_map, Option.is_some, Option.option_map_or, Option.unwrap_or, declared.cmp.Ordering.TheVariants.Less, declared.cmp.Ordering.TheVariants.Equal}
+use Rattle.version_rules.proofs.lemmas.{Key.plain_number, Numeral.decimal-digits, Versioning.version_of_semver_printed}
 use Rattle.version_rules.specs.grammar.Conversions.{behind_epoch, body_section, mchunk_of, mchunk_of_last, mess_of_semver, mess_of_version, meta_section, release_section, version_of_semver}
-use Rattle.version_rules.specs.key.Key.{key_behind_epoch, key_of_mess, key_of_sections, key_of_semver, key_of_version, plain, precedence, section_epoch, sections_tail}
-use Rattle.version_rules.specs.grammar.Mess.{Section, further_text, joined_section, mess_text}
-use Rattle.version_rules.specs.grammar.SemVer.{PlainSemVer, optional_text, semver_text}
-use Rattle.version_rules.specs.key.Tail.{Tail, PreReleased, Bare, Released, tail_cmp}
-use Rattle.version_rules.specs.grammar.Version.{PlainVersion, epoch_text, version_text}
+use Rattle.version_rules.specs.key.Key.{key_behind_epoch, key_of_mess, key_of_sections, key_of_semver, key_of_version, plain, precedence, section_epoch, sections_tail, Tail, PreReleased, Bare, Released, tail_cmp}
+use Rattle.version_rules.specs.grammar.{Body.body_text, Body.release_text, Chunk.PlainChunk, Chunk.chunk_text, Last.PlainLast, Last.last_text, MChunk.mchunk_text, Mess.Section, Mess.further_text, Mess.joined_section, Mess.mess_text}
+use Rattle.version_rules.specs.grammar.{SemVer.PlainSemVer, SemVer.optional_text, SemVer.semver_text, Version.PlainVersion, Version.epoch_text, Version.version_text}
+use Rattle.version_rules.specs.{key.PartKey.PartKey, key.PartKey.chunk_parts, key.PartKey.part_key, key.PartKey.section_parts, laws.Part.list_total}
+use Rattle.version_order.specs.texts.Bytes.{colon, dot, hyphen, plus}
 use Rattle.version_rules.specs.grammar.Chunk as chunk
 use Rattle.version_rules.specs.grammar.Last as last
-use Rattle.std.specs.List.{flat_map}
-use Rattle.version_rules.specs.grammar.Body.{body_text}
-use Rattle.version_order.specs.texts.Bytes.{colon, dot, hyphen, plus}
-use Rattle.version_rules.specs.grammar.Release.{release_text}
-use Rattle.version_rules.proofs.lemmas.Versioning.{version_of_semver_printed}
 
 -- ---- A version and its conversion have the same key, except for a tail of a higher rank
 
@@ -138,33 +124,23 @@ strict_as_messy v a b c =
 
 -- ---- A conversion to a messy version prints as the version does
 
-chunk_printed : (c : PlainChunk) → mchunk_text (mchunk_of c) ≡ chunk_text c
-chunk_printed (chunk.Numeric n) = refl
-chunk_printed (chunk.Alphanum text) = refl
-
-last_printed : (part : PlainLast) → mchunk_text (mchunk_of_last part) ≡ last_text part
-last_printed (last.Numeric n) = refl
-last_printed (last.Rc a text b) = refl
-last_printed (last.Post a text) = refl
-last_printed (last.Alphanum text) = refl
-
 chunks_printed : (chunks : List PlainChunk)
     → joined_section (map mchunk_of chunks) ≡ release_text chunks
 chunks_printed [] = refl
-chunks_printed (c ∷ []) = chunk_printed c
+chunks_printed (c ∷ []) = chunk_stays c
 chunks_printed (c ∷ d ∷ chunks) =
-    rw (chunk_printed c)
+    rw (chunk_stays c)
     (ap (λ (l : List ℕ). chunk_text c ++ dot ∷ l) (chunks_printed (d ∷ chunks)))
 
 body_printed : (chunks : List PlainChunk) (part : PlainLast)
     → joined_section (body_section chunks part) ≡ body_text (chunks, part)
-body_printed [] part = last_printed part
+body_printed [] part = last_stays part
 body_printed (c ∷ []) part =
-    rw (chunk_printed c, last_printed part)
+    rw (chunk_stays c, last_stays part)
     (sym (append_assoc (chunk_text c) (dot ∷ []) (last_text part)))
 body_printed (c ∷ d ∷ chunks) part =
     ap (λ (l : List ℕ). l ++ dot ∷ joined_section (body_section (d ∷ chunks) part))
-    (chunk_printed c)
+    (chunk_stays c)
     ∙ ap (λ (l : List ℕ). chunk_text c ++ dot ∷ l)
     (body_printed (d ∷ chunks) part
     ∙ append_assoc (release_text (d ∷ chunks)) (dot ∷ []) (last_text part))

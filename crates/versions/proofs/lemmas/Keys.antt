@@ -1,22 +1,15 @@
 -- The stream of a key, what follows its parts, and ranges.
-use Rattle.std.proofs.Common.{◌≡◌, ℕ, List, [], ◌∷◌, ◌++◌, map, Some, None, sym, ap, ◌∙◌, append_assoc, append-nil, Option, refl, Result, Ok, Err, IfOk}
-use Rattle.version_parts.specs.Chunk.{plain_chunk}
-use Rattle.version_order.specs.keys.Codes.{items_bytes}
-use Rattle.version_rules.specs.key.PartKey.{PartKey, chunk_parts, part_bytes, parts_bytes}
-use Rattle.version_parts.specs.declared.chunk.Chunk.{Chunk}
+use Rattle.std.proofs.Common.{◌≡◌, ℕ, List, [], ◌∷◌, ◌++◌, map, Some, None, sym, ap, ◌∙◌, append_assoc, append-nil, Option, refl, Result, Ok, Err, IfOk, Vec, ◌<◌, length, get_or, arith, subst}
+use Rattle.version_parts.specs.{Chunk.plain_chunk, declared.chunk.Chunk.Chunk}
+use Rattle.version_order.specs.keys.{Codes.items_bytes, Lists.bytes_cmp}
+use Rattle.version_rules.specs.key.Key.{Bare, PreReleased, Released, tail_bytes, Key, precedence, key_bytes}
+use Rattle.version_rules.specs.{grammar.Chunk.PlainChunk, grammar.Versioning.PlainVersioning, key.PartKey.PartKey, key.PartKey.chunk_parts, key.PartKey.part_bytes, key.PartKey.parts_bytes, order.Parts.release_bytes}
+use Rattle.version_rules.specs.requirement.{Matching.MatchesAll, Matching.Matches, Range.IsIn, Range.range_of, Requirement.PlainRequirement}
 use Rattle.version_parts.proofs.lemmas.Keys.{chunk_parts-map, key_of_chunk}
-use Rattle.std.specs.Option.{option_map, option_map_or}
-use Rattle.version_rules.specs.grammar.Chunk.{PlainChunk}
-use Rattle.version_rules.specs.order.Parts.{release_bytes}
-use Rattle.version_rules.specs.key.Tail.{Bare, PreReleased, Released, tail_bytes}
-use Rattle.versions.specs.KeyStream.{release_tail}
-use Rattle.versions.specs.declared.range.Range.{Range}
-use Rattle.version_rules.specs.requirement.Matching.{MatchesAll}
-use Rattle.version_rules.specs.requirement.Range.{IsIn, range_of}
-use Rattle.versions.specs.Requirements.{plain_range}
-use Rattle.version_rules.specs.requirement.Requirement.{PlainRequirement}
-use Rattle.version_rules.specs.grammar.Versioning.{PlainVersioning}
-use Rattle.version_rules.proofs.lemmas.Range.{list_in}
+use Rattle.std.specs.{Option.option_map, Option.option_map_or, declared.alloc.Global.Global, declared.cmp.Ordering.TheVariants.Equal}
+use Rattle.versions.specs.{KeyStream.release_tail, Requirements.plain_range, Requirements.plain_requirement, declared.range.Range.Range, declared.requirement.Requirement.Requirement}
+use Rattle.version_rules.proofs.lemmas.{Order.key_bytes_apart, Range.list_in}
+use Rattle.std.proofs.lemmas.List.{get_or-map, length-map}
 
 -- ---- the parts of a body in a key, from what remains of them
 
@@ -59,3 +52,25 @@ pub list_within : {E : Type 0} (list : List PlainRequirement) (result : Result R
     → IfOk result (λ range. (v : PlainVersioning) → MatchesAll list v → IsIn (plain_range range) v)
 list_within list (Ok range) is = λ v all. rw is (list_in list v all)
 list_within list (Err e) is = is
+
+-- ---- the bytes of a key as a list, compared with those of any other key
+
+-- whatever bytes follow, they compare as the keys do, if the keys differ
+pub stays_apart : {E : Type 0} (r : Result (Vec ℕ Global) E) (k : Key)
+    → IfOk r (λ list. list.items ≡ key_bytes k)
+    → IfOk r (λ list. (l : Key) (x y : List ℕ) → ¬ (precedence k l ≡ Equal)
+    → bytes_cmp (list.items ++ x) (key_bytes l ++ y) ≡ precedence k l)
+stays_apart (Ok list) k is = λ l x y differ. rw is (key_bytes_apart k l x y differ)
+stays_apart (Err e) k is = is
+
+-- ---- what a list of requirements matches, from what its members match
+
+-- if all members match a version, so does the member at a place
+pub member : (list : List Requirement) (v : PlainVersioning) (n : ℕ) (d : Requirement)
+    → n < length list → MatchesAll (map plain_requirement list) v
+    → Matches (plain_requirement (get_or list n d)) v
+member list v n d fits all =
+    let long = length-map list plain_requirement in
+    subst (λ (r : PlainRequirement). Matches r v)
+    (get_or-map plain_requirement list n d (plain_requirement d) fits)
+    (all n (plain_requirement d) (omega (arith, long)))

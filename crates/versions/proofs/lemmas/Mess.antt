@@ -1,21 +1,18 @@
 -- Messy versions that are scanned.
-use Rattle.std.proofs.Common.{◌≡◌, [], Some, None, Box, Global, refl, ◌≢◌, ◌==◌, ◌∙◌, ◌<◌, ℕ, List, ◌∷◌, ◌++◌, length, Option, Result, Ok, Err, IsSomeAnd, inl, inr, sym, ap, append-nil, append_assoc}
-use Rattle.version_parts.specs.declared.sep.Sep.{Sep}
-use Rattle.versions.specs.declared.mess.Mess.{Mess}
-use Rattle.versions.specs.declared.mess.Mess.TheFolds.{fold_out-Mess}
-use Rattle.versions.specs.declared.mess.Mess.TheViews.{out-Mess}
-use Rattle.version_rules.specs.grammar.Mess.{PlainMess, Further, Section, further_front, mess_front, mess_of, section_front}
-use Rattle.versions.specs.Mess.{behind_sign, flat_layer, plain_mess, plain_section}
-use Rattle.std.proofs.lemmas.Bool.{cases_Bool, eqb-true}
-use Rattle.std.specs.Borrow.{Bor}
-use Rattle.std.specs.Option.{option_map}
-use Rattle.std.specs.Result.{IsErr}
-use Rattle.std.specs.declared.alloc.AllocError.{AllocError}
-use Rattle.version_parts.specs.Body.{Reads}
-use Rattle.version_order.specs.texts.Front.{repeated}
+use Rattle.std.proofs.Common.{◌≡◌, [], Some, None, Box, Global, refl, ◌≢◌, ◌==◌, ◌∙◌, ◌<◌, ℕ, List, ◌∷◌, ◌++◌, length, Option, Result, Ok, Err, IsSomeAnd, inl, inr, sym, ap, append-nil, append_assoc, ◌≤◌, rules, arith, map, slice_index_or, true}
+use Rattle.version_parts.specs.{Body.Reads, MChunk.plain_mchunk, Sep.sep_fed, declared.mchunk.MChunk.MChunk, declared.sep.Sep.Sep}
+use Rattle.versions.specs.Mess.{behind_sign, flat_layer, plain_mess, plain_section, further_fed, section_fed}
+use Rattle.versions.specs.declared.mess.{Mess.Mess, Mess.TheFolds.fold_out-Mess, Mess.TheViews.out-Mess}
+use Rattle.version_rules.specs.grammar.Mess.{PlainMess, Further, Section, further_front, mess_front, mess_of, section_front, further_text, joined_section}
+use Rattle.version_rules.specs.{grammar.MChunk.mchunk_text, key.Key.section_epoch}
+use Rattle.std.proofs.lemmas.{Bool.cases_Bool, Bool.eqb-true, List.Sums.take_while-cons, List.Sums.fold-append, Option.slice_get_past, Option.slice_get_read}
+use Rattle.std.specs.List.{slice_get, list_all, take_while, flat_map, fold}
+use Rattle.std.specs.{Borrow.Bor, Char.is_ascii_digit, Cmp.first_so, Cmp.second_so, Hash.HashWrites, Option.option_map, Result.IsErr, Slice.IsItemAt, Str.Parse.digits_value, declared.alloc.AllocError.AllocError}
+use Rattle.version_order.specs.texts.{Front.repeated, Front.is_digits, Grammar.PlainSep, Grammar.sep_byte}
 use Rattle.version_parts.proofs.lemmas.Scans.{nothing_before, read_before}
 use Rattle.version_order.proofs.lemmas.Front.{cases_Option, repeated-None, repeated-next}
 use Rattle.version_rules.proofs.lemmas.Mess.{further_shrinks, mess_front-None, mess_front-Some}
+use Rattle.std.specs.Hash as fed
 
 -- ---- A flat messy version, step by step
 
@@ -130,3 +127,67 @@ reads_err (Ok answer) front err some = cc err
 reads_err (Err e) front err some = some
 
 -- ---- one after another
+
+-- ---- the item at a place of a list, if there is one
+
+-- what `get` returns is the item
+pub lent_item : {X : Type 0} (xs : List X) (at : ℕ) (o : Option (Bor X)) → IsItemAt xs at o
+    → slice_get xs at ≡ option_map (λ x. x.now) o
+lent_item xs at None h = let past : length xs ≤ at = search rules in slice_get_past xs at past
+lent_item xs at (Some x) h = grind (arith, slice_get_read)
+
+-- ---- the epoch of a messy section that is one chunk of digits
+
+all_taken : (text : List ℕ) → list_all is_ascii_digit text ≡ true
+    → take_while is_ascii_digit text ≡ text
+all_taken [] all = refl
+all_taken (b ∷ text) all =
+    let more = all_taken text (second_so (is_ascii_digit b) (list_all is_ascii_digit text) all) in
+    take_while-cons is_ascii_digit b text
+    ∙ rw (first_so (is_ascii_digit b) (list_all is_ascii_digit text) all)
+    (ap (λ (l : List ℕ). b ∷ l) more)
+
+pub digits_alone : (text : List ℕ) → is_digits text ≡ true
+    → digits_value 10 (take_while is_ascii_digit text) ≡ digits_value 10 text
+digits_alone text digits = grind (arith, all_taken, second_so)
+
+-- one chunk of digits is the epoch with their value
+pub one_of_digits : (section : List MChunk) (chunk : MChunk) (digits : List ℕ) → 1 ≤ length section
+    → length section < 2 → chunk ≡ slice_index_or section 0 chunk
+    → digits ≡ mchunk_text (plain_mchunk chunk)
+    → is_digits (mchunk_text (plain_mchunk chunk)) ≡ true
+    → Some (digits_value 10 (take_while is_ascii_digit digits))
+    ≡ section_epoch (map plain_mchunk section)
+one_of_digits [] chunk digits some few first text run = absurd (omega arith)
+one_of_digits (only ∷ []) chunk digits some few first text run = grind (arith, digits_alone)
+one_of_digits (only ∷ second ∷ more) chunk digits some few first text run = absurd (omega arith)
+
+-- ---- a messy version fed to a hash, section by section
+
+-- feeding the remaining writes after the others feeds all of them
+pub fed_behind : {S : Type 0} (write : S → List ℕ → S) (s t : S) (writes left : HashWrites)
+    → t ≡ fold write s writes → fold write t left ≡ fold write s (writes ++ left)
+fed_behind write s t writes left e =
+    ap (λ r. fold write r left) e ∙ sym (fold-append write s writes left)
+
+pub fed_next : {S : Type 0} (write : S → List ℕ → S) (s t : S) (one : Further) (more : List Further)
+    (end : HashWrites) → t ≡ fold write s (further_fed one)
+    → fold write t (flat_map further_fed more ++ end)
+    ≡ fold write s (flat_map further_fed (one ∷ more) ++ end)
+fed_next write s t one more end e = grind (arith, fed_behind, append_assoc)
+
+-- a further section is fed by three writes
+pub fed_further : {S : Type 0} (write : S → List ℕ → S) (s t u v : S) (sign : PlainSep)
+    (section : Section) → t ≡ fold write s (fed.u8 1) → u ≡ fold write t (sep_fed sign)
+    → v ≡ fold write u (section_fed section) → v ≡ fold write s (further_fed (sign, section))
+fed_further write s t u v sign section e f g = grind arith
+
+-- ---- a messy version printed, section by section
+
+-- one more further section is written: its sign, and its chunks
+pub written_next : (written : List ℕ) (one : Further) (more : List Further) (all : List ℕ)
+    → written ++ flat_map further_text (one ∷ more) ≡ all
+    → (written ++ ((sep_byte one.0 ∷ []) ++ joined_section one.1)) ++ flat_map further_text more
+    ≡ all
+written_next written one more all e =
+    append_assoc written (further_text one) (flat_map further_text more) ∙ e

@@ -1,11 +1,8 @@
 //! The current list of a key: the parts of its body or of a section, or the chunks of its release.
 
 ghost use Rattle.std.specs.Prelude.{◌≡◌, ◌++◌, ◌∷◌, []};
-ghost use Rattle.version_parts.specs.Body.{plain_chunks};
-ghost use Rattle.version_rules.specs.grammar.Last.{last_text};
-ghost use Rattle.version_parts.specs.Last.{plain_last};
-ghost use Rattle.version_rules.specs.key.PartKey.{chunk_parts, part_key, parts_bytes};
-ghost use Rattle.version_parts.specs.Pieces.{IsNext};
+ghost use Rattle.version_parts.specs.{Body.plain_chunks, Last.plain_last, Pieces.IsNext};
+ghost use Rattle.version_rules.specs.{grammar.Last.last_text, key.PartKey.chunk_parts, key.PartKey.part_key, key.PartKey.parts_bytes};
 
 use std::marker::Model;
 use version_parts::key::{ItemsLeft, ListLeft, PieceBytes};
@@ -71,9 +68,8 @@ pub struct PartsLeft<'a> {
 impl<'a> Model for PartsLeft<'a> {
     ghost use Rattle.std.specs.Prelude.{List, ℕ, ◌++◌, [], None, Some, if◌then◌else◌};
     ghost use Rattle.std.specs.Option.{option_map_or};
-    ghost use Rattle.version_rules.specs.grammar.Last.{last_text};
+    ghost use Rattle.version_rules.specs.{grammar.Last.last_text, key.PartKey.part_bytes, key.PartKey.part_key};
     ghost use Rattle.version_parts.specs.Last.{plain_last};
-    ghost use Rattle.version_rules.specs.key.PartKey.{part_bytes, part_key};
 
     ghost Value = { List ℕ };
 

@@ -1,14 +1,12 @@
 //! The tail of a key, which follows its body.
 
-ghost use Rattle.std.specs.Prelude.{◌≡◌};
-ghost use Rattle.version_rules.specs.key.Key.{sections_tail};
-ghost use Rattle.versions.specs.KeyStream.{release_tail};
-ghost use Rattle.versions.specs.Mess.{plain_mess};
-ghost use Rattle.version_rules.specs.key.Tail.{tail_bytes};
+ghost use Rattle.std.specs.Prelude.{◌≡◌, ◌∷◌, ◌++◌, [], IfNone, IfSome};
+ghost use Rattle.version_rules.specs.key.Key.{sections_tail, tail_bytes};
+ghost use Rattle.versions.specs.{KeyStream.release_tail, KeyStream.sections_left, Mess.plain_mess};
 
 use crate::mess::Mess;
-use version_parts::ReleaseChunk;
 use version_parts::key::ListLeft;
+use version_parts::{MessyChunk, ReleaseChunk};
 
 /// The mark of a strict pre-release.
 pub const PRE_RELEASE: u8 = 1;
@@ -60,5 +58,17 @@ impl<'a> TailLeft<'a> {
             Some(_) => TailLeft::Sections(mess),
             None => TailLeft::Bare,
         }
+    }
+}
+
+/// Returns the second section of a version, and the version from there on.
+pub fn next_section(mess: &Mess) -> Option<(ListLeft<'_, MessyChunk>, &Mess)>
+    ensures some { IfSome result
+        (λ next. sections_left mess.entry ≡ 2 ∷ (next.0 ++ sections_left next.1)) }
+    ensures none { IfNone result (sections_left mess.entry ≡ 1 ∷ []) }
+{
+    match &mess.next {
+        Some((_, section)) => Some((ListLeft::section(section.chunks.as_slice()), section)),
+        None => None,
     }
 }

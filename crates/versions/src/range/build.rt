@@ -1,20 +1,14 @@
 //! Ranges built from the ends that operators ask for.
 
 ghost use Rattle.std.specs.Prelude.{◌≡◌, ◌∷◌, ◌++◌, IfOk, IsTrue, OnOk, Some};
-ghost use Rattle.version_order.specs.keys.Codes.{items_bytes};
-ghost use Rattle.version_rules.specs.key.PartKey.{part_bytes};
-ghost use Rattle.versions.specs.Version.{first_part, more_parts};
+ghost use Rattle.version_order.specs.{declared.ends.Kept.TheVariants.ButLastOrOnly, keys.Codes.items_bytes};
 ghost use Rattle.version_rules.specs.requirement.Range.{end_bytes, is_whole, kept_parts, range_from, AreWhole, begun};
-ghost use Rattle.version_rules.specs.key.Key.{key_of, strict_body};
-ghost use Rattle.version_rules.specs.grammar.Versioning.{versioning_kind};
-ghost use Rattle.versions.specs.Requirements.{plain_range};
-ghost use Rattle.versions.specs.Versioning.{plain_versioning};
-ghost use Rattle.version_order.specs.declared.ends.Kept.TheVariants.{ButLastOrOnly};
-ghost use Rattle.version_rules.specs.declared.kind.Kind.TheVariants.{Complex};
+ghost use Rattle.version_rules.specs.{declared.kind.Kind.TheVariants.Complex, grammar.Versioning.versioning_kind, key.Key.key_of, key.Key.strict_body, key.PartKey.part_bytes};
+ghost use Rattle.versions.specs.{Requirements.plain_range, Version.first_part, Version.more_parts, Versioning.plain_versioning};
 
-use crate::numbers::Numbers;
 use crate::parts::BodyParts;
 use crate::range::Range;
+use crate::semver::Numbers;
 use crate::versioning::Versioning;
 use std::alloc::{AllocError, Global};
 use version_order::{End, Kept};

@@ -1,24 +1,18 @@
 -- The lengths of the bounds of ranges: none is longer than the key of a text of the list's length
 -- may be.
-pub mod Status
-use Rattle.std.proofs.Common.{◌≡◌, ◌∙◌, ◌+◌, ◌<◌, ◌≤◌, ℕ, Bool, true, false, List, [], ◌∷◌, length, Option, Some, None, ap, arith, if◌then◌else◌}
-use Rattle.std.proofs.lemmas.List.{length-append}
-use Rattle.std.specs.List.{AllZip, join_with_byte}
-use Rattle.std.specs.Option.{option_map_or}
-use Rattle.std.specs.Ordering.{is_lt}
-use Rattle.version_order.specs.keys.Lists.{bytes_cmp}
-use Rattle.version_rules.specs.key.PartKey.{PartKey}
-use Rattle.version_texts.proofs.lemmas.requirement.RangeRef.{narrowed}
-use Rattle.version_texts.specs.Range.{high_length}
-use Rattle.version_rules.proofs.lemmas.Requirement.{requirements_of-spells}
-use Rattle.version_rules.specs.declared.op.Op.{Op}
+use Rattle.std.proofs.Common.{◌≡◌, ◌∙◌, ◌+◌, ◌<◌, ◌≤◌, ℕ, Bool, true, false, List, [], ◌∷◌, length, Option, Some, None, ap, arith, if◌then◌else◌, ◌^◌, IfSome, nat_le, take, refl, sym}
+use Rattle.std.proofs.lemmas.{Bool.Decides.nat_tests, List.length-append}
+use Rattle.std.specs.{List.AllZip, List.join_with_byte, Option.option_map_or, Option.is_some, Option.option_map, Ordering.is_lt}
+use Rattle.version_order.specs.keys.{Lists.bytes_cmp, Sinks.saturated}
 use Rattle.version_rules.specs.declared.op.Op.TheVariants.{Exact, Greater, GreaterEq, Less, LessEq, Tilde, Caret, Wildcard}
-use Rattle.version_rules.specs.requirement.Requirement.{op_text, PlainRequirement, SpellsOperand, SpellsRequirement}
 use Rattle.version_rules.specs.requirement.Range.{PlainRange, alike_from, but_last, bytes_of, common, earlier_high, everything, later, op_range, range_of, range_without_version, requirement_range, series_range, through_other}
-use Rattle.version_rules.specs.requirement.Requirements.{comma, requirements_of}
-use Rattle.version_rules.specs.grammar.Versioning.{PlainVersioning, Ideal, General, Complex}
+use Rattle.version_rules.specs.{declared.op.Op.Op, grammar.Versioning.PlainVersioning, grammar.Versioning.Ideal, grammar.Versioning.General, grammar.Versioning.Complex, key.PartKey.PartKey}
+use Rattle.version_rules.specs.requirement.{Requirement.op_text, Requirement.PlainRequirement, Requirement.SpellsOperand, Requirement.SpellsRequirement, Requirements.comma, Requirements.requirements_of}
 use Rattle.version_texts.proofs.lemmas.key.KeyRoom.{spelled_length, begun_length, below_key, but_last_length, length_of, through_other_length}
-use Rattle.version_texts.specs.Key.{room_for}
+use Rattle.version_texts.proofs.lemmas.requirement.RangeRef.{narrowed}
+use Rattle.version_texts.specs.{Key.room_for, Range.high_length, Range.bound_bytes, Range.plain_range_ref, declared.requirement.range_ref.Bound.Bound, declared.requirement.range_ref.RangeRef.RangeRef}
+use Rattle.version_rules.proofs.lemmas.Requirement.{requirements_of-spells}
+use Rattle.versions_c.specs.{Ranges.range_status, Ranges.range_with, declared.status.TheConstants.OK}
 
 -- both bounds of a range have at most so many bytes
 pub record IsShort (n : ℕ) (range : PlainRange) : Type 0 where
@@ -138,3 +132,66 @@ list_short text list e =
     let long = ap length s.whole in
     members_short s.members list everything (length text) s.members_are (omega (arith, long))
     (record { low = omega arith; high = omega arith })
+
+-- ---- the lengths of a list's bounds, and the range that its results tell
+
+-- buffers for the key of a text of the list's length are large enough
+pub fits_bound : (text : List ℕ) (wanted : List PlainRequirement) (range : PlainRange)
+    → Some range ≡ option_map range_of (requirements_of text) → requirements_of text ≡ Some wanted
+    → (length range.low ≤ room_for (length text)) × (high_length range ≤ room_for (length text))
+fits_bound text wanted range e read =
+    let short = list_short text wanted read in
+    let same : range ≡ range_of wanted = cc (e ∙ ap (option_map range_of) read) in
+    rw same (short.low, short.high)
+
+-- the range that the results tell is the borrowed one
+pub told_range : (range : RangeRef) (low high : List ℕ) (flags : ℕ)
+    → low ≡ (plain_range_ref range).low
+    → IfSome (plain_range_ref range).high (λ bound. high ≡ bound)
+    → ((l h : List ℕ)
+    → range_with l h flags
+    ≡ record {
+      low =
+          l;
+      high = if is_some range.high then Some h else None;
+      kinds =
+          range.kinds;
+      is_exact = range.is_exact;
+    })
+    → plain_range_ref range ≡ range_with low high flags
+told_range range low high flags low_is high_is told =
+    (λ i. record {
+      low =
+          sym low_is i;
+      high =
+          by range.high high_is i;
+      kinds = range.kinds;
+      is_exact = range.is_exact;
+    })
+    ∙ sym (told low high)
+  where
+    by : (o : Option Bound) → IfSome (option_map bound_bytes o) (λ bound. high ≡ bound)
+        → option_map bound_bytes o ≡ (if is_some o then Some high else None)
+    by None e = refl
+    by (Some bound) e = ap Some (sym e)
+
+-- a high bound that fits is written
+pub told_high : (high : Option (List ℕ)) (new : List ℕ) (n room : ℕ)
+    → n ≡ saturated (option_map_or length high 0) → n ≤ room → room < 2 ^ 63
+    → IfSome high (λ bound. length bound ≤ room → take (length bound) new ≡ bound)
+    → IfSome high (λ bound. take n new ≡ bound)
+told_high None new n room is fits small written = tt
+told_high (Some bound) new n room is fits small written =
+    let same : n ≡ length bound = omega (arith, is, fits, small) in
+    rw same (written (omega (arith, is, fits, small)))
+
+-- the status of bounds that fit
+pub fits_status : (spelled : Option (List PlainRequirement)) (range : PlainRange) (low high : ℕ)
+    → Some range ≡ option_map range_of spelled → length range.low ≤ low → high_length range ≤ high
+    → OK ≡ range_status spelled low high
+fits_status None range low high e low_fits high_fits = cc e
+fits_status (Some wanted) range low high e low_fits high_fits =
+    let same : range ≡ range_of wanted = cc e in
+    let first : nat_le (length range.low) low ≡ true = grind (arith, nat_tests, low_fits) in
+    let second : nat_le (high_length range) high ≡ true = grind (arith, nat_tests, high_fits) in
+    rw (← same, first, second) refl

@@ -1,23 +1,14 @@
 -- Texts of a scheme: how they compare, and their keys, written into a buffer.
 use Rattle.std.proofs.Common.{◌≡◌, ◌∙◌, ◌+◌, ◌<◌, ◌≤◌, ◌^◌, ◌++◌, ◌∷◌, [], ℕ, List, Option, None, Some, IfSome, ap, arith, drop, length, length-append, refl, subst, sym}
-use Rattle.std.specs.Option.{option_map, unwrap_or}
-use Rattle.std.specs.Prelude.{option_and_then}
-use Rattle.std.specs.declared.cmp.Ordering.{Ordering}
-use Rattle.version_order.specs.declared.ends.End.TheVariants.{AfterKey}
-use Rattle.version_rules.specs.grammar.Versioning.{PlainVersioning, versioning_of}
-use Rattle.version_rules.specs.key.Key.{key_of, key_bytes}
-use Rattle.version_order.specs.keys.Lists.{bytes_cmp}
+use Rattle.std.specs.{Option.option_map, Option.unwrap_or, Prelude.option_and_then, declared.cmp.Ordering.Ordering}
+use Rattle.version_order.specs.{Keyed.AreWithin, Keyed.PlainKeyed, declared.ends.End.TheVariants.AfterKey, keys.Lists.bytes_cmp, keys.Sinks.saturated, keys.Sinks.IsWritten}
+use Rattle.version_rules.specs.{grammar.Versioning.PlainVersioning, grammar.Versioning.versioning_of, key.Key.key_of, key.Key.key_bytes}
 use Rattle.version_schemes.proofs.lemmas.Table.{compare_by_keys}
-use Rattle.version_schemes.specs.Scheme.{rules}
-use Rattle.version_schemes.specs.declared.scheme.Scheme.{Scheme}
+use Rattle.version_schemes.specs.{Scheme.rules, declared.scheme.Scheme.Scheme}
 use Rattle.version_order.proofs.lemmas.Sinks.{put_fits}
-use Rattle.version_order.specs.keys.Sinks.{saturated, IsWritten}
-use Rattle.version_order.specs.Keyed.{AreWithin, PlainKeyed}
 use Rattle.version_texts.specs.Mixed.{mixed}
-use Rattle.versions_c.proofs.lemmas.Keys.Putting.{ArePut, no_more_key, one_more_key}
-use Rattle.versions_c.specs.Keys.{keys_before, spelled_key}
-use Rattle.versions_c.specs.Offsets.{text_at}
-use Rattle.versions_c.specs.Schemes.{key_by}
+use Rattle.versions_c.proofs.lemmas.Keys.{ArePut, no_more_key, one_more_key}
+use Rattle.versions_c.specs.{Keys.keys_before, Keys.spelled_key, Schemes.key_by, Written.text_at}
 
 -- a key that fits begins the buffer
 pub fitting_read : (read : Option PlainKeyed) (room new : List ℕ) (end : ℕ)

@@ -1,40 +1,26 @@
 -- Places in the order of the keys that lie there, and in the order of their texts.
-pub mod ByKeys
-pub mod OneOrder
-use Rattle.std.proofs.Common.{◌≡◌, ◌∙◌, ℕ, ◌+◌, ◌-◌, ◌<◌, ◌≤◌, ◌^◌, ◌==◌, zero, suc, false, List, [], ◌++◌, length, take, drop, get_or, map, Option, Some, None, refl, sym, ap, arith, append-nil, append_assoc, length-append}
-use Rattle.std.proofs.Math.Dec.{eqb}
-use Rattle.std.proofs.Math.Seq.{drop-append_seam, take-append_seam}
-use Rattle.std.proofs.lemmas.Bool.{eqb-false}
-use Rattle.std.proofs.lemmas.Bool.Decides.{nat_tests}
-use Rattle.std.proofs.lemmas.Cmp.{nat_list_cmp_total, on_total, then_total}
-use Rattle.std.proofs.lemmas.Grind.{get_or_default_zero}
-use Rattle.std.proofs.lemmas.List.{get_or-map, length-map, map-id}
-use Rattle.std.proofs.lemmas.List.Elements.{All-from_get_or, All-get_or}
-use Rattle.std.proofs.lemmas.List.FromFn.{fill_by_all, get_or-range_with_len, length-range_with_len}
-use Rattle.std.proofs.lemmas.List.Sorted.{All-permutation, IsPermutation-map, ranks_by}
-use Rattle.std.proofs.lemmas.Map.Keys.{apart_from_distinct, IsDistinct-from_apart, IsDistinct-IsPermutation}
+use Rattle.std.proofs.Common.{◌≡◌, ◌∙◌, ℕ, ◌+◌, ◌-◌, ◌<◌, ◌≤◌, ◌^◌, ◌==◌, zero, suc, false, List, [], ◌++◌, length, take, drop, get_or, map, Option, Some, None, refl, sym, ap, arith, append-nil, append_assoc, length-append, ◌∷◌, IfSome, Bool, true, if◌then◌else◌, add-one}
+use Rattle.std.proofs.Math.{Dec.eqb, Seq.drop-append_seam, Seq.take-append_seam}
+use Rattle.std.proofs.lemmas.Cmp.{nat_list_cmp_total, on_total, then_total, by_ranked, ranked, tied_itself}
+use Rattle.std.proofs.lemmas.List.Elements.{All-from_get_or, All-get_or, All-cons, All-contains, All-nil, All-weaker}
+use Rattle.std.proofs.lemmas.List.Sorted.{All-permutation, IsPermutation-map, ranks_by, Contains-permutation, IsPermutation-sym}
+use Rattle.std.proofs.lemmas.{Bool.eqb-false, Bool.Decides.nat_tests, Grind.get_or_default_zero, List.get_or-map, List.length-map, List.map-id, List.FromFn.fill_by_all, List.FromFn.get_or-range_with_len, List.FromFn.length-range_with_len}
+use Rattle.std.proofs.lemmas.Map.{Keys.apart_from_distinct, Keys.IsDistinct-from_apart, Keys.IsDistinct-IsPermutation, Made.Contains-tail}
 use Rattle.std.specs.Cmp.{IsStrictWeakOrder, IsTotalOrder, bool_cmp_total, nat_cmp_total, nat_eq_equiv}
-use Rattle.std.specs.FinMap.{nat_cmp-IsAntisymmetric}
-use Rattle.std.specs.List.{All, IsDistinct, range_with_len}
-use Rattle.std.specs.List.Sorted.{IsPermutation, IsSorted}
-use Rattle.std.specs.Option.{option_map, option_map_or, unwrap_or}
-use Rattle.std.specs.Ordering.{is_lt, ordering_reverse, ordering_then}
-use Rattle.std.specs.declared.cmp.Ordering.{Ordering}
+use Rattle.std.specs.{FinMap.nat_cmp-IsAntisymmetric, List.All, List.IsDistinct, List.range_with_len, List.Contains, List.Sorted.IsPermutation, List.Sorted.IsSorted, Option.option_map, Option.option_map_or, Option.unwrap_or}
+use Rattle.std.specs.{Ordering.is_lt, Ordering.ordering_reverse, Ordering.ordering_then, Ordering.nat_cmp, declared.cmp.Ordering.Ordering}
 use Rattle.std.specs.declared.cmp.Ordering.TheVariants.{Less, Equal, Greater}
 use Rattle.version_order.proofs.lemmas.Orders.{then_assoc}
-use Rattle.version_order.specs.keys.Lists.{none_last_cmp}
+use Rattle.version_order.specs.keys.{Codes.then_second, Codes.none_last_total, Lists.none_last_cmp, Lists.bytes_cmp}
 use Rattle.version_rules.proofs.lemmas.Order.{key_bytes_alone}
-use Rattle.version_rules.specs.key.Key.{Key, key_of, precedence, key_bytes}
-use Rattle.version_rules.specs.order.Orders.{versioning_cmp}
-use Rattle.version_rules.specs.grammar.Versioning.{PlainVersioning, versioning_of, versioning_kind}
-use Rattle.versions_c.specs.Keys.{keys_before, saturated_signed}
-use Rattle.versions_c.specs.Offsets.{AreOffsets, text_at}
-use Rattle.version_rules.specs.declared.kind.Kind.{Kind}
-use Rattle.version_rules.specs.declared.kind.Kind.TheVariants.{Ideal}
-use Rattle.version_schemes.specs.declared.scheme.Scheme.TheVariants.{Mixed}
+use Rattle.version_rules.specs.{declared.kind.Kind.Kind, declared.kind.Kind.TheVariants.Ideal, grammar.Versioning.PlainVersioning, grammar.Versioning.versioning_of, grammar.Versioning.versioning_kind}
+use Rattle.version_rules.specs.{key.Key.Key, key.Key.key_of, key.Key.precedence, key.Key.key_bytes, laws.Key.versioning_cmp_total, order.Orders.versioning_cmp}
+use Rattle.versions_c.specs.Sorting.{AreInOrder, IsMarked, keyed_cmp, keys_cmp, marked_tie, place_cmp, AreSorted, key_place_cmp, lying_cmp, place_cmp_in}
+use Rattle.versions_c.specs.{Keys.keys_before, Keys.saturated_signed, Schemes.key_by, Written.AreOffsets, Written.text_at}
+use Rattle.version_schemes.specs.{Scheme.rules, Scheme.is_mixed, declared.scheme.Scheme.Scheme, declared.scheme.Scheme.TheVariants.Mixed}
 use Rattle.version_texts.specs.Order.{marked_number, texts_tie}
 use Rattle.version_texts.proofs.lemmas.order.Ties.{texts_alike, texts_tie_total}
-use Rattle.versions_c.specs.Sorting.{AreInOrder, IsMarked, keyed_cmp, keys_cmp, marked_tie, place_cmp}
+use Rattle.version_schemes.proofs.lemmas.Table.{not_mixed}
 
 -- numbers that are each its own place
 pub counted : (xs : List ℕ) (n : ℕ) → length xs ≡ n → ((i : ℕ) → i < n → get_or xs i 0 ≡ i)
@@ -302,3 +288,156 @@ in_order texts offsets keys key_offsets marks sorted_marks n many long each lies
           (lies (marked_number i) i_marked.0) (lies (marked_number j) j_marked.0))
           ∙ below (cmp i j) not_above other);
     }
+
+-- ---- places in the order of the keys that lie there alone
+
+lying_total : (keys key_offsets : List ℕ) → IsTotalOrder (lying_cmp keys key_offsets)
+lying_total keys key_offsets = then_total (on_total (λ i. text_at keys key_offsets i) keys_total) nat_cmp_total
+
+pub lying_ranks : (keys key_offsets : List ℕ) → IsStrictWeakOrder (λ a b. is_lt (lying_cmp keys key_offsets a b))
+lying_ranks keys key_offsets = ranks_by (lying_total keys key_offsets) (λ (i : ℕ). i)
+
+-- a place ties only with itself
+lying_same : (keys key_offsets : List ℕ) (m n : ℕ) → lying_cmp keys key_offsets m n ≡ Equal → m ≡ n
+lying_same keys key_offsets m n tied = nat_cmp-IsAntisymmetric m n (then_second _ _ tied)
+
+not_empty : (key : List ℕ) → ¬ (key ≡ []) → (length key == 0) ≡ false
+not_empty [] some = absurd (some refl)
+not_empty (byte ∷ key) some = grind (arith, nat_tests)
+
+-- keys that lie there compare as those of the texts
+alike_by_keys : (a b : Option (List ℕ)) (o : Ordering) → IfSome a (λ key. ¬ (key ≡ [])) → IfSome b (λ key. ¬ (key ≡ []))
+    → ordering_then (keys_cmp (unwrap_or a []) (unwrap_or b [])) o ≡ ordering_then (none_last_cmp bytes_cmp a b) o
+alike_by_keys None None o one other = refl
+alike_by_keys (Some k) None o one other = rw (not_empty k one) refl
+alike_by_keys None (Some l) o one other = rw (not_empty l other) refl
+alike_by_keys (Some k) (Some l) o one other = rw (not_empty k one, not_empty l other) refl
+
+pub in_key_order : (key_of : List ℕ → Option (List ℕ)) (texts offsets keys key_offsets sorted_places : List ℕ) (n : ℕ)
+    → ((i : ℕ) → i < n → text_at keys key_offsets i ≡ unwrap_or (key_of (text_at texts offsets i)) [])
+    → ((text : List ℕ) → IfSome (key_of text) (λ key. ¬ (key ≡ [])))
+    → IsPermutation (range_with_len 0 n) sorted_places → IsSorted (lying_cmp keys key_offsets) sorted_places
+    → AreSorted (key_place_cmp key_of texts offsets) n sorted_places
+in_key_order key_of texts offsets keys key_offsets sorted_places n lies some permutes sorted =
+    let cmp = lying_cmp keys key_offsets in
+    let all : All (λ i. i < n) sorted_places =
+    All-permutation (λ i. i < n) (range_with_len 0 n) sorted_places permutes
+    (All-from_get_or (λ i. i < n) (range_with_len 0 n) 0 (λ i inside.
+    omega (arith, inside, length-range_with_len 0 n, get_or-range_with_len 0 n i 0 (omega (arith, inside, length-range_with_len 0 n))))) in
+    record {
+      places = permutes;
+      ascending = λ k inside.
+          let i = get_or sorted_places k 0 in
+          let j = get_or sorted_places (k + 1) 0 in
+          let not_above : is_lt (ordering_reverse (cmp i j)) ≡ false =
+          ap is_lt (sym ((lying_total keys key_offsets).antisymm j i)) ∙ sorted k 0 (omega arith) inside in
+          let other = λ (tied : cmp i j ≡ Equal). places_differ sorted_places n permutes k inside
+          (lying_same keys key_offsets i j tied) in
+          let i_lies = lies i (All-get_or (λ i. i < n) sorted_places k 0 (omega (arith, inside)) all) in
+          let j_lies = lies j (All-get_or (λ i. i < n) sorted_places (k + 1) 0 inside all) in
+          sym (alike_by_keys (key_of (text_at texts offsets i)) (key_of (text_at texts offsets j)) (nat_cmp i j)
+          (some (text_at texts offsets i)) (some (text_at texts offsets j)))
+          ∙ (λ t. ordering_then (keys_cmp ((sym i_lies) t) ((sym j_lies) t)) (nat_cmp i j))
+          ∙ below (cmp i j) not_above other;
+    }
+
+-- in all schemes but mixed places are ordered by keys alone
+pub by_keys_alone : (scheme : Scheme) → ¬ (scheme ≡ Mixed) → place_cmp_in scheme ≡ key_place_cmp (key_by (rules scheme).read_as)
+by_keys_alone scheme other = rw (not_mixed scheme other) refl
+
+-- ---- the places of texts have one order
+
+key_place_total : (key_of : List ℕ → Option (List ℕ)) (texts offsets : List ℕ)
+    → IsTotalOrder (key_place_cmp key_of texts offsets)
+key_place_total key_of texts offsets =
+    then_total (on_total (λ i. key_of (text_at texts offsets i)) (none_last_total nat_list_cmp_total)) nat_cmp_total
+
+mixed_total : (texts offsets : List ℕ) → IsTotalOrder (place_cmp texts offsets)
+mixed_total texts offsets =
+    then_total (on_total (λ i. versioning_of (text_at texts offsets i))
+    (none_last_total versioning_cmp_total)) nat_cmp_total
+
+place_total : (scheme : Scheme) (texts offsets : List ℕ) → IsTotalOrder (place_cmp_in scheme texts offsets)
+place_total scheme texts offsets = by (is_mixed scheme)
+  where
+    by : (mixed : Bool)
+        → IsTotalOrder ((if mixed then place_cmp else key_place_cmp (key_by (rules scheme).read_as)) texts offsets)
+    by true = mixed_total texts offsets
+    by false = key_place_total (key_by (rules scheme).read_as) texts offsets
+
+module _ (R : ℕ → ℕ → Ordering) (total : IsTotalOrder R) where
+  -- each element is below all elements after it
+  abbrev Ascends : List ℕ → Type 0
+  Ascends [] = Unit {0}
+  Ascends (x ∷ xs) = All (λ y. R x y ≡ Less) xs × Ascends xs
+
+  -- if each element is below the next, it is below all elements after it
+  ascends : (xs : List ℕ)
+      → ((k : ℕ) → k + 1 < length xs → R (get_or xs k 0) (get_or xs (k + 1) 0) ≡ Less) → Ascends xs
+  ascends [] next = tt
+  ascends (x ∷ []) next = (All-nil (λ y. R x y ≡ Less), tt)
+  ascends (x ∷ y ∷ ys) next =
+      let first : R x y ≡ Less = next 0 (omega arith) in
+      let others = ascends (y ∷ ys)
+      (λ k inside. rw (add-one k) (rw (add-one (suc k)) at (next (suc k) (omega arith)))) in (
+        All-cons (λ z. R x z ≡ Less) y ys first
+            (All-weaker (λ z. R y z ≡ Less) (λ z. R x z ≡ Less)
+            (λ z up. total.trans x y z first up) ys others.0),
+        others,
+      )
+
+  -- nothing is below itself
+  not_below_itself : (x : ℕ) → ¬ (R x x ≡ Less)
+  not_below_itself x up = cc (up, tied_itself total x)
+
+  -- and of two elements at most one is below the other
+  not_both : (x y : ℕ) → R x y ≡ Less → ¬ (R y x ≡ Less)
+  not_both x y up down = not_below_itself x (total.trans x y x up down)
+
+  -- the elements after the first are in the list
+  behind : (x : ℕ) (xs : List ℕ) (z : ℕ) → Contains xs z → Contains (x ∷ xs) z
+  behind x xs z (k, inside, at) = (suc k, omega (arith, inside), at)
+
+  -- the first element of a list that ascends does not come again
+  not_first : (x : ℕ) (xs : List ℕ) (z : ℕ) → Ascends (x ∷ xs) → Contains xs z → ¬ (x ≡ z)
+  not_first x xs z up inside same =
+      not_below_itself x (ap (R x) same ∙ All-contains (λ y. R x y ≡ Less) xs z up.0 inside)
+
+  -- two lists that ascend, with the same elements, are equal
+  same : (xs ys : List ℕ) → Ascends xs → Ascends ys → ((z : ℕ) → Contains xs z → Contains ys z)
+      → ((z : ℕ) → Contains ys z → Contains xs z) → xs ≡ ys
+  same [] [] xs_up ys_up there back = refl
+  same [] (y ∷ ys) xs_up ys_up there back =
+      absurd (let none = back y (0, omega arith, refl) in omega (arith, none.1))
+  same (x ∷ xs) [] xs_up ys_up there back =
+      absurd (let none = there x (0, omega arith, refl) in omega (arith, none.1))
+  same (x ∷ xs) (y ∷ ys) xs_up ys_up there back =
+      let apart = λ (differ : ¬ (x ≡ y)).
+      let down = All-contains (λ z. R y z ≡ Less) ys x ys_up.0
+      (Contains-tail y ys x (λ e. differ (sym e)) (there x (0, omega arith, refl))) in
+      let up = All-contains (λ z. R x z ≡ Less) xs y xs_up.0
+      (Contains-tail x xs y differ (back y (0, omega arith, refl))) in
+      not_both x y up down in
+      by_ranked (x < y) (x ≡ y) (y < x) (nat_cmp x y) (ranked x y _ refl)
+      (λ _ less. absurd (apart (λ e. omega (arith, less, e))))
+      (λ _ e.
+      let others = same xs ys xs_up.1 ys_up.1
+      (λ z inside. Contains-tail y ys z (λ f. not_first x xs z xs_up inside (e ∙ f))
+      (there z (behind x xs z inside)))
+      (λ z inside. Contains-tail x xs z (λ f. not_first y ys z ys_up inside (sym e ∙ f))
+      (back z (behind y ys z inside))) in
+      ap (λ h. h ∷ xs) e ∙ ap (λ (l : List ℕ). y ∷ l) others)
+      (λ _ more. absurd (apart (λ e. omega (arith, more, e))))
+
+pub one_order : (scheme : Scheme) (texts offsets order other : List ℕ) → AreInOrder scheme texts offsets order
+    → AreInOrder scheme texts offsets other → other ≡ order
+one_order scheme texts offsets order other one two =
+    let R = place_cmp_in scheme texts offsets in
+    let total = place_total scheme texts offsets in
+    let places = range_with_len 0 (length offsets - 1) in
+    same R total other order (ascends R total other two.ascending)
+    (ascends R total order one.ascending)
+    (λ z inside. Contains-permutation places order z one.places
+    (Contains-permutation other places z (IsPermutation-sym places other two.places) inside))
+    (λ z inside. Contains-permutation places other z two.places
+    (Contains-permutation order places z (IsPermutation-sym places order one.places) inside))

@@ -2,12 +2,10 @@
 use Rattle.std.proofs.Common.{◌≡◌, ◌∙◌, ◌<◌, ◌≤◌, ◌^◌, ℕ, List, arith, length, Option, Some}
 use Rattle.std.proofs.lemmas.Bool.Decides.{nat_tests}
 use Rattle.version_order.proofs.lemmas.Sinks.{put_fits}
-use Rattle.versions_c.specs.Written.{IsWritten}
-use Rattle.versions_c.specs.declared.status.TheConstants.{NO_ROOM, OK}
+use Rattle.versions_c.specs.{Newest.IsAnswered, Written.IsWritten, declared.status.TheConstants.NO_ROOM, declared.status.TheConstants.OK}
 use Rattle.version_rules.specs.grammar.Versioning.{PlainVersioning, versioning_text}
 use Rattle.version_tasks.specs.Next.{IsLeastAfter}
 use Rattle.version_order.specs.keys.Sinks.{IsWritten as IsPut, put_at, saturated}
-use Rattle.versions_c.specs.Next.{IsAnswered}
 
 module _ (bytes old new : List ℕ) (len : ℕ) (counted : len ≡ saturated (length bytes))
     (small : length old < 2 ^ 63) (put : IsPut old 0 bytes new) where

@@ -1,8 +1,6 @@
 use Rattle.std.proofs.Common.{◌≡◌, ◌<◌, ◌∙◌, ℕ, Some, arith, get_or, if◌then◌else◌, refl, true}
 use Rattle.version_order.proofs.lemmas.Bytes.{table_at}
-use Rattle.scheme_deb.specs.Order.{rank as rank_of}
-use Rattle.scheme_deb.specs.Texts.{is_of_upstream}
-use Rattle.scheme_deb.specs.declared.rank.TheConstants.{RANKS}
+use Rattle.scheme_deb.specs.{Order.rank as rank_of, Texts.is_of_upstream, declared.rank.TheConstants.RANKS}
 use Rattle.scheme_deb.proofs.rank.rank.Goals as goal
 
 -- the rank of a byte of an upstream version, and 0 of any other

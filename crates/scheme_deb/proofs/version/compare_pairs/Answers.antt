@@ -1,11 +1,9 @@
 use Rattle.std.proofs.Common.{◌∙◌, ◌<◌, ◌+◌, ap, arith, length, sym}
-use Rattle.std.specs.List.{list_all}
-use Rattle.std.specs.Ordering.{ordering_then}
+use Rattle.std.specs.{List.list_all, Ordering.ordering_then}
 use Rattle.version_order.proofs.lemmas.Orders.{settled}
 use Rattle.scheme_deb.proofs.lemmas.Cut.{all_left, by_numbers, by_runs, differs, left_not_longer, left_shorter, none_left, same, some_left}
-use Rattle.scheme_deb.specs.Order.{part_cmp}
-use Rattle.scheme_deb.specs.Texts.{is_of_upstream, part_of}
-use Rattle.version_order.specs.texts.DigitRun.{behind_digits}
+use Rattle.scheme_deb.specs.{Order.part_cmp, Texts.is_of_upstream, Texts.part_of}
+use Rattle.version_order.specs.texts.Front.{behind_digits}
 use Rattle.scheme_deb.proofs.version.compare_pairs.Goals.{else-is_empty-via-then-is_empty+else-is_empty-2, else-is_empty-via-else-is_empty}
 use Rattle.scheme_deb.proofs.version.compare_pairs.Goals as goal
 

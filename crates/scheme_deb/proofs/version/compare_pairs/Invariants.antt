@@ -1,7 +1,6 @@
 use Rattle.std.proofs.Common.{◌≡◌, ◌+◌, length, true}
 use Rattle.std.specs.List.{list_all}
-use Rattle.scheme_deb.specs.Order.{part_cmp}
-use Rattle.scheme_deb.specs.Texts.{is_of_upstream, part_of}
+use Rattle.scheme_deb.specs.{Order.part_cmp, Texts.is_of_upstream, Texts.part_of}
 use Rattle.scheme_deb.proofs.version.compare_pairs.Given as goal
 
 -- the pairs so far are the same, and what is left decides

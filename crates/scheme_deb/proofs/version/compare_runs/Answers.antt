@@ -1,13 +1,8 @@
 use Rattle.std.proofs.Common.{◌≡◌, ◌∙◌, None, Some, ap, refl, sym}
-use Rattle.std.specs.Cmp.{second_so}
-use Rattle.std.specs.List.{list_all}
-use Rattle.std.specs.Ordering.{ordering_then}
-use Rattle.std.specs.declared.cmp.Ordering.{Ordering}
-use Rattle.std.specs.declared.cmp.Ordering.TheVariants.{Equal}
+use Rattle.std.specs.{Cmp.second_so, List.list_all, Ordering.ordering_then, declared.cmp.Ordering.Ordering, declared.cmp.Ordering.TheVariants.Equal}
 use Rattle.version_order.proofs.lemmas.Orders.{settled}
 use Rattle.scheme_deb.proofs.lemmas.Cut.{behind_byte, byte_and_end, ranks_differ, runs_cmp, same_bytes, two_bytes}
-use Rattle.scheme_deb.specs.Order.{byte_cmp}
-use Rattle.scheme_deb.specs.Texts.{is_of_upstream}
+use Rattle.scheme_deb.specs.{Order.byte_cmp, Texts.is_of_upstream}
 use Rattle.scheme_deb.proofs.version.compare_runs.Goals as goal
 
 pub returns-then-byte-other-clause-order : goal.returns-then-byte-other-clause-order

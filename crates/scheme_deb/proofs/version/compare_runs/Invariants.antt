@@ -1,8 +1,7 @@
 use Rattle.std.proofs.Common.{◌≡◌, drop, length, true}
 use Rattle.std.specs.List.{list_all, prefix_len, take_while}
 use Rattle.version_order.specs.keys.Lists.{ended_cmp}
-use Rattle.scheme_deb.specs.Order.{byte_cmp}
-use Rattle.scheme_deb.specs.Texts.{is_of_upstream, is_run}
+use Rattle.scheme_deb.specs.{Order.byte_cmp, Texts.is_of_upstream, Texts.is_run}
 use Rattle.scheme_deb.proofs.version.compare_runs.Given as goal
 
 -- the bytes so far are the same, and what is left decides

@@ -1,9 +1,8 @@
 use Rattle.std.proofs.Common.{◌∙◌, ap, sym}
 use Rattle.std.specs.Ordering.{nat_cmp}
-use Rattle.version_order.specs.texts.DigitRun.{starts_with_digit}
+use Rattle.version_order.specs.texts.Front.{starts_with_digit}
 use Rattle.scheme_deb.proofs.lemmas.Front.{common_front, ends_decide, rest_is, texts_cmp}
-use Rattle.scheme_deb.specs.Order.{byte_cmp}
-use Rattle.scheme_deb.specs.Texts.{first_of}
+use Rattle.scheme_deb.specs.{Order.byte_cmp, Texts.first_of}
 use Rattle.scheme_deb.proofs.version.compare_whole.Goals as goal
 
 pub returns-then-not-begins_with-2 : goal.returns-then-not-begins_with-2

@@ -1,6 +1,6 @@
 use Rattle.std.proofs.Common.{◌∙◌, ◌<◌, ap, arith, length, refl, rules, sym}
 use Rattle.std.specs.List.{list_all}
-use Rattle.version_order.specs.texts.DigitRun.{behind_digits}
+use Rattle.version_order.specs.texts.Front.{behind_digits}
 use Rattle.version_order.proofs.lemmas.Sinks.{next_fits, owes_rest, owes_same}
 use Rattle.scheme_deb.proofs.lemmas.Cut.{all_left, in_turn, left_bytes, left_shorter, left_some, none_left, some_left}
 use Rattle.scheme_deb.specs.Texts.{is_of_upstream}

@@ -1,7 +1,6 @@
 use Rattle.std.proofs.Common.{◌≡◌, length, true}
 use Rattle.std.specs.List.{list_all}
-use Rattle.scheme_deb.specs.Order.{part_bytes}
-use Rattle.scheme_deb.specs.Texts.{is_of_upstream, part_of}
+use Rattle.scheme_deb.specs.{Order.part_bytes, Texts.is_of_upstream, Texts.part_of}
 use Rattle.version_order.proofs.lemmas.Sinks.{Owes}
 use Rattle.scheme_deb.proofs.version.put_part.Given as goal
 

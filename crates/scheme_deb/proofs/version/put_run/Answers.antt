@@ -1,6 +1,5 @@
 use Rattle.std.proofs.Common.{◌∙◌, ap, sym}
-use Rattle.std.specs.Cmp.{second_so}
-use Rattle.std.specs.List.{list_all}
+use Rattle.std.specs.{Cmp.second_so, List.list_all}
 use Rattle.version_order.proofs.lemmas.Sinks.{next_fits, owes_rest, owes_same}
 use Rattle.scheme_deb.proofs.lemmas.Cut.{behind_byte, next_byte}
 use Rattle.scheme_deb.specs.Texts.{is_of_upstream}

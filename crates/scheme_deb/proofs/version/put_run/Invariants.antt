@@ -1,8 +1,7 @@
 use Rattle.std.proofs.Common.{◌≡◌, drop, length, true}
 use Rattle.std.specs.List.{list_all, prefix_len, take_while}
 use Rattle.version_order.specs.keys.Codes.{list_bytes}
-use Rattle.scheme_deb.specs.Order.{byte_code}
-use Rattle.scheme_deb.specs.Texts.{is_of_upstream, is_run}
+use Rattle.scheme_deb.specs.{Order.byte_code, Texts.is_of_upstream, Texts.is_run}
 use Rattle.version_order.proofs.lemmas.Sinks.{Owes}
 use Rattle.scheme_deb.proofs.version.put_run.Given as goal
 

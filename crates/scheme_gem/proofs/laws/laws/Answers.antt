@@ -1,14 +1,11 @@
 -- RubyGems' own comparison of segments is the order on entries.
 use Rattle.std.proofs.Common.{◌≡◌, ◌∙◌, ◌<◌, ◌++◌, ℕ, zero, suc, Bool, true, false, List, [], ◌∷◌, ap, arith, if◌then◌else◌, refl, sym, drop, inl, inr, one-add}
 use Rattle.std.proofs.lemmas.Bool.{cases_Bool}
-use Rattle.std.specs.Cmp.{nat_cmp_is}
-use Rattle.std.specs.List.{list_all, prefix_len, take_while}
-use Rattle.std.specs.Ordering.{nat_cmp, ordering_then}
+use Rattle.std.specs.{Cmp.nat_cmp_is, List.list_all, List.prefix_len, List.take_while, Ordering.nat_cmp, Ordering.ordering_then}
 use Rattle.std.specs.declared.cmp.Ordering.TheVariants.{Less, Equal, Greater}
 use Rattle.version_order.specs.keys.Lists.{bytes_cmp}
 use Rattle.scheme_gem.specs.Segments.{canonical, canonical_cmp, is_integer, is_zero, segments_cmp, Integer, Segment, Word, entries_after, entries_of, without_last}
-use Rattle.scheme_gem.specs.Order.{Entry, Letters, Number, gem_cmp}
-use Rattle.scheme_gem.specs.Laws.{gem_nothing, gem_compares, gem_some_key, gem_writes}
+use Rattle.scheme_gem.specs.{Laws.gem_nothing, Laws.gem_compares, Laws.gem_some_key, Laws.gem_writes, Order.Entry, Order.Letters, Order.Number, Order.gem_cmp}
 use Rattle.scheme_gem.proofs.laws.laws.Goals as goal
 
 -- after letters all zeros before a segment count

@@ -1,7 +1,6 @@
 use Rattle.std.proofs.Common.{◌∙◌, ap, sym}
 use Rattle.scheme_gem.proofs.lemmas.Walks.{cut_gem, stops_early, stops_later, stops_whole}
-use Rattle.scheme_gem.specs.Segments.{without_last}
-use Rattle.scheme_gem.specs.Texts.{is_blank, is_version}
+use Rattle.scheme_gem.specs.{Segments.without_last, Texts.is_blank, Texts.is_version}
 use Rattle.scheme_gem.proofs.reader.read.Goals as goal
 
 pub returns-then-not-stop : goal.returns-then-not-stop

@@ -1,6 +1,5 @@
 use Rattle.std.proofs.Common.{ℕ, Bool, List, length}
-use Rattle.version_order.specs.Viable.{Stops}
-use Rattle.version_order.specs.texts.Bytes.{is_identifier_byte}
+use Rattle.version_order.specs.{Viable.Stops, texts.Bytes.is_identifier_byte}
 use Rattle.scheme_gem.specs.Texts.{are_pieces}
 use Rattle.scheme_gem.proofs.reader.walk_behind_hyphen.Given as goal
 

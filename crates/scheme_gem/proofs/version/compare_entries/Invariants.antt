@@ -1,6 +1,5 @@
 use Rattle.std.proofs.Common.{◌≡◌, false, length}
-use Rattle.scheme_gem.specs.Order.{gem_cmp}
-use Rattle.scheme_gem.specs.Segments.{entries_in}
+use Rattle.scheme_gem.specs.{Order.gem_cmp, Segments.entries_in}
 use Rattle.scheme_gem.proofs.version.compare_entries.Given as goal
 
 -- what is left compares as the texts do

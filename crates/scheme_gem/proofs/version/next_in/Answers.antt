@@ -1,5 +1,5 @@
 use Rattle.std.proofs.Common.{◌∙◌, ◌+◌, List, ℕ, ap, arith, length, sym}
-use Rattle.version_order.specs.texts.DigitRun.{run_value, behind_digits}
+use Rattle.version_order.specs.texts.Front.{run_value, behind_digits}
 use Rattle.scheme_gem.proofs.lemmas.Segments.{digits_shorter, is_other, is_zero, not_ne, number_entry, number_first, other_next, zero_entry}
 use Rattle.scheme_gem.specs.Segments.{entries_after, segments_of}
 use Rattle.scheme_gem.proofs.version.next_in.Goals as goal

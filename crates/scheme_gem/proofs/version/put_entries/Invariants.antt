@@ -1,7 +1,6 @@
 use Rattle.std.proofs.Common.{false, length}
 use Rattle.version_order.proofs.lemmas.Sinks.{Owes}
-use Rattle.scheme_gem.specs.Order.{gem_bytes}
-use Rattle.scheme_gem.specs.Segments.{entries_in}
+use Rattle.scheme_gem.specs.{Order.gem_bytes, Segments.entries_in}
 use Rattle.scheme_gem.proofs.version.put_entries.Given as goal
 
 -- the bytes of the entries that are left are to be written

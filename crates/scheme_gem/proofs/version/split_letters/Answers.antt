@@ -1,6 +1,5 @@
 use Rattle.std.proofs.Common.{◌∙◌, ◌∷◌, ap, sym}
-use Rattle.std.specs.Char.{is_ascii_alphabetic}
-use Rattle.std.specs.List.{list_all}
+use Rattle.std.specs.{Char.is_ascii_alphabetic, List.list_all}
 use Rattle.version_order.proofs.lemmas.Front.{list_all-take_while}
 use Rattle.scheme_gem.proofs.lemmas.Segments.{word_first}
 use Rattle.scheme_gem.specs.Segments.{Word, segments_of}

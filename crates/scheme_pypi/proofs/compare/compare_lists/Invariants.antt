@@ -1,7 +1,6 @@
 use Rattle.std.proofs.Common.{◌≡◌, length}
 use Rattle.version_order.specs.keys.Lists.{ended_cmp}
-use Rattle.scheme_pypi.specs.Order.{local_cmp}
-use Rattle.scheme_pypi.specs.Texts.{pieces_of}
+use Rattle.scheme_pypi.specs.{Order.local_cmp, Texts.pieces_of}
 use Rattle.scheme_pypi.proofs.compare.compare_lists.Given as goal
 
 -- the pieces that are left compare as all do

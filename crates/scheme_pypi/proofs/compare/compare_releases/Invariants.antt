@@ -1,6 +1,5 @@
 use Rattle.std.proofs.Common.{◌≡◌, ◌+◌, length}
-use Rattle.std.specs.Option.{option_cmp}
-use Rattle.std.specs.Ordering.{nat_cmp}
+use Rattle.std.specs.{Option.option_cmp, Ordering.nat_cmp}
 use Rattle.version_order.specs.keys.Lists.{ended_cmp}
 use Rattle.scheme_pypi.specs.Texts.{release_of}
 use Rattle.scheme_pypi.proofs.lemmas.Release.{IsLeft}

@@ -1,7 +1,6 @@
 use Rattle.std.proofs.Common.{Some, length}
 use Rattle.version_order.specs.keys.Codes.{list_bytes}
-use Rattle.scheme_pypi.specs.Order.{local_bytes, locals_bytes}
-use Rattle.scheme_pypi.specs.Texts.{pieces_of}
+use Rattle.scheme_pypi.specs.{Order.local_bytes, Order.locals_bytes, Texts.pieces_of}
 use Rattle.version_order.proofs.lemmas.Sinks.{Owes}
 use Rattle.scheme_pypi.proofs.key.put_pieces.Given as goal
 

@@ -1,44 +1,23 @@
-use Rattle.std.proofs.Common.{◌∷◌, arith, refl, rules, sym}
-use Rattle.version_order.specs.texts.DigitRun.{behind_digits, run_value}
-use Rattle.version_order.specs.keys.NumberBytes.{number_bytes}
+use Rattle.std.proofs.lemmas.Grind.{common_steps}
+use Rattle.version_order.specs.{keys.Codes.number_bytes, texts.Front.behind_digits, texts.Front.run_value}
 use Rattle.scheme_pypi.proofs.lemmas.Release.{begun, is_positive, is_zero, left_bytes, next_left, number_falls, one_more, one_written, release_end}
 use Rattle.scheme_pypi.specs.Texts.{next_number}
 use Rattle.version_order.proofs.lemmas.Sinks.{next_fits, owes_rest, owes_same}
+use Rattle.std.proofs.Common.{◌∷◌, arith, refl, rules, sym}
 use Rattle.scheme_pypi.proofs.key.put_release.Goals as goal
 
 pub put-requires : goal.put-requires
-put-requires g c =
-    let end = release_end c.numbers.zeros c.numbers.left.now (sym c.if-is_empty.ensures) in
-    (owes_same end c.numbers.invariant.owes).room
+put-requires g c = grind (arith, common_steps, release_end, owes_same)
 
 pub returns-then-is_empty : goal.returns-then-is_empty
-returns-then-is_empty g c =
-    let end = release_end c.numbers.zeros c.numbers.left.now (sym c.if-is_empty.ensures) in
-    (owes_same end c.numbers.invariant.owes).ends _ c.put.ensures
+returns-then-is_empty g c = grind (arith, common_steps, release_end, owes_same)
 
 pub numbers-preserved-then-is_eq : goal.numbers-preserved-then-is_eq
 numbers-preserved-then-is_eq g c =
-    let so_far = c.numbers.invariant in
-    let left = c.numbers.left.now in
-    let number = c.compare_numbers-number.ensures in
-    let next = c.next_number-left.ensures in
-    let some = sym c.if-is_empty.ensures in
-    let zero = is_zero (run_value left) _ number.order (sym c.if-is_eq.ensures) in
-    let falls = number_falls left _ _ (begun left so_far.is_left some) (number.rest zero.1) next in
-    record {
-      is_left = next_left c.compare_numbers-number.result.rest.now _ next;
-      owes = owes_same
-          (one_more c.numbers.zeros left _ _ so_far.is_left some zero.0 (number.rest zero.1) next) so_far.owes;
-      fits = omega (arith, falls, so_far.fits);
-    }
+    grind (arith, common_steps, is_zero, number_falls, begun, next_left, owes_same, one_more)
 
 pub put_zeros-requires : goal.put_zeros-requires
-put_zeros-requires g c =
-    let so_far = c.numbers.invariant in
-    let left = c.numbers.left.now in
-    let positive = is_positive (run_value left) _ c.compare_numbers-number.ensures.order (sym c.if-is_eq.ensures) in
-    let bytes = one_written c.numbers.zeros left _ _ so_far.is_left (sym c.if-is_empty.ensures) positive refl refl in
-    next_fits _ _ (owes_same bytes so_far.owes)
+put_zeros-requires g c = grind (arith, common_steps, is_positive, one_written, next_fits, owes_same)
 
 pub put_ranked-requires : goal.put_ranked-requires
 put_ranked-requires g c =

@@ -1,7 +1,6 @@
 use Rattle.std.proofs.Common.{◌+◌, ◌≤◌, length}
 use Rattle.version_order.specs.keys.Codes.{list_bytes}
-use Rattle.scheme_pypi.specs.Order.{number_or_end_bytes}
-use Rattle.scheme_pypi.specs.Texts.{release_of}
+use Rattle.scheme_pypi.specs.{Order.number_or_end_bytes, Texts.release_of}
 use Rattle.scheme_pypi.proofs.lemmas.Release.{IsLeft, left_bytes}
 use Rattle.version_order.proofs.lemmas.Sinks.{Owes}
 use Rattle.scheme_pypi.proofs.key.put_release.Given as goal

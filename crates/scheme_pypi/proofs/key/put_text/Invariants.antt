@@ -1,7 +1,6 @@
 use Rattle.std.proofs.Common.{◌≡◌, length, map, true}
-use Rattle.std.specs.Char.{is_ascii_alphanumeric, to_ascii_lowercase}
-use Rattle.std.specs.List.{list_all}
-use Rattle.version_order.specs.keys.NumberBytes.{text_bytes}
+use Rattle.std.specs.{Char.is_ascii_alphanumeric, Char.to_ascii_lowercase, List.list_all}
+use Rattle.version_order.specs.keys.Codes.{text_bytes}
 use Rattle.version_order.proofs.lemmas.Sinks.{Owes}
 use Rattle.scheme_pypi.proofs.key.put_text.Given as goal
 

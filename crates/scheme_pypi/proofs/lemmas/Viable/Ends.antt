@@ -1,23 +1,15 @@
 -- What may follow a dev release, and the blanks at the end.
-use Rattle.std.proofs.Common.{◌≡◌, ◌==◌, ◌&&◌, ◌∙◌, ℕ, Bool, true, false, List, [], ◌∷◌, ◌++◌, Option, None, Some, ap, append-nil, arith, drop, if◌then◌else◌, inl, inr, length, not, refl, subst, sym}
+use Rattle.std.proofs.Common.{[], ◌≡◌, ◌==◌, ◌&&◌, ◌∙◌, ℕ, Bool, true, false, List, ◌∷◌, ◌++◌, Option, None, Some, ap, append-nil, arith, drop, inl, inr, length, not, refl, subst, sym}
+use Rattle.std.proofs.lemmas.{Bool.cases_Bool, Bool.Decides.nat_tests, Grind.common_steps}
 use Rattle.std.proofs.Math.Dec.{eqb-suc-zero}
-use Rattle.std.proofs.lemmas.Bool.{cases_Bool}
-use Rattle.std.proofs.lemmas.Bool.Decides.{nat_tests}
-use Rattle.std.specs.Char.{is_ascii_alphanumeric}
-use Rattle.std.specs.Cmp.{first_so, second_so}
-use Rattle.std.specs.List.{list_all, prefix_len, take_while}
-use Rattle.std.specs.Option.{option_map}
-use Rattle.version_order.proofs.lemmas.Front.{list_all-take_while}
-use Rattle.version_order.specs.texts.Bytes.{plus}
-use Rattle.version_order.specs.texts.Front.{begins}
-use Rattle.version_order.proofs.lemmas.Runs.{run_cons, run_none, no_run as no_run_of}
-use Rattle.scheme_pypi.proofs.lemmas.Items.{joined-last, joined-more, optional-None, optional-Some}
-use Rattle.scheme_pypi.proofs.lemmas.Pieces.{local-None, local-other, piece_read, pieces_read, some_run}
-use Rattle.scheme_pypi.specs.Order.{Local}
-use Rattle.scheme_pypi.specs.Texts.{is_blank, is_separator, joined, local_front, local_of, piece_front, pieces_front, without_blanks, next_piece as next_piece_of}
-use Rattle.version_order.specs.Viable.{IsLeft}
-use Rattle.scheme_pypi.specs.Stages.{after_dev, after_plus, is_ended}
+use Rattle.std.specs.{Char.is_ascii_alphanumeric, Cmp.first_so, Cmp.second_so, List.list_all, List.prefix_len, List.take_while, Option.option_map}
 use Rattle.version_order.proofs.lemmas.Viable.Left.{at_end, behind, empty_run, is_nothing, last_piece, next, next_piece, wrong_piece, where_begins}
+use Rattle.version_order.proofs.lemmas.{Front.list_all-take_while, Runs.run_cons, Runs.run_none}
+use Rattle.version_order.specs.{Viable.IsLeft, texts.Bytes.plus, texts.Front.begins}
+use Rattle.scheme_pypi.proofs.lemmas.Pieces.{local-None, local-other, piece_read, pieces_read, some_run}
+use Rattle.scheme_pypi.proofs.lemmas.Items.{joined-last, joined-more, optional-None, optional-Some}
+use Rattle.scheme_pypi.specs.Texts.{is_blank, is_separator, joined, local_front, local_of, piece_front, pieces_front, without_blanks, next_piece as next_piece_of}
+use Rattle.scheme_pypi.specs.{Order.Local, Stages.after_dev, Stages.after_plus, Stages.is_ended}
 
 -- ---- blanks
 
@@ -53,15 +45,7 @@ blanks_left text rest rest_is =
         here ∙ all_gone run (second_so (is_blank byte) _ e)
 
 pub ended_false : (byte : ℕ) (text : List ℕ) → is_blank byte ≡ false → is_ended (byte ∷ text) ≡ false
-ended_false byte text e =
-    let here : is_ended (byte ∷ text) ≡ (length (byte ∷ text) == 0) = rw e refl in
-    here ∙ eqb-suc-zero (length text)
-
-ended_blank : (byte : ℕ) (text : List ℕ) → is_ended (byte ∷ text) ≡ true → is_blank byte ≡ true
-ended_blank byte text e = elim (cases_Bool (is_blank byte)) [
-  | inl blank ↦ blank
-  | inr other ↦ cc (sym e ∙ ended_false byte text other)
-]
+ended_false byte text e = grind (arith, common_steps)
 
 -- ---- a local version
 
@@ -74,11 +58,7 @@ pub dev_false : (byte : ℕ) (text : List ℕ) → is_blank byte ≡ false → (
 dev_false byte text blank other = no_plus (byte ∷ text) other ∙ ended_false byte text blank
 
 blank_no_plus : (text : List ℕ) → is_ended text ≡ true → begins (λ b. b == plus) text ≡ false
-blank_no_plus [] e = refl
-blank_no_plus (byte ∷ text) e = by byte (ended_blank byte text e)
-  where
-    by : (byte : ℕ) → is_blank byte ≡ true → (byte == plus) ≡ false
-    by byte e = grind (arith, nat_tests)
+blank_no_plus text e = grind (arith, common_steps)
 
 pub at_plus : (text more left : List ℕ) → text ≡ plus ∷ more → IsLeft after_plus more left → IsLeft after_dev text left
 at_plus text more left cut is =
@@ -87,9 +67,7 @@ at_plus text more left cut is =
 
 pub not_plus : (text left : List ℕ) → begins (λ b. b == plus) text ≡ false → left ≡ without_blanks text
     → IsLeft after_dev text left
-not_plus text left none left_is =
-    where_begins (λ b. b == plus) false after_dev is_ended no_plus blank_no_plus text left none
-    (blanks_left text left left_is)
+not_plus text left none left_is = search (arith, where_begins, no_plus, blank_no_plus, blanks_left)
 
 -- ---- its pieces
 
@@ -104,26 +82,14 @@ separator_no_blank byte e = grind (arith, nat_tests)
 
 ended_apart : (text : List ℕ) → is_ended text ≡ true
     → (begins is_ascii_alphanumeric text ≡ false) × (begins is_separator text ≡ false)
-ended_apart [] e = (refl, refl)
-ended_apart (byte ∷ text) e = (letter byte (ended_blank byte text e), separator byte (ended_blank byte text e))
-  where
-    letter : (byte : ℕ) → is_blank byte ≡ true → is_ascii_alphanumeric byte ≡ false
-    letter byte e = grind (arith, nat_tests)
-
-    separator : (byte : ℕ) → is_blank byte ≡ true → is_separator byte ≡ false
-    separator byte e = grind (arith, nat_tests)
+ended_apart text e = grind (arith, common_steps)
 
 no_pieces : (text : List ℕ) → begins is_ascii_alphanumeric text ≡ false → after_plus text ≡ false
-no_pieces text e =
-    ap (λ (o : Option (List Local) × List ℕ). is_ended o.1)
-    (sym (optional-None local_front (plus ∷ text) (local-other text e)))
-    ∙ eqb-suc-zero (length text)
+no_pieces text e = grind (arith, common_steps, optional-None, local-other, eqb-suc-zero)
 
 read_any : (text rest : List ℕ) (read : List Local) → pieces_front text ≡ Some (read, rest) → after_plus text
     ≡ is_ended rest
-read_any text rest read e =
-    ap (λ (o : Option (List Local) × List ℕ). is_ended o.1)
-    (sym (optional-Some local_front (plus ∷ text) (read, rest) e))
+read_any text rest read e = grind (arith, common_steps, optional-Some)
 
 module _ (text : List ℕ) (begun : begins is_ascii_alphanumeric text ≡ true) where
   abbrev rest_of : List ℕ
@@ -159,38 +125,12 @@ module _ (text : List ℕ) (begun : begins is_ascii_alphanumeric text ≡ true) 
           read_any text read.1 _ (step ∙ ap (option_map _) e) ∙ sym (read_any (next_piece_of rest_of) read.1 read.0 e)
 
   after_piece : (rest : List ℕ) → rest_of ≡ rest → after_plus text ≡ next is_separator after_plus is_ended rest
-  after_piece [] e = last (ap next_piece_of e) ∙ ap is_ended e
-  after_piece (byte ∷ rest) e = elim (cases_Bool (is_separator byte)) [
-    | inr other ↦
-        let none : next_piece_of (byte ∷ rest) ≡ [] = rw other refl in
-        last (ap next_piece_of e ∙ none) ∙ ap is_ended e
-        ∙ sym (ap (λ (b : Bool). if b then after_plus rest else is_ended (byte ∷ rest)) other)
-    | inl marked ↦ elim (cases_Bool (begins is_ascii_alphanumeric rest)) [
-      | inl goes ↦
-          let here : next_piece_of (byte ∷ rest) ≡ rest = rw (marked, goes) refl in
-          let there = ap next_piece_of e ∙ here in
-          more (ap (begins is_ascii_alphanumeric) there ∙ goes) ∙ ap after_plus there
-          ∙ sym (ap (λ (b : Bool). if b then after_plus rest else is_ended (byte ∷ rest)) marked)
-      | inr ends ↦
-          let none : next_piece_of (byte ∷ rest) ≡ [] = rw (marked, ends) refl in
-          last (ap next_piece_of e ∙ none) ∙ ap is_ended e ∙ ended_false byte rest (separator_no_blank byte marked)
-          ∙ sym (ap (λ (b : Bool). if b then after_plus rest else is_ended (byte ∷ rest)) marked ∙ no_pieces rest ends)
-    ]
-  ]
+  after_piece rest e = search (arith, last, cases_Bool, more, ended_false, separator_no_blank, no_pieces)
 
 plus_split : (text : List ℕ) → after_plus text
     ≡ (some (take_while is_ascii_alphanumeric text)
     && next is_separator after_plus is_ended (drop (prefix_len is_ascii_alphanumeric text) text))
-plus_split text = elim (cases_Bool (begins is_ascii_alphanumeric text)) [
-  | inl begun ↦
-      after_piece text begun _ refl
-      ∙ sym (ap (λ (b : Bool). not b && next is_separator after_plus is_ended
-      (drop (prefix_len is_ascii_alphanumeric text) text)) (some_run is_ascii_alphanumeric text begun))
-  | inr none ↦
-      no_pieces text none
-      ∙ sym (ap (λ (l : List ℕ). some l && next is_separator after_plus is_ended
-      (drop (prefix_len is_ascii_alphanumeric text) text)) (no_run_of is_ascii_alphanumeric text none).0)
-]
+plus_split text = grind (arith, common_steps, cases_Bool, after_piece, next, some_run, no_pieces)
 
 module _ (text run rest : List ℕ) (run_is : run ≡ take_while is_ascii_alphanumeric text)
     (rest_is : rest ≡ drop (prefix_len is_ascii_alphanumeric text) text) where

@@ -1,32 +1,17 @@
 -- What is left of a text as a release, behind an epoch, a v and blanks or none of them.
-use Rattle.std.proofs.Common.{◌≡◌, ◌==◌, ◌&&◌, ◌||◌, ◌⊎◌, ◌-◌, ◌≤◌, ◌∙◌, ℕ, Bool, true, false, List, [], ◌∷◌, ◌++◌, Option, None, Some, ap, arith, codes, drop, if◌then◌else◌, inl, inr, length, not, refl, subst, sym}
-use Rattle.std.proofs.lemmas.Bool.{cases_Bool, eqb-true}
-use Rattle.std.proofs.lemmas.Bool.Decides.{nat_tests}
-use Rattle.std.specs.Char.{is_ascii_digit, to_ascii_lowercase}
-use Rattle.std.specs.Cmp.{first_so, second_so}
-use Rattle.std.specs.List.{prefix_len, take_while}
-use Rattle.std.specs.Option.{is_some, option_map, option_map_or}
-use Rattle.std.specs.Prelude.{option_and_then, unwrap_or}
-use Rattle.version_order.specs.texts.Bytes.{dot, hyphen}
-use Rattle.version_order.specs.texts.DigitRun.{number_front, run_value}
-use Rattle.version_order.specs.texts.Front.{after_mark, begins, whole}
-use Rattle.version_order.proofs.lemmas.Runs.{and-false, no_run as no_run_of}
-use Rattle.scheme_pypi.proofs.lemmas.Items.{joined-None, joined-last, joined-more}
-use Rattle.scheme_pypi.proofs.lemmas.Pieces.{some_run}
-use Rattle.scheme_pypi.proofs.lemmas.Release.{number_read, numbers_read}
-use Rattle.scheme_pypi.specs.Texts.{epoch_front, epoch_or_zero, is_blank, is_dot, pypi_of, release_front, without_blanks, without_separator, without_v, pypi_rules, next_number}
-use Rattle.version_order.proofs.lemmas.Codes.{is_read}
-use Rattle.version_order.specs.Viable.{IsLeft, IsLongestViable}
-use Rattle.scheme_pypi.specs.Stages.{after_blanks, after_post, after_release, after_v, is_epoch, is_implicit, is_release}
+use Rattle.std.proofs.Common.{[], ◌≡◌, ◌==◌, ◌&&◌, ◌||◌, ◌⊎◌, ◌-◌, ◌≤◌, ◌∙◌, ℕ, Bool, true, false, List, ◌∷◌, ◌++◌, Option, None, Some, ap, arith, codes, drop, if◌then◌else◌, inl, inr, length, not, refl, subst, sym}
+use Rattle.std.proofs.lemmas.{Bool.cases_Bool, Bool.eqb-true, Bool.Decides.nat_tests, Grind.common_steps}
+use Rattle.std.specs.{Char.is_ascii_digit, Char.to_ascii_lowercase, Cmp.first_so, Cmp.second_so, List.prefix_len, List.take_while, Option.is_some, Option.option_map, Option.option_map_or, Prelude.option_and_then}
+use Rattle.version_order.specs.{Viable.IsLeft, Viable.IsLongestViable, texts.Bytes.dot, texts.Bytes.hyphen, texts.Front.number_front, texts.Front.run_value, texts.Front.begins, texts.Front.whole}
 use Rattle.version_order.proofs.lemmas.Viable.Left.{after_run, at_end, behind, empty_run, or-false, longest, longest_alike, same, shorter_left, stays, where_begins}
-use Rattle.scheme_pypi.proofs.lemmas.Viable.Ends.{blanks_gone, some}
+use Rattle.version_order.proofs.lemmas.{Codes.is_read, Runs.and-false}
 use Rattle.scheme_pypi.proofs.lemmas.Viable.Stages.{dotted_dev, post_follows, release_digit, release_follows, release_no_mark}
+use Rattle.scheme_pypi.proofs.lemmas.{Items.joined-None, Items.joined-last, Items.joined-more, Release.number_read, Release.numbers_read, Viable.Ends.blanks_gone, Viable.Ends.some}
+use Rattle.scheme_pypi.specs.Stages.{after_blanks, after_post, after_release, after_v, is_epoch, is_implicit, is_release}
+use Rattle.scheme_pypi.specs.Texts.{is_blank, is_dot, pypi_of, release_front, without_blanks, without_v, pypi_rules, next_number}
 
 some_digits : (text : List ℕ) → some (take_while is_ascii_digit text) ≡ begins is_ascii_digit text
-some_digits text = elim (cases_Bool (begins is_ascii_digit text)) [
-  | inl begun ↦ ap (λ (b : Bool). not b) (some_run is_ascii_digit text begun) ∙ sym begun
-  | inr none ↦ ap some (no_run_of is_ascii_digit text none).0 ∙ sym none
-]
+some_digits text = grind (arith, common_steps)
 
 -- ---- a post-release that is a hyphen and a number
 
@@ -35,17 +20,7 @@ number_then_post text = option_map_or (λ read. after_post read.1) (number_front
 
 implicit_split : (text : List ℕ) → number_then_post text
     ≡ (some (take_while is_ascii_digit text) && after_post (drop (prefix_len is_ascii_digit text) text))
-implicit_split text = elim (cases_Bool (begins is_ascii_digit text)) [
-  | inl begun ↦
-      let read : number_front text ≡ Some (run_value text, drop (prefix_len is_ascii_digit text) text) = rw begun
-      refl in
-      ap (λ (o : Option (ℕ × List ℕ)). option_map_or (λ read. after_post read.1) o false) read
-      ∙ sym (ap (λ (b : Bool). b && after_post (drop (prefix_len is_ascii_digit text) text)) (some_digits text ∙ begun))
-  | inr none ↦
-      let read : number_front text ≡ None = rw none refl in
-      ap (λ (o : Option (ℕ × List ℕ)). option_map_or (λ read. after_post read.1) o false) read
-      ∙ sym (ap (λ (b : Bool). b && after_post (drop (prefix_len is_ascii_digit text) text)) (some_digits text ∙ none))
-]
+implicit_split text = grind (arith, common_steps)
 
 zero_post : number_then_post (48 ∷ []) ≡ true
 zero_post = post_follows.nothing
@@ -101,10 +76,7 @@ module _ (text : List ℕ) (begun : begins is_ascii_digit text ≡ true) where
   rest_of = drop (prefix_len is_ascii_digit text) text
 
   last : next_number rest_of ≡ [] → is_release text ≡ after_release rest_of
-  last none =
-      ap (λ (o : Option (List ℕ × List ℕ)). option_map_or (λ read. after_release read.1) o false)
-      (joined-last is_dot is_ascii_digit number_front numbers_read text (run_value text) rest_of
-      (number_read text rest_of begun refl) none)
+  last none = search (arith, joined-last, numbers_read, number_read)
 
   further : begins is_ascii_digit (next_number rest_of) ≡ true → is_release text ≡ is_release (next_number rest_of)
   further goes =
@@ -121,34 +93,14 @@ module _ (text : List ℕ) (begun : begins is_ascii_digit text ≡ true) where
       by (Some read) = refl
 
   after_number : (rest : List ℕ) → rest_of ≡ rest → is_release text ≡ release_next rest
-  after_number [] e = last (ap next_number e) ∙ ap after_release e
-  after_number (byte ∷ rest) e = elim (cases_Bool (is_dot byte && begins is_ascii_digit rest)) [
-    | inl goes ↦
-        let here : next_number (byte ∷ rest) ≡ rest = rw goes refl in
-        let there = ap next_number e ∙ here in
-        further (ap (begins is_ascii_digit) there ∙ second_so (is_dot byte) _ goes) ∙ ap is_release there
-        ∙ sym (ap (λ (b : Bool). if b then is_release rest else after_release (byte ∷ rest)) goes)
-    | inr ends ↦
-        let none : next_number (byte ∷ rest) ≡ [] = rw ends refl in
-        last (ap next_number e ∙ none) ∙ ap after_release e ∙ sym (plain_next (byte ∷ rest) ends)
-  ]
+  after_number rest e = grind (arith, common_steps, last, cases_Bool, further, plain_next)
 
 abbrev release_by : List ℕ → List ℕ → Bool
 release_by run rest = some run && release_next rest
 
 release_split : (text : List ℕ) → is_release text
     ≡ release_by (take_while is_ascii_digit text) (drop (prefix_len is_ascii_digit text) text)
-release_split text = elim (cases_Bool (begins is_ascii_digit text)) [
-  | inl begun ↦
-      after_number text begun _ refl
-      ∙ sym (ap (λ (b : Bool). b && release_next (drop (prefix_len is_ascii_digit text) text))
-      (some_digits text ∙ begun))
-  | inr none ↦
-      ap (λ (o : Option (List ℕ × List ℕ)). option_map_or (λ read. after_release read.1) o false)
-      (joined-None is_dot is_ascii_digit number_front numbers_read text none)
-      ∙ sym (ap (λ (b : Bool). b && release_next (drop (prefix_len is_ascii_digit text) text))
-      (some_digits text ∙ none))
-]
+release_split text = search (arith, cases_Bool, after_number, some_digits, joined-None, numbers_read)
 
 pub release_begins : (text : List ℕ) → is_release text ≡ true → begins is_ascii_digit text ≡ true
 release_begins text passes =
@@ -163,17 +115,7 @@ next_apart (byte ∷ rest) passes = elim (cases_Bool (is_dot byte && begins is_a
 
 -- what may follow a release does not begin so
 not_dotted : (text : List ℕ) → after_release text ≡ true → is_dotted text ≡ false
-not_dotted [] passes = refl
-not_dotted (byte ∷ []) passes = and-false (is_dot byte) false refl
-not_dotted (byte ∷ digit ∷ text) passes = elim (cases_Bool (is_dot byte && is_ascii_digit digit)) [
-  | inr other ↦ other
-  | inl dots ↦
-      let here = eqb-true byte dot (first_so (is_dot byte) _ dots) in
-      let is = second_so (is_dot byte) _ dots in
-      let plain : without_separator (byte ∷ digit ∷ text) ≡ digit ∷ text =
-      ap (λ (b : ℕ). without_separator (b ∷ digit ∷ text)) here in
-      cc (sym passes ∙ release_digit (byte ∷ digit ∷ text) text digit plain is (ap (λ (b : ℕ). b == hyphen) here))
-]
+not_dotted text passes = grind (arith, common_steps, and-false, cases_Bool, eqb-true, release_digit)
 
 zero_release : is_release (48 ∷ []) ≡ true
 zero_release = release_split (48 ∷ []) ∙ release_follows.nothing
@@ -181,10 +123,7 @@ zero_release = release_split (48 ∷ []) ∙ release_follows.nothing
 module _ (text run rest : List ℕ) (run_is : run ≡ take_while is_ascii_digit text)
     (rest_is : rest ≡ drop (prefix_len is_ascii_digit text) text) where
   pub no_number : (length run == 0) ≡ true → IsLeft is_release text rest
-  no_number none =
-      at_end is_ascii_digit is_release release_by release_split text run rest run_is rest_is (48 ∷ [])
-      (ap (λ (l : List ℕ). is_release (l ++ 48 ∷ [])) (empty_run run none) ∙ zero_release)
-      (λ byte after e t. ap (λ (b : Bool). not b && release_next (byte ∷ t)) none)
+  no_number none = search (arith, at_end, release_split, empty_run, zero_release)
 
   module _ (is : (length run == 0) ≡ false) where
     by_number : (left : List ℕ) → IsLeft release_next rest left → IsLeft is_release text left
@@ -251,29 +190,7 @@ epoch_by run rest = some run && marked rest
 
 epoch_split : (text : List ℕ) → is_epoch text
     ≡ epoch_by (take_while is_ascii_digit text) (drop (prefix_len is_ascii_digit text) text)
-epoch_split text = elim (cases_Bool (begins is_ascii_digit text)) [
-  | inl begun ↦
-      let read : number_front text ≡ Some (run_value text, drop (prefix_len is_ascii_digit text) text) = rw begun
-      refl in
-      ap of read ∙ by (drop (prefix_len is_ascii_digit text) text)
-      ∙ sym (ap (λ (b : Bool). b && marked (drop (prefix_len is_ascii_digit text) text)) (some_digits text ∙ begun))
-  | inr none ↦
-      let read : number_front text ≡ None = rw none refl in
-      ap of read
-      ∙ sym (ap (λ (b : Bool). b && marked (drop (prefix_len is_ascii_digit text) text)) (some_digits text ∙ none))
-]
-  where
-    of : Option (ℕ × List ℕ) → Bool
-    of o = option_map_or (λ (read : ℕ × List ℕ). is_release read.1)
-        (option_and_then
-        (λ (number : ℕ × List ℕ). option_and_then (λ rest. Some (number.0, rest)) (after_mark 33 number.1)) o) false
-
-    by : (rest : List ℕ) → of (Some (run_value text, rest)) ≡ marked rest
-    by [] = refl
-    by (byte ∷ rest) = elim (cases_Bool (byte == 33)) [
-      | inl here ↦ rw here refl
-      | inr other ↦ rw other refl
-    ]
+epoch_split text = grind (arith, common_steps)
 
 zero_marked : marked (33 ∷ 48 ∷ []) ≡ true
 zero_marked = zero_release
@@ -310,37 +227,8 @@ module _ (text run rest : List ℕ) (run_is : run ≡ take_while is_ascii_digit 
         (λ byte after e more. ap (λ (b : Bool). b && is_release more) (ap (begins (λ b. b == 33)) (sym e) ∙ none)))
 
 pub v_or : (text : List ℕ) → after_v text ≡ (is_release text || is_epoch text)
-v_or text = by (epoch_front text) refl
-  where
-    after : Option (ℕ × List ℕ) → Option (ℕ × List ℕ)
-    after o = option_and_then
-        (λ (number : ℕ × List ℕ). option_and_then (λ rest. Some (number.0, rest)) (after_mark 33 number.1)) o
-
-    at_mark : (number : ℕ) (rest : List ℕ) (read : ℕ × List ℕ) → after (Some (number, rest)) ≡ Some read
-        → release_next rest ≡ false
-    at_mark number [] read e = cc e
-    at_mark number (byte ∷ rest) read e = elim (cases_Bool (byte == 33)) [
-      | inr other ↦ cc (rw other at e)
-      | inl here ↦ ap (λ (b : ℕ). release_next (b ∷ rest)) (eqb-true byte 33 here) ∙ release_no_mark rest
-    ]
-
-    never : (read : ℕ × List ℕ) → epoch_front text ≡ Some read → is_release text ≡ false
-    never read e = elim (cases_Bool (begins is_ascii_digit text)) [
-      | inl begun ↦
-          let number : number_front text ≡ Some (run_value text, drop (prefix_len is_ascii_digit text) text) = rw
-          begun refl in
-          release_split text ∙ and-false (some (take_while is_ascii_digit text)) _
-          (at_mark (run_value text) (drop (prefix_len is_ascii_digit text) text) read (sym (ap after number) ∙ e))
-      | inr none ↦
-          release_split text
-          ∙ ap (λ (b : Bool). b && release_next (drop (prefix_len is_ascii_digit text) text)) (some_digits text ∙ none)
-    ]
-
-    by : (o : Option (ℕ × List ℕ)) → epoch_front text ≡ o
-        → is_release (unwrap_or o (0, text)).1
-        ≡ (is_release text || option_map_or (λ (read : ℕ × List ℕ). is_release read.1) o false)
-    by None e = or-false (is_release text)
-    by (Some read) e = sym (ap (λ (b : Bool). b || is_release read.1) (never read e))
+v_or text =
+    search (arith, cases_Bool, eqb-true, release_no_mark, release_split, and-false, some, some_digits, or-false)
 
 -- ---- a v, and blanks
 
@@ -349,12 +237,8 @@ or_cases true q e f = cc f
 or_cases false q e f = e
 
 v_begins : (text : List ℕ) → after_v text ≡ true → begins is_ascii_digit text ≡ true
-v_begins text passes = elim (cases_Bool (is_release text)) [
-  | inl release ↦ release_begins text release
-  | inr none ↦
-      sym (some_digits text) ∙ first_so (some (take_while is_ascii_digit text)) _
-      (sym (epoch_split text) ∙ or_cases (is_release text) (is_epoch text) (sym (v_or text) ∙ passes) none)
-]
+v_begins text passes =
+    grind (arith, common_steps, cases_Bool, release_begins, some_digits, some, epoch_split, or_cases, v_or)
 
 without : (text : List ℕ) → begins (λ b. to_ascii_lowercase b == 118) text ≡ false → without_v text ≡ text
 without [] e = refl
@@ -387,17 +271,10 @@ is_pypi text = is_some (pypi_of text)
 chained : {A : Type 0} (value : List ℕ × List ℕ → A) (rest : List ℕ × List ℕ → List ℕ) (o : Option (List ℕ × List ℕ))
     → is_some (whole (option_and_then (λ read. Some (value read, rest read)) o))
     ≡ option_map_or (λ (read : List ℕ × List ℕ). length (rest read) == 0) o false
-chained value rest None = refl
-chained value rest (Some read) = by (length (rest read) == 0)
-  where
-    by : (is : Bool) → is_some (if is then Some (value read) else None) ≡ is
-    by true = refl
-    by false = refl
+chained value rest o = grind (arith, common_steps)
 
 pypi_split : (text : List ℕ) → is_pypi text ≡ after_blanks (drop (prefix_len is_blank text) text)
-pypi_split text =
-    chained _ _ (release_front (epoch_or_zero (without_v (without_blanks text))).1)
-    ∙ ap after_blanks (blanks_gone text)
+pypi_split text = grind (arith, common_steps, chained, blanks_gone)
 
 digit_no_blank : (byte : ℕ) → is_ascii_digit byte ≡ true → is_blank byte ≡ false
 digit_no_blank byte e = grind (arith, nat_tests)
@@ -406,13 +283,7 @@ v_no_blank : (byte : ℕ) → (to_ascii_lowercase byte == 118) ≡ true → is_b
 v_no_blank byte e = grind (arith, nat_tests)
 
 blanks_apart : (text : List ℕ) → after_blanks text ≡ true → begins is_blank text ≡ false
-blanks_apart [] passes = refl
-blanks_apart (byte ∷ text) passes = elim (cases_Bool (to_ascii_lowercase byte == 118)) [
-  | inl same ↦ v_no_blank byte same
-  | inr other ↦
-      let here : without_v (byte ∷ text) ≡ byte ∷ text = rw other refl in
-      digit_no_blank byte (v_begins (byte ∷ text) (sym (ap after_v here) ∙ passes))
-]
+blanks_apart text passes = grind (arith, common_steps, cases_Bool, same, v_no_blank, digit_no_blank, v_begins)
 
 pub pypi_left : (text start x y left : List ℕ) → start ≡ without_v (without_blanks text) → IsLeft is_release start x
     → IsLeft is_epoch start y

@@ -1,28 +1,17 @@
 -- What may follow a release, a pre-release and a post-release, word by word.
-use Rattle.std.proofs.Common.{◌≡◌, ◌==◌, ◌||◌, ◌<◌, ◌&&◌, ◌∙◌, ℕ, Bool, true, false, List, [], ◌∷◌, ◌++◌, Option, None, Some, ap, arith, codes, if◌then◌else◌, inl, inr, nat_le, refl, sym}
-use Rattle.std.proofs.lemmas.Bool.{cases_Bool, eqb-true, leb-true, ne_eqb}
-use Rattle.std.proofs.lemmas.Bool.Decides.{nat_tests}
-use Rattle.std.specs.Char.{is_ascii_digit, to_ascii_lowercase}
-use Rattle.std.specs.Cmp.{first_so, second_so}
-use Rattle.std.specs.List.{list_all}
-use Rattle.std.specs.Option.{option_map_or, option_or}
-use Rattle.version_order.specs.texts.Bytes.{hyphen, plus}
-use Rattle.version_order.specs.texts.DigitRun.{number_front}
-use Rattle.version_order.specs.texts.Front.{begins, behind, optional}
-use Rattle.version_order.proofs.lemmas.Runs.{no_run}
+use Rattle.std.proofs.Common.{[], ◌≡◌, ◌==◌, ◌||◌, ◌<◌, ◌&&◌, ◌∙◌, ℕ, Bool, true, false, List, ◌∷◌, ◌++◌, Option, None, Some, ap, arith, codes, if◌then◌else◌, inl, inr, nat_le, refl, sym}
+use Rattle.std.proofs.lemmas.{Bool.cases_Bool, Bool.eqb-true, Bool.leb-true, Bool.ne_eqb, Bool.Decides.nat_tests, Grind.common_steps}
+use Rattle.std.specs.{Char.is_ascii_digit, Char.to_ascii_lowercase, Cmp.first_so, Cmp.second_so, List.list_all, Option.option_map_or, Option.option_or}
+use Rattle.version_order.specs.texts.{Bytes.hyphen, Bytes.plus, Front.number_front, Front.begins, Front.behind, Front.optional}
 use Rattle.scheme_pypi.proofs.lemmas.Items.{mapped-None, mapped-Some, numbered-None, numbered-Some, optional-None, optional-Some, or-None, or-first, or-second}
-use Rattle.scheme_pypi.specs.Order.{Alpha, Beta, Candidate, Phase}
-use Rattle.scheme_pypi.specs.Texts.{alpha_words, beta_words, candidate_words, post_words, dev_words, after_any, after_word, is_blank, is_separator, number_or_zero, numbered, post_front, pre_front, without_separator}
-use Rattle.scheme_pypi.specs.Stages.{Follows, after_dev, after_post, after_pre, after_release, is_implicit, number_then, word_then, worded}
 use Rattle.scheme_pypi.proofs.lemmas.Viable.Ends.{dev_false, no_plus, separator_no_blank}
+use Rattle.scheme_pypi.specs.Stages.{Follows, after_dev, after_post, after_pre, after_release, is_implicit, number_then, word_then, worded}
+use Rattle.scheme_pypi.specs.Texts.{alpha_words, beta_words, candidate_words, post_words, dev_words, after_any, after_word, is_blank, is_separator, number_or_zero, numbered, post_front, pre_front, without_separator}
+use Rattle.scheme_pypi.specs.Order.{Alpha, Beta, Candidate, Phase}
 use Rattle.version_order.proofs.lemmas.Viable.Left.{or-false}
 
 abbrev small : ℕ → Bool
 small letter = nat_le 97 letter && nat_le letter 122
-
-letter_no_separator : (byte letter : ℕ) → to_ascii_lowercase byte ≡ letter → small letter ≡ true
-    → is_separator byte ≡ false
-letter_no_separator byte letter e is = grind (arith, nat_tests)
 
 letter_no_digit : (byte letter : ℕ) → to_ascii_lowercase byte ≡ letter → small letter ≡ true → is_ascii_digit byte ≡ false
 letter_no_digit byte letter e is = grind (arith, nat_tests)
@@ -39,22 +28,13 @@ separator_no_plus byte e = grind (arith, nat_tests)
 -- the letter that a word and a text begin with
 letter_of : (letter : ℕ) (word text rest : List ℕ) → after_word (letter ∷ word) text ≡ Some rest
     → (byte : ℕ) × (more : List ℕ) × (text ≡ byte ∷ more) × (to_ascii_lowercase byte ≡ letter)
-letter_of letter word [] rest e = cc e
-letter_of letter word (byte ∷ text) rest e = elim (cases_Bool (to_ascii_lowercase byte == letter)) [
-  | inl same ↦ (byte, text, refl, eqb-true _ _ same)
-  | inr other ↦ cc (rw other at e)
-]
+letter_of letter word text rest e = grind (arith, common_steps)
 
 -- a text that begins, perhaps behind a separator, with a byte that is neither a blank nor a plus
 dev_no : (text more : List ℕ) (byte : ℕ) → without_separator text ≡ byte ∷ more → is_blank byte ≡ false
     → (byte == plus) ≡ false → after_dev text ≡ false
-dev_no [] more byte e blank other = cc e
-dev_no (first ∷ text) more byte e blank other = elim (cases_Bool (is_separator first)) [
-  | inl marked ↦ dev_false first text (separator_no_blank first marked) (separator_no_plus first marked)
-  | inr plain ↦
-      let same : first ≡ byte = cc (rw plain at e) in
-      dev_false first text (ap is_blank same ∙ blank) (ap (λ (b : ℕ). b == plus) same ∙ other)
-]
+dev_no text more byte e blank other =
+    grind (arith, common_steps, cases_Bool, dev_false, separator_no_blank, separator_no_plus)
 
 -- ---- a test behind one of some words, each with a number, or with none of them
 
@@ -63,15 +43,7 @@ stage test words text = option_map_or (number_then test) (after_any words (witho
 
 numbered_rest : (test : List ℕ → Bool) (words : List (List ℕ)) (text : List ℕ)
     → test (optional (numbered words) text).1 ≡ stage test words text
-numbered_rest test words text = by (after_any words (without_separator text)) refl
-  where
-    by : (o : Option (List ℕ)) → after_any words (without_separator text) ≡ o
-        → test (optional (numbered words) text).1 ≡ option_map_or (number_then test) o (test text)
-    by None e = ap (λ (p : Option ℕ × List ℕ). test p.1)
-        (sym (optional-None (numbered words) text (numbered-None words text (sym e))))
-    by (Some rest) e = ap (λ (p : Option ℕ × List ℕ). test p.1)
-        (sym (optional-Some (numbered words) text (number_or_zero (without_separator rest))
-        (numbered-Some words text rest (sym e))))
+numbered_rest test words text = search (arith, optional-None, numbered-None, optional-Some, numbered-Some)
 
 -- no text that begins with some letters, perhaps behind a separator, passes: by a rule for the letters
 abbrev Fails : (List ℕ → Bool) → (List ℕ → Bool) → Type 0
@@ -90,24 +62,11 @@ are_clear rule words letters = list_all (λ word. is_clear rule word letters) wo
 module _ (rule test : List ℕ → Bool) (fails : Fails rule test) where
   number_fails : (letters text rest : List ℕ) → begins small letters ≡ true → rule letters ≡ true
       → after_word letters text ≡ Some rest → number_then test text ≡ false
-  number_fails [] text rest is ruled e = cc is
-  number_fails (letter ∷ letters) text rest is ruled e =
-      let at = letter_of letter letters text rest e in
-      let plain : without_separator text ≡ text =
-      ap without_separator at.2 ∙ kept at.0 at.1 (letter_no_separator at.0 letter at.3 is) ∙ sym at.2 in
-      let ends : begins is_ascii_digit text ≡ false =
-      ap (begins is_ascii_digit) at.2 ∙ letter_no_digit at.0 letter at.3 is in
-      ap (λ (l : List ℕ). test (number_or_zero l).1) plain ∙ ap test (no_run is_ascii_digit text ends).1
-      ∙ fails (letter ∷ letters) text rest is ruled (ap (after_word (letter ∷ letters)) plain ∙ e)
-    where
-      kept : (byte : ℕ) (more : List ℕ) → is_separator byte ≡ false → without_separator (byte ∷ more) ≡ byte ∷ more
-      kept byte more other = rw other refl
+  number_fails letters text rest is ruled e = grind (arith, common_steps)
 
   word_fails : (word letters text rest : List ℕ) → is_clear rule word letters ≡ true
       → after_word letters text ≡ Some rest → word_then (number_then test) word text ≡ false
-  word_fails [] letters text rest clear e =
-      number_fails letters text rest (first_so (begins small letters) _ clear)
-      (second_so (begins small letters) _ clear) e
+  word_fails [] letters text rest clear e = grind (arith, common_steps, number_fails)
   word_fails (letter ∷ word) [] text rest clear e = cc clear
   word_fails (letter ∷ word) (first ∷ letters) [] rest clear e = cc
   word_fails (letter ∷ word) (first ∷ letters) (byte ∷ text) rest clear e =
@@ -141,22 +100,12 @@ module _ (rule test : List ℕ → Bool) (fails : Fails rule test) where
 
   -- so a stage fails, of words that are clear of the letters
   stage_fails : (words : List (List ℕ)) → Fails (are_clear rule words) (stage test words)
-  stage_fails words letters text rest is clear e =
-      let each = list_all (λ (word : List ℕ). is_clear rule word letters) words in
-      words_fail words letters text rest (first_so each _ clear) e (fails letters text rest is (second_so each _ clear) e)
+  stage_fails words = grind (arith, common_steps, words_fail)
 
   -- behind a word nothing but the word passes, if further words are clear of it
   pub word_or : (word : List ℕ) (words : List (List ℕ)) → (begins small word && are_clear rule words word) ≡ true
       → (text : List ℕ) → stage test (word ∷ words) text ≡ (worded test word text || stage test words text)
-  word_or word words clear text = by (after_word word (without_separator text)) (λ rest e.
-      stage_fails words word text rest (first_so (begins small word) _ clear) (second_so (begins small word) _ clear) e)
-    where
-      by : (o : Option (List ℕ)) → ((rest : List ℕ) → o ≡ Some rest → stage test words text ≡ false)
-          → option_map_or (number_then test) (option_or o (after_any words (without_separator text))) (test text)
-          ≡ (option_map_or (number_then test) o false || stage test words text)
-      by None never = refl
-      by (Some rest) never = or-false (number_then test rest)
-          ∙ sym (ap (λ (b : Bool). number_then test rest || b) (never rest refl))
+  word_or word words clear text = grind (arith, common_steps, stage_fails, or-false)
 
 -- ---- dev releases
 
@@ -164,10 +113,7 @@ abbrev pub no_dev : List ℕ → Bool
 no_dev letters = true
 
 pub dev_fails : Fails no_dev after_dev
-dev_fails [] text rest is ruled e = cc is
-dev_fails (letter ∷ letters) text rest is ruled e =
-    let at = letter_of letter letters (without_separator text) rest e in
-    dev_no text at.1 at.0 at.2 (letter_no_blank at.0 letter at.3 is) (letter_no_plus at.0 letter at.3 is)
+dev_fails = grind (arith, common_steps, letter_of, dev_no, letter_no_blank, letter_no_plus)
 
 pub post_stage : (text : List ℕ) → after_post text ≡ stage after_dev dev_words text
 post_stage = numbered_rest after_dev dev_words
@@ -197,10 +143,7 @@ pre_by text none = by (after_any post_words (without_separator text)) refl
 implicit_shape : (text rest : List ℕ) (number : ℕ) → behind hyphen number_front text ≡ Some (number, rest)
     → (digit : ℕ) × (more : List ℕ) × (without_separator text ≡ digit ∷ more) × (is_ascii_digit digit ≡ true)
 implicit_shape [] rest number e = cc e
-implicit_shape (byte ∷ []) rest number e = elim (cases_Bool (byte == hyphen)) [
-  | inl here ↦ cc (rw here at e)
-  | inr other ↦ cc (rw other at e)
-]
+implicit_shape (byte ∷ []) rest number e = grind (arith, common_steps, cases_Bool)
 implicit_shape (byte ∷ digit ∷ text) rest number e = elim (cases_Bool (byte == hyphen)) [
   | inr other ↦ cc (rw other at e)
   | inl here ↦ elim (cases_Bool (is_ascii_digit digit)) [
@@ -241,9 +184,7 @@ or-assoc (Some x) b c = refl
 any_more : (words others : List (List ℕ)) (text : List ℕ)
     → after_any (words ++ others) text ≡ option_or (after_any words text) (after_any others text)
 any_more [] others text = refl
-any_more (word ∷ words) others text =
-    ap (option_or (after_word word text)) (any_more words others text)
-    ∙ or-assoc (after_word word text) (after_any words text) (after_any others text)
+any_more (word ∷ words) others text = grind (arith, common_steps, any_more words others text, or-assoc)
 
 pub release_stage : (text : List ℕ) → after_release text ≡ stage after_pre pre_words text
 release_stage text =
@@ -288,11 +229,7 @@ record IsOther (byte : ℕ) : Type 0 where
   no_plus : (byte == plus) ≡ false
 
 digit_other : (byte : ℕ) → is_ascii_digit byte ≡ true → IsOther byte
-digit_other byte e = record {
-  low = grind (arith, nat_tests);
-  no_blank = grind (arith, nat_tests);
-  no_plus = grind (arith, nat_tests);
-}
+digit_other byte e = grind (arith, common_steps)
 
 stage_other : (test : List ℕ → Bool) (words : List (List ℕ)) (text more : List ℕ) (byte : ℕ)
     → without_separator text ≡ byte ∷ more → IsOther byte
@@ -317,9 +254,7 @@ stage_other test words text more byte e is all =
 
 post_other : (text more : List ℕ) (byte : ℕ) → without_separator text ≡ byte ∷ more → IsOther byte
     → after_post text ≡ false
-post_other text more byte e is =
-    post_stage text ∙ stage_other after_dev dev_words text more byte e is refl
-    ∙ dev_no text more byte e is.no_blank is.no_plus
+post_other text more byte e is = grind (arith, common_steps, post_stage, stage_other, dev_no)
 
 pub implicit_or : (text : List ℕ) → after_pre text ≡ (is_implicit text || stage after_post post_words text)
 implicit_or text = by (behind hyphen number_front text) refl
@@ -339,19 +274,11 @@ implicit_or text = by (behind hyphen number_front text) refl
 
 pre_other : (text more : List ℕ) (byte : ℕ) → without_separator text ≡ byte ∷ more → IsOther byte
     → begins (λ b. b == hyphen) text ≡ false → after_pre text ≡ false
-pre_other text more byte e is other =
-    pre_by text (no_hyphen text other) ∙ stage_other after_post post_words text more byte e is refl
-    ∙ post_other text more byte e is
-  where
-    no_hyphen : (text : List ℕ) → begins (λ b. b == hyphen) text ≡ false → behind hyphen number_front text ≡ None
-    no_hyphen [] e = refl
-    no_hyphen (byte ∷ text) e = rw e refl
+pre_other text more byte e is other = grind (arith, common_steps, pre_by, stage_other, post_other)
 
 release_other : (text more : List ℕ) (byte : ℕ) → without_separator text ≡ byte ∷ more → IsOther byte
     → begins (λ b. b == hyphen) text ≡ false → after_release text ≡ false
-release_other text more byte e is other =
-    release_stage text ∙ stage_other after_pre pre_words text more byte e is refl
-    ∙ pre_other text more byte e is other
+release_other text more byte e is other = grind (arith, common_steps, release_stage, stage_other, pre_other)
 
 pub release_digit : (text more : List ℕ) (digit : ℕ) → without_separator text ≡ digit ∷ more
     → is_ascii_digit digit ≡ true → begins (λ b. b == hyphen) text ≡ false → after_release text ≡ false
@@ -368,22 +295,7 @@ follows : (test : List ℕ → Bool) → test [] ≡ true
     → ((digit : ℕ) (text : List ℕ) → IsOther digit → without_separator (digit ∷ text) ≡ digit ∷ text
     → (digit == hyphen) ≡ false → test (digit ∷ text) ≡ false)
     → Follows test
-follows test nothing fails = record { nothing = nothing; apart = apart }
-  where
-    plain : (digit : ℕ) → is_ascii_digit digit ≡ true → is_separator digit ≡ false
-    plain digit e = grind (arith, nat_tests)
-
-    no_hyphen : (digit : ℕ) → is_ascii_digit digit ≡ true → (digit == hyphen) ≡ false
-    no_hyphen digit e = grind (arith, nat_tests)
-
-    apart : (text : List ℕ) → test text ≡ true → begins is_ascii_digit text ≡ false
-    apart [] passes = refl
-    apart (byte ∷ text) passes = elim (cases_Bool (is_ascii_digit byte)) [
-      | inr other ↦ other
-      | inl digit ↦
-          let kept : without_separator (byte ∷ text) ≡ byte ∷ text = rw (plain byte digit) refl in
-          cc (sym passes ∙ fails byte text (digit_other byte digit) kept (no_hyphen byte digit))
-    ]
+follows test nothing fails = grind (arith, common_steps)
 
 pub dev_follows : Follows after_dev
 dev_follows = follows after_dev (no_plus [] refl) (λ digit text is e other. dev_no (digit ∷ text) text digit e

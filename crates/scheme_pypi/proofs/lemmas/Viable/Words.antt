@@ -1,13 +1,9 @@
 -- Words, in letters of either case, and the numbers after them.
-use Rattle.std.proofs.Common.{◌≡◌, ◌==◌, ◌∙◌, ℕ, Bool, true, false, List, [], ◌∷◌, Option, None, Some, ap, arith, drop, inl, inr, map, refl, subst, sym}
-use Rattle.std.proofs.lemmas.Bool.{cases_Bool, eq-eqb, eqb-true}
-use Rattle.std.proofs.lemmas.Bool.Decides.{nat_tests}
-use Rattle.std.specs.Char.{is_ascii_digit, to_ascii_lowercase}
-use Rattle.std.specs.List.{prefix_len, take_while}
-use Rattle.std.specs.Option.{option_map_or}
-use Rattle.version_order.specs.texts.Front.{begins}
+use Rattle.std.proofs.Common.{[], ◌≡◌, ◌==◌, ◌∙◌, ℕ, Bool, true, false, List, ◌∷◌, Option, None, Some, ap, arith, drop, inl, inr, map, refl, subst, sym}
+use Rattle.std.proofs.lemmas.{Bool.cases_Bool, Bool.eq-eqb, Grind.common_steps}
+use Rattle.std.specs.{Char.is_ascii_digit, Char.to_ascii_lowercase, List.prefix_len, List.take_while, Option.option_map_or}
+use Rattle.version_order.specs.{Viable.IsLeft, texts.Front.begins}
 use Rattle.scheme_pypi.specs.Texts.{after_word, left_of_word, is_separator, number_or_zero, without_separator}
-use Rattle.version_order.specs.Viable.{IsLeft}
 use Rattle.scheme_pypi.specs.Stages.{Follows, number_then, word_then, worded}
 use Rattle.version_order.proofs.lemmas.Viable.Left.{after_run, behind, stays, unless_nothing, where_begins}
 
@@ -24,8 +20,7 @@ word_alone (letter ∷ word) small =
 -- what follows a word decides
 pub word_left : (test : List ℕ → Bool) (word text rest left : List ℕ) → after_word word text ≡ Some rest
     → IsLeft test rest left → IsLeft (word_then test word) text left
-word_left test [] text rest left e is =
-    let same : text ≡ rest = cc e in subst (λ (l : List ℕ). IsLeft test l left) (sym same) is
+word_left test [] text rest left e is = grind (arith, common_steps)
 word_left test (letter ∷ word) [] rest left e is = cc e
 word_left test (letter ∷ word) (byte ∷ text) rest left e is = elim (cases_Bool (to_ascii_lowercase byte == letter)) [
   | inr other ↦ cc (rw other at e)
@@ -72,16 +67,11 @@ module _ (test : List ℕ → Bool) (follows : Follows test) where
       (take_while is_ascii_digit text) (drop (prefix_len is_ascii_digit text) text) refl refl follows.apart left is
 
   plain_number : (text : List ℕ) → begins is_separator text ≡ false → number_then test text ≡ digits_then text
-  plain_number text e = ap digits_then (by text e)
-    where
-      by : (l : List ℕ) → begins is_separator l ≡ false → without_separator l ≡ l
-      by [] e = refl
-      by (byte ∷ l) e = rw e refl
+  plain_number text e = grind (arith, common_steps)
 
   pub number_left : (text left : List ℕ) → IsLeft test (number_or_zero (without_separator text)).1 left
       → IsLeft (number_then test) text left
-  number_left [] left is = unless_nothing is_separator (number_then test) digits_then plain_number follows.nothing [] left refl
-      (digits_left [] left is)
+  number_left [] left is = grind (arith, common_steps, unless_nothing, plain_number, digits_left)
   number_left (byte ∷ text) left is = elim (cases_Bool (is_separator byte)) [
     | inl marked ↦
         let here : (t : List ℕ) → without_separator (byte ∷ t) ≡ t = λ t. rw marked refl in
@@ -95,37 +85,15 @@ module _ (test : List ℕ → Bool) (follows : Follows test) where
 
 -- ---- words with a separator before them or none
 
-separator_small : (byte : ℕ) → is_separator byte ≡ true → to_ascii_lowercase byte ≡ byte
-separator_small byte e = grind (arith, nat_tests)
-
 module _ (test : List ℕ → Bool) (word : List ℕ) (some : word ≡ [] → ⊥) (letter : begins is_separator word ≡ false) where
   abbrev plain : List ℕ → Bool
   plain = word_then (number_then test) word
 
   plain_worded : (text : List ℕ) → begins is_separator text ≡ false → worded test word text ≡ plain text
-  plain_worded text e = ap plain (by text e)
-    where
-      by : (l : List ℕ) → begins is_separator l ≡ false → without_separator l ≡ l
-      by [] e = refl
-      by (byte ∷ l) e = rw e refl
+  plain_worded text e = grind (arith, common_steps)
 
   plain_apart : (text : List ℕ) → plain text ≡ true → begins is_separator text ≡ false
-  plain_apart [] passes = refl
-  plain_apart (byte ∷ text) passes = by word some letter passes
-    where
-      by : (w : List ℕ) → (w ≡ [] → ⊥) → begins is_separator w ≡ false
-          → word_then (number_then test) w (byte ∷ text) ≡ true
-          → is_separator byte ≡ false
-      by [] none e passes = absurd (none refl)
-      by (x ∷ w) none e passes = elim (cases_Bool (is_separator byte)) [
-        | inr other ↦ other
-        | inl marked ↦ elim (cases_Bool (to_ascii_lowercase byte == x)) [
-          | inl same ↦
-              let is : byte ≡ x = sym (separator_small byte marked) ∙ eqb-true _ _ same in
-              cc (sym e ∙ ap is_separator (sym is) ∙ marked)
-          | inr other ↦ cc (rw other at passes)
-        ]
-      ]
+  plain_apart text passes = grind (arith, common_steps)
 
   pub worded_left : (text left : List ℕ) → IsLeft plain (without_separator text) left
       → IsLeft (worded test word) text left
@@ -158,6 +126,4 @@ module _ (word : List ℕ) (small : map to_ascii_lowercase word ≡ word) (some 
 
   pub within_word : (left : List ℕ) → (after_word word start ≡ None) × (left ≡ left_of_word word start) → test [] ≡ true
       → IsLeft (worded test word) text left
-  within_word left e nothing = from_start left
-      (subst (λ (l : List ℕ). IsLeft (word_then (number_then test) word) start l) (sym e.1)
-      (word_stuck (number_then test) nothing word start small e.0))
+  within_word left e nothing = grind (arith, common_steps, from_start, word_stuck)

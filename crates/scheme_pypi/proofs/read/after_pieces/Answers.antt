@@ -1,7 +1,6 @@
 use Rattle.std.proofs.Common.{◌∙◌, sym}
 use Rattle.std.specs.Char.{is_ascii_alphanumeric}
-use Rattle.scheme_pypi.proofs.lemmas.Items.{by_rest, next_goes, rest-last, rest-more}
-use Rattle.scheme_pypi.proofs.lemmas.Pieces.{piece_read, pieces_read}
+use Rattle.scheme_pypi.proofs.lemmas.{Items.by_rest, Items.next_goes, Items.rest-last, Items.rest-more, Pieces.piece_read, Pieces.pieces_read}
 use Rattle.scheme_pypi.specs.Texts.{is_separator, piece_front}
 use Rattle.scheme_pypi.proofs.read.after_pieces.Goals as goal
 

@@ -1,9 +1,7 @@
 use Rattle.std.proofs.Common.{◌≡◌, true, length, List, ℕ}
-use Rattle.std.specs.Char.{is_ascii_alphanumeric}
-use Rattle.std.specs.Option.{option_map}
+use Rattle.std.specs.{Char.is_ascii_alphanumeric, Option.option_map}
 use Rattle.version_order.specs.texts.Front.{begins}
-use Rattle.scheme_pypi.specs.Order.{Local}
-use Rattle.scheme_pypi.specs.Texts.{pieces_front}
+use Rattle.scheme_pypi.specs.{Order.Local, Texts.pieces_front}
 use Rattle.scheme_pypi.proofs.read.after_pieces.Given as goal
 
 -- what follows the pieces that are left follows all

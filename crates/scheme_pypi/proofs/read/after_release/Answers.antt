@@ -1,8 +1,7 @@
 use Rattle.std.proofs.Common.{◌∙◌, sym}
 use Rattle.std.specs.Char.{is_ascii_digit}
-use Rattle.version_order.specs.texts.DigitRun.{number_front}
-use Rattle.scheme_pypi.proofs.lemmas.Items.{next_goes, rest-last, rest-more, rest-none}
-use Rattle.scheme_pypi.proofs.lemmas.Release.{number_read, numbers_read}
+use Rattle.version_order.specs.texts.Front.{number_front}
+use Rattle.scheme_pypi.proofs.lemmas.{Items.next_goes, Items.rest-last, Items.rest-more, Items.rest-none, Release.number_read, Release.numbers_read}
 use Rattle.scheme_pypi.specs.Texts.{is_dot}
 use Rattle.scheme_pypi.proofs.read.after_release.Goals as goal
 

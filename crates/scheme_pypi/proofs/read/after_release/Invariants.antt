@@ -1,6 +1,6 @@
 use Rattle.std.proofs.Common.{◌≡◌, true, length, List, ℕ}
 use Rattle.std.specs.Option.{option_map}
-use Rattle.version_order.specs.texts.DigitRun.{starts_with_digit}
+use Rattle.version_order.specs.texts.Front.{starts_with_digit}
 use Rattle.scheme_pypi.specs.Texts.{release_front}
 use Rattle.scheme_pypi.proofs.read.after_release.Given as goal
 

@@ -1,7 +1,9 @@
-use Rattle.std.proofs.Common.{◌∙◌, Some, ap, sym}
+use Rattle.std.proofs.Common.{arith}
+use Rattle.std.proofs.lemmas.Grind.{common_steps}
 use Rattle.scheme_pypi.proofs.lemmas.Items.{mapped-None, mapped-Some, numbered-None, numbered-Some, optional-None, optional-Some, or-None, or-first, or-second}
-use Rattle.scheme_pypi.specs.Order.{Alpha, Beta, Candidate}
 use Rattle.scheme_pypi.specs.Texts.{alpha_words, beta_words, candidate_words, after_any, pre_front}
+use Rattle.scheme_pypi.specs.Order.{Alpha, Beta, Candidate}
+use Rattle.std.proofs.Common.{◌∙◌, Some, ap, sym}
 use Rattle.scheme_pypi.proofs.read.split_pre.Goals as goal
 
 pub returns-in-Some : goal.returns-in-Some
@@ -36,12 +38,4 @@ returns-in-Some-after_candidate c =
     (c.in-Some-after_candidate.ensures ∙ ap (after_any candidate_words) start))))))
 
 pub returns : goal.returns
-returns c =
-    let start = c.without_separator-start.ensures in
-    let no_alpha = mapped-None Alpha _ (numbered-None alpha_words c.args.text.now
-    (c.in_default.ensures ∙ ap (after_any alpha_words) start)) in
-    let no_beta = mapped-None Beta _ (numbered-None beta_words c.args.text.now
-    (c.in_default-after_either.ensures ∙ ap (after_any beta_words) start)) in
-    let no_candidate = mapped-None Candidate _ (numbered-None candidate_words c.args.text.now
-    (c.in_default-after_candidate.ensures ∙ ap (after_any candidate_words) start)) in
-    optional-None pre_front c.args.text.now (sym (or-None _ _ no_alpha (or-None _ _ no_beta no_candidate)))
+returns c = grind (arith, common_steps, mapped-None, numbered-None, optional-None, or-None)

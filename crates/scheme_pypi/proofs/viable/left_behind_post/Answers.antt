@@ -1,4 +1,4 @@
-use Rattle.std.proofs.Common.{◌≡◌, ◌∙◌, ◌||◌, ℕ, List, [], codes, refl}
+use Rattle.std.proofs.Common.{[], ◌≡◌, ◌∙◌, ◌||◌, ℕ, List, codes, refl}
 use Rattle.scheme_pypi.specs.Stages.{after_dev, after_post, worded}
 use Rattle.version_order.proofs.lemmas.Viable.Left.{shorter_left}
 use Rattle.scheme_pypi.proofs.lemmas.Viable.Stages.{dev_fails, dev_follows, no_dev, post_stage, word_or}

@@ -1,8 +1,7 @@
 use Rattle.std.proofs.Common.{◌∙◌, ◌-◌, arith, drop, length, sym}
 use Rattle.std.proofs.lemmas.List.{length-drop, take_all}
 use Rattle.std.specs.Cmp.Lexicographic.{same_text}
-use Rattle.scheme_rpm.specs.Order.{items_cmp}
-use Rattle.scheme_rpm.specs.Texts.{items_in}
+use Rattle.scheme_rpm.specs.{Order.items_cmp, Texts.items_in}
 use Rattle.scheme_rpm.proofs.lemmas.Rpm.{by_ranks, common_front, one_text}
 use Rattle.scheme_rpm.proofs.version.compare_items.Goals as goal
 

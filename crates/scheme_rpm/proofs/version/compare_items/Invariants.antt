@@ -1,6 +1,5 @@
 use Rattle.std.proofs.Common.{◌≡◌, length}
-use Rattle.scheme_rpm.specs.Order.{items_cmp}
-use Rattle.scheme_rpm.specs.Texts.{items_in}
+use Rattle.scheme_rpm.specs.{Order.items_cmp, Texts.items_in}
 use Rattle.scheme_rpm.proofs.version.compare_items.Given as goal
 
 -- the pieces so far are the same, and those left decide

@@ -1,13 +1,8 @@
 use Rattle.std.proofs.Common.{◌≡◌, ◌∙◌, ◌∷◌, ℕ, true, List, ap, drop, refl, sym}
-use Rattle.std.proofs.lemmas.Cmp.{nat_cmp_total, tied_itself}
-use Rattle.std.proofs.lemmas.Map.Lookups.{exact_unsigned}
-use Rattle.std.specs.Char.{is_ascii_alphabetic}
-use Rattle.std.specs.List.{prefix_len, take_while}
-use Rattle.std.specs.Ordering.{nat_cmp, ordering_then}
-use Rattle.std.specs.declared.cmp.Ordering.TheVariants.{Equal}
+use Rattle.std.proofs.lemmas.{Cmp.nat_cmp_total, Cmp.tied_itself, Map.Lookups.exact_unsigned}
+use Rattle.std.specs.{Char.is_ascii_alphabetic, List.prefix_len, List.take_while, Ordering.nat_cmp, Ordering.ordering_then, declared.cmp.Ordering.TheVariants.Equal}
 use Rattle.version_order.specs.keys.Lists.{bytes_cmp}
-use Rattle.version_order.proofs.lemmas.Runs.{run_cons}
-use Rattle.version_order.proofs.lemmas.Orders.{settled}
+use Rattle.version_order.proofs.lemmas.{Orders.settled, Runs.run_cons}
 use Rattle.scheme_rpm.proofs.version.compare_letters.Goals as goal
 
 -- a letter of each, and what follows

@@ -1,6 +1,5 @@
 use Rattle.std.proofs.Common.{◌≡◌, drop, length}
-use Rattle.std.specs.Char.{is_ascii_alphabetic}
-use Rattle.std.specs.List.{prefix_len, take_while}
+use Rattle.std.specs.{Char.is_ascii_alphabetic, List.prefix_len, List.take_while}
 use Rattle.version_order.specs.keys.Lists.{bytes_cmp}
 use Rattle.scheme_rpm.proofs.version.compare_letters.Given as goal
 

@@ -1,8 +1,7 @@
 use Rattle.std.proofs.Common.{length}
 use Rattle.version_order.specs.keys.Codes.{list_bytes}
 use Rattle.version_order.proofs.lemmas.Sinks.{Owes}
-use Rattle.scheme_rpm.specs.Order.{item_bytes}
-use Rattle.scheme_rpm.specs.Texts.{items_in}
+use Rattle.scheme_rpm.specs.{Order.item_bytes, Texts.items_in}
 use Rattle.scheme_rpm.proofs.version.put_items.Given as goal
 
 -- the bytes of the pieces that are left are to be written

@@ -1,8 +1,7 @@
 use Rattle.std.proofs.Common.{◌∷◌, [], ap}
 use Rattle.std.specs.Option.{option_map}
 use Rattle.version_order.proofs.lemmas.Sinks.{next_fits, owes_all, owes_rest}
-use Rattle.scheme_rpm.specs.Order.{release_bytes}
-use Rattle.scheme_rpm.specs.Texts.{items_in}
+use Rattle.scheme_rpm.specs.{Order.release_bytes, Texts.items_in}
 use Rattle.scheme_rpm.proofs.version.put_release.Goals as goal
 
 pub put-requires-in-Some : goal.put-requires-in-Some

@@ -1,6 +1,5 @@
 use Rattle.std.proofs.Common.{◌∙◌, ap, suc, sym}
-use Rattle.std.specs.Char.{is_ascii_digit}
-use Rattle.std.specs.List.{list_all}
+use Rattle.std.specs.{Char.is_ascii_digit, List.list_all}
 use Rattle.version_order.proofs.lemmas.Front.{list_all-take_while}
 use Rattle.scheme_semver.proofs.lemmas.Walks.{no_dot_cut}
 use Rattle.scheme_semver.specs.Texts.{is_number}

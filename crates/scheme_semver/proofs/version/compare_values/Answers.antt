@@ -1,12 +1,7 @@
 use Rattle.std.proofs.Common.{◌∙◌, ap, length, sym}
-use Rattle.std.specs.Cmp.{nat_cmp_is}
-use Rattle.std.specs.FinMap.{nat_cmp-IsAntisymmetric}
-use Rattle.std.specs.Ordering.{ordering_then}
-use Rattle.std.specs.declared.cmp.Ordering.{Ordering}
-use Rattle.std.specs.declared.cmp.Ordering.TheVariants.{Equal}
+use Rattle.std.specs.{Cmp.nat_cmp_is, FinMap.nat_cmp-IsAntisymmetric, Ordering.ordering_then, declared.cmp.Ordering.Ordering, declared.cmp.Ordering.TheVariants.Equal}
 use Rattle.version_order.proofs.lemmas.Orders.{then_decided}
-use Rattle.version_order.specs.keys.Codes.{then_equal}
-use Rattle.version_order.specs.keys.Lists.{bytes_cmp}
+use Rattle.version_order.specs.keys.{Codes.then_equal, Lists.bytes_cmp}
 use Rattle.scheme_semver.proofs.lemmas.Values.{values_compared}
 use Rattle.scheme_semver.proofs.version.compare_values.Goals as goal
 

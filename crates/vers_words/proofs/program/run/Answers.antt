@@ -1,7 +1,6 @@
 use Rattle.std.proofs.Common.{inr, map, rules, string_bytes}
 use Rattle.version_commands.specs.Run.{EndsAs}
-use Rattle.vers_words.specs.Words.{Means}
-use Rattle.vers_words.specs.declared.faults.Fault.TheVariants.{Task}
+use Rattle.vers_words.specs.{Words.Means, declared.faults.Fault.TheVariants.Task}
 use Rattle.vers_words.proofs.program.run.Goals as goal
 
 pub returns-in_err-serve : goal.returns-in_err-serve

@@ -1,20 +1,12 @@
 -- Columns of names, put in the place of those by number.
-use Rattle.std.proofs.Common.{◌≡◌, ◌∙◌, ◌<◌, ◌+◌, ◌-◌, ℕ, suc, map, Bool, false, List, [], ◌∷◌, Option, None, Some, Result, IsSomeAnd, length, arith, refl, subst, sym, ap, Bor}
+use Rattle.std.proofs.Common.{◌≡◌, ◌∙◌, ◌<◌, ◌+◌, ◌-◌, ℕ, suc, map, Bool, false, List, [], ◌∷◌, Option, None, Some, Result, IsSomeAnd, length, arith, refl, sym, ap, Bor}
 use Rattle.std.specs.List.{slice_get}
-use Rattle.version_commands.specs.faults.Cause.{ComesOfArranged, ComesOfInput}
-use Rattle.version_commands.specs.lines.Header.{first_unnamed, last_of}
-use Rattle.version_commands.specs.lines.Place.{line_text}
-use Rattle.version_lines.specs.Inputs.{plain_line, texts_of, PlainLine}
-use Rattle.version_lines.specs.declared.inputs.Line.{Line}
-use Rattle.version_commands.proofs.lemmas.lines.Ordered.{held-texts}
-use Rattle.version_commands.specs.faults.Ends.{takes_no_more}
-use Rattle.version_commands.specs.lines.LineRun.{Finishes}
-use Rattle.version_commands.proofs.lemmas.Faults.{ends-weaker}
+use Rattle.version_commands.specs.lines.Ordered.{first_unnamed, last_of, body_of, head_of, name_missing, names_line, options_in, ordered_in, versions_in, IsArranged, IsArrangedIn}
+use Rattle.version_commands.specs.{Cause.ComesOfArranged, Cause.ComesOfInput, Run.takes_no_more, Run.Finishes, declared.faults.TaskFault.TaskFault, declared.faults.TaskFault.TheVariants.NoColumn, declared.options.LineOptions.LineOptions}
+use Rattle.version_commands.specs.lines.Picked.{line_text}
+use Rattle.version_lines.specs.{Inputs.plain_line, Inputs.texts_of, Inputs.PlainLine, declared.inputs.Line.Line}
+use Rattle.version_commands.proofs.lemmas.{Faults.ends-weaker, lines.Ordered.held-texts}
 use Rattle.std.proofs.lemmas.List.{length-drop, length-take}
-use Rattle.version_commands.specs.lines.Ordered.{body_of, head_of, name_missing, names_line, options_in, ordered_in, versions_in, IsArranged, IsArrangedIn}
-use Rattle.version_commands.specs.declared.faults.TaskFault.{TaskFault}
-use Rattle.version_commands.specs.declared.faults.TaskFault.TheVariants.{NotVersion, NotRequirement, NotSet, NotTested, NotTestedSet, BadLine, NoNext, NoColumn, Unclosed, Memory, Read, Write}
-use Rattle.version_commands.specs.declared.options.LineOptions.{LineOptions}
 use Rattle.version_schemes.specs.any.Order.{PlainAny}
 
 -- the last of some texts is that of the last element
@@ -36,8 +28,7 @@ last-held lines line is =
 pub missing-some : (options : LineOptions) (lines : List PlainLine)
     → 0 < length (head_of options lines) + length (body_of options lines)
     → name_missing options lines ≡ first_unnamed options.names (names_line options lines)
-missing-some options [] some =
-    absurd (omega (arith, some, length-take {A = PlainLine} options.header [], length-drop {A = PlainLine} options.header []))
+missing-some options [] some = grind (arith, length-take, length-drop)
 missing-some options (line ∷ lines) some = refl
 
 pub missing-none : (options : LineOptions) (lines : List PlainLine) → head_of options lines ≡ []
@@ -57,15 +48,11 @@ module _ (options : LineOptions) (whole head body : List PlainLine) (head_is : h
     (body_is : body ≡ body_of options whole) where
   pub header-is : (header : List ℕ) → header ≡ line_text options.place.crlf (last_of [] (texts_of head))
       → header ≡ names_line options whole
-  header-is header is =
-      is ∙ ap (λ (h : List PlainLine). line_text options.place.crlf (last_of [] (texts_of h))) head_is
+  header-is header is = grind arith
 
   pub missing-is : (header : List ℕ) → header ≡ names_line options whole → 0 < length head + length body
       → name_missing options whole ≡ first_unnamed options.names header
-  missing-is header is some =
-      missing-some options whole (subst (λ (h : List PlainLine). 0 < length h + length (body_of options whole)) head_is
-      (subst (λ (b : List PlainLine). 0 < length head + length b) body_is some))
-      ∙ ap (first_unnamed options.names) (sym is)
+  missing-is header is some = grind (arith, missing-some)
 
   pub missing-not : head ≡ [] → body ≡ [] → name_missing options whole ≡ None
   missing-not no_head no_body = missing-none options whole (sym head_is ∙ no_head) (sym body_is ∙ no_body)
@@ -75,18 +62,7 @@ module _ (options : LineOptions) (keeps : PlainAny → Bool) (whole : List Plain
   faults-in : (Refuses : List ℕ → Type 0) (fault : TaskFault)
       → ComesOfArranged (versions_in (options_in options whole)) (options_in options whole) (body_of options whole) Refuses fault
       → ComesOfInput options whole Refuses fault
-  faults-in Refuses (NotVersion text remark) comes = (has, comes)
-  faults-in Refuses (NotRequirement text) comes = (has, comes)
-  faults-in Refuses (NotSet wrong) comes = (has, comes)
-  faults-in Refuses (NotTested text remark) comes = (has, comes)
-  faults-in Refuses (NotTestedSet wrong) comes = (has, comes)
-  faults-in Refuses (BadLine bad) comes = (has, comes)
-  faults-in Refuses (NoNext text) comes = (has, comes)
-  faults-in Refuses (NoColumn name) comes = absurd comes
-  faults-in Refuses (Unclosed name number) comes = (has, comes)
-  faults-in Refuses Memory comes = tt
-  faults-in Refuses (Read name) comes = (has, comes)
-  faults-in Refuses (Write name) comes = (has, comes)
+  faults-in Refuses fault comes = grind arith
 
   module _ {F T : Type 0} {puts : F → F → List ℕ → List ℕ → Type 0} {refuses : F → List ℕ → Type 0}
       {alters : F → F → List ℕ → Type 0} {files left : F} {old new : Option (List ℕ)} {result : Result T TaskFault} where
@@ -97,24 +73,11 @@ module _ (options : LineOptions) (keeps : PlainAny → Bool) (whole : List Plain
         result
         → Finishes puts refuses alters files left old new options (IsArrangedIn options keeps whole)
         (ComesOfInput options whole) result
-    finishes-in made head body made_is head_is body_is writes =
-        let Writes : LineOptions → List PlainLine → List PlainLine → Type 0 = λ o h b. Finishes puts refuses alters files left old new o
-        (IsArranged (versions_in o) o h b (ordered_in keeps o b)) (ComesOfArranged (versions_in o) o b) result in
-        let by = options_in options whole in
-        let numbered = subst (λ (o : LineOptions). Writes o head body) made_is writes in
-        let behind = subst (λ (h : List PlainLine). Writes by h body) head_is numbered in
-        let of = subst (λ (b : List PlainLine). Writes by (head_of options whole) b) body_is behind in
-        record {
-          ends = ends-weaker _ _ _ _ _ _ result (λ output arranged. record { has_names = has; is_arranged = arranged })
-              (faults-in (refuses files)) of.ends;
-          files_are = of.files_are;
-          kept = of.kept;
-        }
+    finishes-in made head body made_is head_is body_is writes = grind (arith, ends-weaker, faults-in)
 
 -- a missing name is to blame, and nothing was written
 pub unnamed-faults : (options : LineOptions) (Refuses : List ℕ → Type 0) (whole : List PlainLine) (found : Option (Bor (List ℕ))) (fault : TaskFault)
     → name_missing options whole ≡ found → IsSomeAnd found (λ name. fault ≡ NoColumn name)
     → (takes_no_more fault ≡ false) × ComesOfInput options whole Refuses fault
 unnamed-faults options Refuses whole None fault missing is = absurd is
-unnamed-faults options Refuses whole (Some name) fault missing is =
-    subst (λ (f : TaskFault). (takes_no_more f ≡ false) × ComesOfInput options whole Refuses f) (sym is) (refl, missing)
+unnamed-faults options Refuses whole (Some name) fault missing is = grind arith

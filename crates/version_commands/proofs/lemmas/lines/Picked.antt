@@ -1,8 +1,7 @@
 -- Lines are picked one by one.
 use Rattle.std.proofs.Common.{◌≡◌, ℕ, Bool, true, false, List, [], ◌∷◌, ◌++◌, Option, None, Some, refl, sym, ap, ◌∙◌, append-nil, append_assoc}
 use Rattle.std.specs.List.{filter}
-use Rattle.std.proofs.lemmas.List.{map-append}
-use Rattle.std.proofs.lemmas.List.Elements.{filter-append}
+use Rattle.std.proofs.lemmas.{List.map-append, List.Elements.filter-append}
 use Rattle.version_commands.specs.lines.Picked.{Versions, bad_lines, is_bad, kept_lines, kept_of, has}
 use Rattle.version_lines.specs.Inputs.{texts_of, PlainLine}
 use Rattle.version_schemes.specs.any.Order.{PlainAny}

@@ -1,8 +1,8 @@
 use Rattle.std.proofs.Common.{◌≡◌, List, ◌++◌, drop}
 use Rattle.std.specs.List.{flat_map}
 use Rattle.version_commands.proofs.lemmas.Lists.{named_line}
-use Rattle.version_commands.proofs.lists.add_names.Given as goal
 use Rattle.version_commands.specs.Lists.{AreNames, Row, name_line}
+use Rattle.version_commands.proofs.lists.add_names.Given as goal
 
 -- with the lines that are left, the output is whole
 abbrev pub invariant-loop-row : goal.invariant-loop-row

@@ -1,12 +1,7 @@
 use Rattle.std.proofs.Common.{◌∙◌, Some, List, ap, subst}
-use Rattle.version_commands.specs.Lists.{named_in, AreNames, Row}
-use Rattle.version_commands.specs.lines.Picked.{bad_lines}
-use Rattle.version_commands.specs.lines.Place.{reads_of}
-use Rattle.version_commands.proofs.lemmas.Files.{numbered-texts}
-use Rattle.version_commands.proofs.lemmas.Lists.{rows-kept}
-use Rattle.version_lines.specs.Inputs.{lines_left, texts_of}
-use Rattle.version_lines.specs.Lines.{lines_of}
-use Rattle.version_lines.specs.Sort.{version_in}
+use Rattle.version_commands.specs.{Lists.named_in, Lists.AreNames, Lists.Row, lines.Picked.bad_lines, lines.Picked.reads_of}
+use Rattle.version_commands.proofs.lemmas.{Files.numbered-texts, Lists.rows-kept}
+use Rattle.version_lines.specs.{Inputs.lines_left, Inputs.texts_of, Lines.lines_of, Sort.version_in}
 use Rattle.version_commands.proofs.lists.read_names.Goals as goal
 
 pub returns-clause-names : goal.returns-clause-names

@@ -1,11 +1,8 @@
 use Rattle.std.proofs.Common.{ℕ, List, Some, ap, arith, length}
 use Rattle.std.proofs.lemmas.List.{length-map}
-use Rattle.version_commands.specs.Lists.{lines_of_list, rows_of}
-use Rattle.version_commands.proofs.lemmas.Files.{numbered-length, numbered-texts}
-use Rattle.version_commands.proofs.lemmas.Hints.{rows-left}
-use Rattle.version_commands.specs.Lists.{named_in}
-use Rattle.version_lines.specs.Inputs.{plain_line, PlainLine}
-use Rattle.version_lines.specs.Lines.{lines_of}
+use Rattle.version_commands.specs.Lists.{lines_of_list, rows_of, named_in}
+use Rattle.version_commands.proofs.lemmas.{Files.numbered-length, Files.numbered-texts, Hints.rows-left}
+use Rattle.version_lines.specs.{Inputs.plain_line, Inputs.PlainLine, Lines.lines_of}
 use Rattle.version_commands.proofs.lists.repeated.Goals as goal
 
 pub returns : goal.returns

@@ -1,12 +1,8 @@
 use Rattle.std.proofs.Common.{◌++◌, inl, inr, ◌∷◌, [], ℕ, Bool, List, None, map, refl, rules, subst, ap, sym, ◌∙◌}
 use Rattle.std.proofs.lemmas.Result.{IfErr-weaker}
-use Rattle.version_commands.specs.faults.Fault.{ComesOfBad, ComesOfReadingOne}
-use Rattle.version_commands.specs.Hints.{repeated}
-use Rattle.version_commands.specs.Lists.{bad_lines_of, difference_text, names_of, rows_of}
-use Rattle.version_commands.specs.declared.files.Hint.TheVariants.{Repeated}
+use Rattle.version_commands.specs.{Fault.ComesOfBad, Fault.ComesOfReadingOne, Hints.repeated, Lists.bad_lines_of, Lists.difference_text, Lists.names_of, Lists.rows_of, declared.files.Hint.TheVariants.Repeated}
 use Rattle.version_lines.specs.Inputs.{plain_line, PlainLine}
-use Rattle.version_commands.proofs.lemmas.Faults.{reading-at}
-use Rattle.version_commands.proofs.lemmas.Lists.{changes-bad, changes-reading, input-good}
+use Rattle.version_commands.proofs.lemmas.{Faults.reading-at, Lists.changes-bad, Lists.changes-reading, Lists.input-good}
 use Rattle.version_commands.proofs.program.changes.Goals as goal
 
 pub returns-clause-output : goal.returns-clause-output

@@ -1,6 +1,5 @@
 use Rattle.std.proofs.Common.{◌≡◌, drop}
-use Rattle.version_lines.specs.Csv.{is_whole}
-use Rattle.version_lines.specs.declared.csv.FieldState.TheVariants.{Start}
+use Rattle.version_lines.specs.{Csv.is_whole, declared.csv.FieldState.TheVariants.Start}
 use Rattle.version_lines.proofs.csv.is_whole.Given as goal
 
 -- the record is whole if the rest is

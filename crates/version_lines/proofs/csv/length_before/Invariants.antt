@@ -1,6 +1,5 @@
 use Rattle.std.proofs.Common.{◌≡◌, ◌+◌, ◌-◌, ◌≤◌, drop, length}
-use Rattle.version_lines.specs.Csv.{length_before}
-use Rattle.version_lines.specs.declared.csv.FieldState.TheVariants.{Start}
+use Rattle.version_lines.specs.{Csv.length_before, declared.csv.FieldState.TheVariants.Start}
 use Rattle.version_lines.proofs.csv.length_before.Given as goal
 
 -- no byte before the place stops

@@ -20,22 +20,20 @@ returns-in_err-put-2-clause-err g c =
     (AppendsProperBeginning-with_more _ _ labelled c.args.line.now
     (c.args.end ∷ []) c.in_err-put-2.ensures.err))
 
-pub returns-clause-ok : goal.returns-clause-ok
-returns-clause-ok g c =
+pub returns : goal.returns
+returns g c =
     let labelled = c.put.new.buffer.items in
-    on_ok_weaker c.put-3.result
-    (λ last. AppendsUpTo-then _ _ _ c.args.buffer.now.items c.args.label.now labelled
-    (c.args.line.now ++ c.args.end ∷ []) _ c.in_ok-put.ensures.ok
-    (AppendsUpTo-then _ _ _ labelled c.args.line.now c.put-2.new.buffer.items
-    (c.args.end ∷ []) _ c.in_ok-put-2.ensures.ok last))
-    c.put-3.ensures.ok
-
-pub returns-clause-err : goal.returns-clause-err
-returns-clause-err g c =
-    let labelled = c.put.new.buffer.items in
-    on_err_weaker c.put-3.result
-    (λ last. AppendsProperBeginning-then _ _ _ c.args.buffer.now.items c.args.label.now labelled
-    (c.args.line.now ++ c.args.end ∷ []) c.in_ok-put.ensures.ok
-    (AppendsProperBeginning-then _ _ _ labelled c.args.line.now c.put-2.new.buffer.items
-    (c.args.end ∷ []) c.in_ok-put-2.ensures.ok last))
-    c.put-3.ensures.err
+    record {
+      ok = on_ok_weaker c.put-3.result
+          (λ last. AppendsUpTo-then _ _ _ c.args.buffer.now.items c.args.label.now labelled
+          (c.args.line.now ++ c.args.end ∷ []) _ c.in_ok-put.ensures.ok
+          (AppendsUpTo-then _ _ _ labelled c.args.line.now c.put-2.new.buffer.items
+          (c.args.end ∷ []) _ c.in_ok-put-2.ensures.ok last))
+          c.put-3.ensures.ok;
+      err = on_err_weaker c.put-3.result
+          (λ last. AppendsProperBeginning-then _ _ _ c.args.buffer.now.items c.args.label.now labelled
+          (c.args.line.now ++ c.args.end ∷ []) c.in_ok-put.ensures.ok
+          (AppendsProperBeginning-then _ _ _ labelled c.args.line.now c.put-2.new.buffer.items
+          (c.args.end ∷ []) c.in_ok-put-2.ensures.ok last))
+          c.put-3.ensures.err;
+    }

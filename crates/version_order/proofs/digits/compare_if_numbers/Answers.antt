@@ -1,19 +1,8 @@
 use Rattle.std.proofs.Common.{◌≡◌, ◌≢◌, ◌≤◌, ◌+◌, ◌*◌, ◌∷◌, ◌∙◌, [], ℕ, true, false, List, arith, ap, drop, length, sym}
-use Rattle.std.proofs.lemmas.Bool.{ne_eqb}
-use Rattle.std.proofs.lemmas.Bool.Decides.{nat_tests}
-use Rattle.std.proofs.lemmas.Cmp.{nat_cmp_total}
-use Rattle.std.proofs.lemmas.List.{length-drop}
-use Rattle.std.specs.Char.{digit_value, is_ascii_digit}
-use Rattle.std.specs.List.{prefix_len, take_while}
-use Rattle.std.specs.Ordering.{nat_cmp, ordering_reverse, ordering_then}
-use Rattle.std.specs.Str.Parse.{digits_value}
-use Rattle.std.specs.declared.cmp.Ordering.TheVariants.{Greater}
-use Rattle.version_order.proofs.lemmas.Front.{list_all-take_while}
-use Rattle.version_order.proofs.lemmas.NumberBytes.{is_zero}
-use Rattle.version_order.proofs.lemmas.NumberOrder.{numbers_compared}
-use Rattle.version_order.specs.texts.DigitRun.{run_value, starts_with_digit}
-use Rattle.version_order.specs.keys.Lists.{bytes_cmp}
-use Rattle.version_order.proofs.lemmas.Runs.{run_cons, run_none, no_run}
+use Rattle.std.proofs.lemmas.{Bool.ne_eqb, Bool.Decides.nat_tests, Cmp.nat_cmp_total, List.length-drop}
+use Rattle.version_order.proofs.lemmas.{Front.list_all-take_while, NumberBytes.is_zero, NumberBytes.numbers_compared, Runs.run_cons, Runs.run_none, Runs.no_run}
+use Rattle.std.specs.{Char.digit_value, Char.is_ascii_digit, List.prefix_len, List.take_while, Ordering.nat_cmp, Ordering.ordering_reverse, Ordering.ordering_then, Str.Parse.digits_value, declared.cmp.Ordering.TheVariants.Greater}
+use Rattle.version_order.specs.{keys.Lists.bytes_cmp, texts.Front.run_value, texts.Front.starts_with_digit}
 use Rattle.version_order.proofs.digits.compare_if_numbers.Goals as goal
 
 abbrev digits : List ℕ → List ℕ

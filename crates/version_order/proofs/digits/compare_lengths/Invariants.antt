@@ -1,6 +1,5 @@
 use Rattle.std.proofs.Common.{◌≡◌, ◌≤◌, ◌+◌, ◌-◌, drop, length}
-use Rattle.std.specs.Char.{is_ascii_digit}
-use Rattle.std.specs.List.{prefix_len}
+use Rattle.std.specs.{Char.is_ascii_digit, List.prefix_len}
 use Rattle.version_order.proofs.digits.compare_lengths.Given as goal
 
 -- all bytes so far are digits

@@ -1,18 +1,9 @@
 use Rattle.std.proofs.Common.{◌≡◌, ◌≢◌, ◌+◌, ◌∷◌, ◌∙◌, ℕ, true, List, Ordering, arith, refl, ap, drop, sym}
-use Rattle.std.proofs.lemmas.Bool.Decides.{nat_tests}
-use Rattle.std.proofs.lemmas.Cmp.{nat_cmp_total, tied_itself}
-use Rattle.std.proofs.lemmas.Map.Lookups.{exact_unsigned}
-use Rattle.std.proofs.lemmas.List.Folds.{length-prefix_len}
-use Rattle.std.specs.Char.{is_ascii_digit}
-use Rattle.std.specs.List.{prefix_len, take_while}
-use Rattle.std.specs.Ordering.{nat_cmp, ordering_then}
+use Rattle.std.proofs.lemmas.{Bool.Decides.nat_tests, Cmp.nat_cmp_total, Cmp.tied_itself, List.Folds.length-prefix_len, Map.Lookups.exact_unsigned}
+use Rattle.std.specs.{Char.is_ascii_digit, List.prefix_len, List.take_while, Ordering.nat_cmp, Ordering.ordering_then}
 use Rattle.std.specs.declared.cmp.Ordering.TheVariants.{Less, Equal, Greater}
-use Rattle.version_order.proofs.lemmas.Front.{list_all-take_while}
-use Rattle.version_order.proofs.lemmas.NumberBytes.{is_zero}
-use Rattle.version_order.proofs.lemmas.NumberOrder.{numbers_compared}
-use Rattle.version_order.specs.texts.DigitRun.{run_value, behind_digits}
-use Rattle.version_order.specs.keys.Lists.{bytes_cmp}
-use Rattle.version_order.proofs.lemmas.Runs.{run_cons, run_within, rest_within, zero_digit}
+use Rattle.version_order.proofs.lemmas.{Front.list_all-take_while, NumberBytes.is_zero, NumberBytes.numbers_compared, Runs.run_cons, Runs.run_within, Runs.rest_within, Runs.zero_digit}
+use Rattle.version_order.specs.{keys.Lists.bytes_cmp, texts.Front.run_value, texts.Front.behind_digits}
 use Rattle.version_order.proofs.digits.compare_numbers.Goals as goal
 
 abbrev digits : List ℕ → List ℕ

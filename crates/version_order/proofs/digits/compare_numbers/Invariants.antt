@@ -1,9 +1,6 @@
 use Rattle.std.proofs.Common.{◌≡◌, length}
-use Rattle.std.specs.Char.{is_ascii_digit}
-use Rattle.std.specs.List.{prefix_len, take_while}
-use Rattle.std.specs.Ordering.{nat_cmp, ordering_then}
-use Rattle.version_order.specs.texts.DigitRun.{run_value, behind_digits}
-use Rattle.version_order.specs.keys.Lists.{bytes_cmp}
+use Rattle.std.specs.{Char.is_ascii_digit, List.prefix_len, List.take_while, Ordering.nat_cmp, Ordering.ordering_then}
+use Rattle.version_order.specs.{keys.Lists.bytes_cmp, texts.Front.run_value, texts.Front.behind_digits}
 use Rattle.version_order.proofs.digits.compare_numbers.Given as goal
 
 -- the digits so far are the same: the counts of those left decide, and then those left

@@ -1,23 +1,10 @@
 -- What is left of a text that an epoch may begin: digits and a colon.
-use Rattle.std.proofs.Common.{◌≡◌, ◌==◌, ◌∙◌, ℕ, Bool, true, false, List, [], ◌∷◌, ◌++◌, Option, None, Some, ap, drop, inl, inr, not, refl, sym, ◌&&◌, append-nil, append_assoc, if◌then◌else◌, nat_le, subst}
-use Rattle.std.proofs.lemmas.Bool.{cases_Bool, eqb-true}
-use Rattle.std.specs.Cmp.{first_so, second_so}
-use Rattle.std.specs.List.{list_all, prefix_len, take_while}
-use Rattle.version_order.proofs.lemmas.Runs.{run_cons, run_none, and-false}
-use Rattle.std.specs.Option.{option_map, option_or, is_some}
-use Rattle.version_order.specs.texts.Cuts.{cut_first, cut_last, is_epoch, split_epoch}
-use Rattle.std.proofs.lemmas.List.{drop_at}
-use Rattle.std.proofs.lemmas.List.Folds.{list_all-append}
-use Rattle.std.specs.Char.{is_ascii_digit}
-use Rattle.std.specs.Prelude.{option_and_then}
-use Rattle.version_order.proofs.lemmas.Cuts.{not_cut}
-use Rattle.version_order.proofs.lemmas.Front.{all_weaker, prefix_len-append}
-use Rattle.version_order.proofs.lemmas.Plain.{run_and_rest}
-use Rattle.version_order.proofs.lemmas.Viable.Left.{behind}
-use Rattle.version_order.specs.Viable.{IsLeft, IsViable}
-use Rattle.version_order.specs.texts.Bytes.{colon}
-use Rattle.version_order.specs.texts.DigitRun.{behind_digits, run_value, starts_with_digit}
-use Rattle.version_order.specs.texts.Front.{begins}
+use Rattle.std.proofs.Common.{◌≡◌, ◌==◌, ◌∙◌, ℕ, Bool, true, false, List, [], ◌∷◌, ◌++◌, Option, None, Some, ap, drop, inl, inr, not, refl, sym, ◌&&◌, append-nil, append_assoc, if◌then◌else◌, nat_le, subst, arith}
+use Rattle.std.proofs.lemmas.{Bool.cases_Bool, Bool.eqb-true, List.drop_at, List.Folds.list_all-append}
+use Rattle.version_order.proofs.lemmas.{Cuts.not_cut, Cuts.run_and_rest, Front.all_weaker, Front.prefix_len-append, Runs.run_cons, Runs.run_none, Runs.and-false, Viable.Left.behind}
+use Rattle.version_order.specs.{Viable.IsLeft, Viable.IsViable, texts.Bytes.colon, texts.Cuts.cut_first, texts.Cuts.cut_last, texts.Cuts.is_epoch, texts.Cuts.split_epoch}
+use Rattle.version_order.specs.texts.Front.{behind_digits, run_value, starts_with_digit, begins}
+use Rattle.std.specs.{Char.is_ascii_digit, Cmp.first_so, Cmp.second_so, List.list_all, List.prefix_len, List.take_while, Option.option_map, Option.option_or, Option.is_some, Prelude.option_and_then}
 
 -- ---- texts cut at a byte that their front does not have
 
@@ -43,10 +30,7 @@ or_none (Some cut) = refl
 
 module _ (test : ℕ → Bool) (at : ℕ) (fails : test at ≡ false) where
   apart : (byte : ℕ) → test byte ≡ true → (byte == at) ≡ false
-  apart byte passes = elim (cases_Bool (byte == at)) [
-    | inl here ↦ cc (sym passes ∙ ap test (eqb-true byte at here) ∙ fails)
-    | inr other ↦ other
-  ]
+  apart byte passes = grind (arith, cases_Bool, eqb-true)
 
   pub first_behind : (front rest : List ℕ) → list_all test front ≡ true
       → cut_first at (front ++ rest) ≡ with_front front (cut_first at rest)
@@ -69,10 +53,7 @@ module _ (test : ℕ → Bool) (at : ℕ) (fails : test at ≡ false) where
 pub not_all : (test : ℕ → Bool) (front rest : List ℕ) (byte : ℕ) → test byte ≡ false
     → list_all test (front ++ byte ∷ rest) ≡ false
 not_all test [] rest byte fails = rw fails refl
-not_all test (first ∷ front) rest byte fails = elim (cases_Bool (test first)) [
-  | inl passes ↦ rw (passes, not_all test front rest byte fails) refl
-  | inr other ↦ rw other refl
-]
+not_all test (first ∷ front) rest byte fails = grind (arith, cases_Bool, front, not_all test front rest byte fails)
 
 -- ---- by the run before the byte
 
@@ -111,22 +92,12 @@ abbrev pub no_colon : ℕ → Bool
 no_colon byte = not (byte == colon)
 
 digit_no_colon : (byte : ℕ) → is_ascii_digit byte ≡ true → no_colon byte ≡ true
-digit_no_colon byte e = elim (cases_Bool (byte == colon)) [
-  | inl is ↦ cc (sym e ∙ ap is_ascii_digit (eqb-true byte colon is))
-  | inr other ↦ rw other refl
-]
+digit_no_colon byte e = grind (arith, cases_Bool, eqb-true)
 
 -- a text that isn't cut has no colon
 pub uncut : (begun rest : List ℕ) → cut_first colon (begun ++ rest) ≡ None → list_all no_colon begun ≡ true
 uncut [] rest none = refl
-uncut (byte ∷ begun) rest none = by (byte == colon) refl (cut_first colon (begun ++ rest)) refl (uncut begun rest)
-  where
-    by : (is : Bool) → (byte == colon) ≡ is → (more : Option (List ℕ × List ℕ)) → cut_first colon (begun ++ rest) ≡ more
-        → (cut_first colon (begun ++ rest) ≡ None → list_all no_colon begun ≡ true)
-        → list_all no_colon (byte ∷ begun) ≡ true
-    by true is more e next = cc (rw is at none)
-    by false is None e next = rw is (next e)
-    by false is (Some cut) e next = cc (rw (is, e) at none)
+uncut (byte ∷ begun) rest none = grind (arith, uncut begun rest)
 
 -- what is made of one part or of two, if these pass
 pub one_part : {A B : Type 0} (is : Bool) (part : A) (make : A → B)
@@ -161,30 +132,11 @@ module _ {A : Type 0} (read_behind : ℕ → List ℕ → Option A) (most : ℕ)
   is_plain text = by_cut false text (cut_first colon text)
 
   read_test : (text : List ℕ) → is_read text ≡ by_cut true text (cut_first colon text)
-  read_test text = by (cut_first colon text)
-    where
-      of : Option (List ℕ × List ℕ) → Option (ℕ × List ℕ)
-      of None = Some (0, text)
-      of (Some cut) = if is_epoch most cut.0 then Some (run_value cut.0, cut.1) else None
-
-      epoch : (is : Bool) (number : ℕ) (rest : List ℕ)
-          → is_some
-          (option_and_then (λ (c : ℕ × List ℕ). read_behind c.0 c.1) (if is then Some (number, rest) else None))
-          ≡ (is && is_behind rest)
-      epoch true number rest = any_epoch number rest
-      epoch false number rest = refl
-
-      by : (cut : Option (List ℕ × List ℕ))
-          → is_some (option_and_then (λ (c : ℕ × List ℕ). read_behind c.0 c.1) (of cut)) ≡ by_cut true text cut
-      by None = refl
-      by (Some cut) = epoch (is_epoch most cut.0) (run_value cut.0) cut.1
+  read_test text = grind arith
 
   at_colon : (front rest : List ℕ) → list_all no_colon front ≡ true
       → is_read (front ++ colon ∷ rest) ≡ (is_epoch most front && is_behind rest)
-  at_colon front rest all =
-      read_test (front ++ colon ∷ rest)
-      ∙ ap (by_cut true (front ++ colon ∷ rest)) (first_behind no_colon colon refl front (colon ∷ rest) all)
-      ∙ ap (λ (l : List ℕ). is_epoch most l && is_behind rest) (append-nil front)
+  at_colon front rest all = grind (arith, read_test, front, first_behind, append-nil)
 
   no_epoch_there : (front : List ℕ) (rest : Bool) → list_all is_ascii_digit front ≡ false
       → (is_epoch most front && rest) ≡ false
@@ -223,18 +175,7 @@ module _ {A : Type 0} (read_behind : ℕ → List ℕ → Option A) (most : ℕ)
 
     -- what is plain is read
     plain_viable : (begun : List ℕ) → IsViable is_plain begun → IsViable is_read begun × (list_all no_colon begun ≡ true)
-    plain_viable begun is = by (cut_first colon (begun ++ is.rest)) refl is.passes
-      where
-        by : (cut : Option (List ℕ × List ℕ)) → cut_first colon (begun ++ is.rest) ≡ cut
-            → by_cut false (begun ++ is.rest) cut ≡ true → IsViable is_read begun × (list_all no_colon begun ≡ true)
-        by None none passes = (
-          record {
-            rest = is.rest;
-            passes = read_test (begun ++ is.rest) ∙ ap (by_cut true (begun ++ is.rest)) none ∙ passes;
-          },
-          uncut begun is.rest none,
-        )
-        by (Some cut) none passes = cc passes
+    plain_viable begun is = grind (arith, read_test, uncut)
 
     module _ (text digits rest : List ℕ) (digits_is : digits ≡ take_while is_ascii_digit text)
         (rest_is : rest ≡ drop (prefix_len is_ascii_digit text) text) where

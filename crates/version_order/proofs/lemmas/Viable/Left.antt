@@ -1,16 +1,11 @@
 -- What is left of a text after its longest viable beginning, piece by piece.
 use Rattle.std.proofs.Common.{◌≡◌, ◌⊎◌, ◌==◌, ◌&&◌, ◌||◌, ◌-◌, ◌<◌, ◌≤◌, ◌∙◌, ℕ, Bool, true, false, List, [], ◌∷◌, ◌++◌, ap, append_assoc, arith, drop, length, length-append, not, refl, subst, suc, sym, take, if◌then◌else◌, inl, inr, Option}
-use Rattle.std.specs.List.{list_all, prefix_len, take_while}
-use Rattle.version_order.specs.texts.Front.{begins, is_run}
-use Rattle.version_order.proofs.lemmas.Front.{begins-drop, list_all-take_while, prefix_len-append, take_while-all}
+use Rattle.std.specs.{Cmp.first_so, Cmp.second_so, List.list_all, List.prefix_len, List.take_while, Option.is_some, Option.option_map}
+use Rattle.version_order.specs.{Viable.IsLeft, Viable.IsLongestViable, Viable.IsViable, texts.Front.begins, texts.Front.is_run}
+use Rattle.version_order.proofs.lemmas.{Codes.is_read, Front.begins-drop, Front.list_all-take_while, Front.prefix_len-append, Front.take_while-all, Runs.and-false, Runs.run_cons, Runs.run_none}
 use Rattle.std.proofs.Math.Dec.{eqb-suc-zero}
-use Rattle.std.proofs.lemmas.Bool.{and_from, cases_Bool, or_left}
-use Rattle.std.specs.Cmp.{first_so, second_so}
 use Rattle.std.proofs.lemmas.List.{drop_at, length-drop, take-append-drop, take_all, take_at}
-use Rattle.version_order.proofs.lemmas.Runs.{and-false, run_cons, run_none}
-use Rattle.std.specs.Option.{is_some, option_map}
-use Rattle.version_order.proofs.lemmas.Codes.{is_read}
-use Rattle.version_order.specs.Viable.{IsLeft, IsLongestViable, IsViable}
+use Rattle.std.proofs.lemmas.Bool.{and_from, cases_Bool, or_left}
 
 -- a test that holds of the same texts
 pub same : (test other : List ℕ → Bool) → ((text : List ℕ) → test text ≡ other text) → (text left : List ℕ)
@@ -95,12 +90,7 @@ unless_nothing mark test other alike nothing text left none is = record {
 -- a run stays where another byte follows
 run_of : (class : ℕ → Bool) (run rest : List ℕ) → list_all class run ≡ true → begins class rest ≡ false
     → (take_while class (run ++ rest) ≡ run) × (drop (prefix_len class (run ++ rest)) (run ++ rest) ≡ rest)
-run_of class run rest all ends =
-    let count = prefix_len-append class run rest all ends in (
-      ap (λ (n : ℕ). take n (run ++ rest)) count ∙ take_at run rest _ refl,
-      ap
-          (λ (n : ℕ). drop n (run ++ rest)) count ∙ drop_at run rest _ refl,
-    )
+run_of class run rest all ends = grind (arith, prefix_len-append, all, ends, take_at, drop_at)
 
 -- by the run that a text begins with, and what follows it
 module _ (class : ℕ → Bool) (test : List ℕ → Bool) (by : List ℕ → List ℕ → Bool)
@@ -117,9 +107,7 @@ module _ (class : ℕ → Bool) (test : List ℕ → Bool) (by : List ℕ → Li
   whole = sym (take-append-drop (prefix_len class text) text) ∙ (λ i. sym run_is i ++ sym rest_is i)
 
   at_run : (next : List ℕ) → begins class next ≡ false → test (run ++ next) ≡ by run next
-  at_run next apart =
-      let cut = run_of class run next all apart in
-      split (run ++ next) ∙ (λ i. by (cut.0 i) (cut.1 i))
+  at_run next apart = grind (arith, run_of, all)
 
   -- what follows the run decides
   pub after_run : ((next : List ℕ) → by run next ≡ true → begins class next ≡ false) → (left : List ℕ)
@@ -189,21 +177,7 @@ run_is_run test run all some = rw (some, all) refl
 pub run_split : (test : ℕ → Bool) (text : List ℕ) → is_run test text
     ≡ (not (length (take_while test text) == 0) && is_nothing (drop (prefix_len test text) text))
 run_split test [] = refl
-run_split test (byte ∷ text) = elim (cases_Bool (test byte)) [
-  | inl passes ↦
-      let step = run_cons test byte text passes in
-      let here : is_run test (byte ∷ text) ≡ list_all test text = rw (eqb-suc-zero (length text), passes) refl in
-      let some : (length (take_while test (byte ∷ text)) == 0) ≡ false =
-      ap (λ (l : List ℕ). length l == 0) step.0 ∙ eqb-suc-zero (length (take_while test text)) in
-      here ∙ whole_run test text ∙ ap is_nothing (sym step.1)
-      ∙ sym (ap (λ (b : Bool). not b && is_nothing (drop (prefix_len test (byte ∷ text)) (byte ∷ text))) some)
-  | inr fails ↦
-      let step = run_none test byte text fails in
-      let none : (length (take_while test (byte ∷ text)) == 0) ≡ true =
-      ap (λ (l : List ℕ). length l == 0) step.0 in
-      and-false (not (length (byte ∷ text) == 0)) _ (rw fails refl)
-      ∙ sym (ap (λ (b : Bool). not b && is_nothing (drop (prefix_len test (byte ∷ text)) (byte ∷ text))) none)
-]
+run_split test (byte ∷ text) = grind (arith, cases_Bool, run_cons, eqb-suc-zero, whole_run, run_none, and-false)
 
 pub grown : (test : ℕ → Bool) → test 97 ≡ true → (run : List ℕ) → list_all test run ≡ true
     → list_all test (run ++ 97 ∷ []) ≡ true
@@ -258,19 +232,14 @@ module _ (class mark : ℕ → Bool) (good test tail : List ℕ → Bool)
 
   pub next_closed : (text : List ℕ) → next mark test tail text ≡ true → begins class text ≡ false
   next_closed [] passes = refl
-  next_closed (byte ∷ text) passes = elim (cases_Bool (mark byte)) [
-    | inl marked ↦ mark_apart byte marked
-    | inr other ↦ (tail_apart (byte ∷ text) (rw other at passes)).0
-  ]
+  next_closed (byte ∷ text) passes = grind (arith, cases_Bool)
 
   closed : (run rest : List ℕ) → by run rest ≡ true → begins class rest ≡ false
   closed run rest passes = next_closed rest (second_so (good run) _ passes)
 
   -- a piece alone
   pub alone : (run : List ℕ) → list_all class run ≡ true → good run ≡ true → tail [] ≡ true → test run ≡ true
-  alone run all is nothing =
-      let none = nothing_nil (drop (prefix_len class run) run) (sym (whole_run class run) ∙ all) in
-      split run ∙ (λ i. good (take_while-all class run all i) && next mark test tail (none i)) ∙ rw (is, nothing) refl
+  alone run all is nothing = grind (arith, nothing_nil, whole_run, all, take_while-all)
 
   -- a tail follows the piece, or a further one
   pub last_rest : (run rest left : List ℕ) → good run ≡ true → begins mark rest ≡ false
@@ -310,9 +279,7 @@ module _ (class mark : ℕ → Bool) (good test tail : List ℕ → Bool)
 cut_twice : (a x b y : List ℕ) → a ++ x ≡ b ++ y → length x ≤ length y
     → (z : List ℕ) × (a ≡ b ++ z) × (y ≡ z ++ x)
 cut_twice a x [] y e less = (a, refl, sym e)
-cut_twice [] x (c ∷ b) y e less =
-    let count : length x ≡ length ((c ∷ b) ++ y) = ap (λ (l : List ℕ). length l) e in
-    absurd (omega (arith, count, length-append b y))
+cut_twice [] x (c ∷ b) y e less = grind (arith, length-append)
 cut_twice (d ∷ a) x (c ∷ b) y e less =
     let head : d ≡ c = cc e in
     let tail : a ++ x ≡ b ++ y = cc e in
@@ -406,12 +373,7 @@ longest test text left is =
 -- the same of tests that agree
 pub longest_alike : (test other : List ℕ → Bool) → ((text : List ℕ) → test text ≡ other text) → (text : List ℕ) (n : ℕ)
     → IsLongestViable other text n → IsLongestViable test text n
-longest_alike test other alike text n is = record {
-  within = is.within;
-  viable = record { rest = is.viable.rest; passes = alike _ ∙ is.viable.passes };
-  longest = λ m longer within viable.
-      is.longest m longer within (record { rest = viable.rest; passes = sym (alike _) ∙ viable.passes });
-}
+longest_alike test other alike text n is = grind (arith, longest)
 
 -- the same of what is made of what is read
 pub longest_read : {A B : Type 0} (f : A → B) (read : List ℕ → Option A) (text left : List ℕ)

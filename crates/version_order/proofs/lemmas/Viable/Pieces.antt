@@ -1,5 +1,5 @@
 -- Texts of pieces with marks between that end before a byte of no class, by the run that they begin with.
-use Rattle.std.proofs.Common.{◌≡◌, ◌∙◌, ℕ, Bool, List, [], true, ap, sym, ◌&&◌, false, ◌∷◌, drop, if◌then◌else◌, inl, inr, refl}
+use Rattle.std.proofs.Common.{◌≡◌, ◌∙◌, ℕ, Bool, List, [], true, ap, sym, ◌&&◌, false, ◌∷◌, drop, if◌then◌else◌, inl, inr, refl, arith}
 use Rattle.std.proofs.lemmas.Bool.{cases_Bool}
 use Rattle.std.specs.List.{list_all, prefix_len, slice_split, take_while}
 use Rattle.version_order.specs.texts.Front.{begins}
@@ -59,11 +59,7 @@ module _ (small large mark : ℕ → Bool) (good tail : List ℕ → Bool)
 
     last : (rest : List ℕ) → drop (prefix_len small text) text ≡ rest → begins large rest ≡ false
         → drop (prefix_len large rest) rest ≡ rest → pieces_then text ≡ (good run && tail rest)
-    last rest e ends stays =
-        let split = last_piece small large within mark apart text (ap (begins large) e ∙ ends) in
-        let more : drop (prefix_len large text) text ≡ rest =
-        sym (rest_within small large within text) ∙ ap (λ (l : List ℕ). drop (prefix_len large l) l) e ∙ stays in
-        (λ i. list_all good (split i) && tail (more i)) ∙ ap (λ (b : Bool). b && tail rest) (and-true (good run))
+    last rest e ends stays = grind (arith, last_piece, rest_within, and-true)
 
     by_rest : (rest : List ℕ) → drop (prefix_len small text) text ≡ rest
         → pieces_then text ≡ (good run && next mark pieces_then tail rest)

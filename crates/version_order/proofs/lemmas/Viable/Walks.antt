@@ -1,11 +1,10 @@
 -- Where a walk over a text stops, piece by piece.
 use Rattle.std.proofs.Common.{◌≡◌, ◌==◌, ◌&&◌, ◌||◌, ◌-◌, ◌∙◌, ℕ, Bool, true, false, List, [], ◌∷◌, ◌++◌, ap, append_assoc, arith, drop, length, length-append, refl, subst, sym, take, if◌then◌else◌, append-nil}
-use Rattle.std.specs.List.{list_all, prefix_len, take_while}
-use Rattle.version_order.specs.texts.Front.{begins}
+use Rattle.std.specs.List.{prefix_len, take_while}
+use Rattle.version_order.proofs.lemmas.Viable.Left.{behind, empty_run, is_nothing, next, next_tail}
 use Rattle.version_order.proofs.lemmas.Front.{begins-drop, list_all-take_while, prefix_len-append}
 use Rattle.std.proofs.lemmas.List.{drop_at, take-append-drop, take_at}
-use Rattle.version_order.proofs.lemmas.Viable.Left.{behind, empty_run, is_nothing, next, next_tail}
-use Rattle.version_order.specs.Viable.{IsLeft, IsCut, Stops}
+use Rattle.version_order.specs.{Viable.IsLeft, Viable.IsCut, Viable.Stops, texts.Front.begins}
 
 -- a beginning of a text begins with no byte with which the text doesn't begin
 begun_apart : (bad : ℕ → Bool) (begun rest : List ℕ) → begins bad (begun ++ rest) ≡ false → begins bad begun ≡ false
@@ -97,12 +96,7 @@ module _ {class mark : ℕ → Bool} {good test inner tail : List ℕ → Bool}
   run_ends = ap (begins class) rest_is ∙ begins-drop class text
 
   at_piece : (after : List ℕ) → begins class after ≡ false → test (run ++ after) ≡ (good run && next mark inner tail after)
-  at_piece after apart =
-      let all = ap (list_all class) run_is ∙ list_all-take_while class text in
-      let count = prefix_len-append class run after all apart in
-      let front = ap (λ (n : ℕ). take n (run ++ after)) count ∙ take_at run after _ refl in
-      let back = ap (λ (n : ℕ). drop n (run ++ after)) count ∙ drop_at run after _ refl in
-      by.split (run ++ after) ∙ (λ i. good (front i) && next mark inner tail (back i))
+  at_piece after apart = grind (arith, list_all-take_while, prefix_len-append, take_at, drop_at, next)
 
   -- a piece that is none, but may become one
   pub stops_at_piece : good run ≡ false → (more : List ℕ) → test (run ++ more) ≡ true → Stops test text rest false
@@ -160,26 +154,18 @@ module _ {class mark : ℕ → Bool} {good test inner tail : List ℕ → Bool}
 -- a text with more than its longest viable beginning
 pub cut_at : (test : List ℕ → Bool) (text left : List ℕ) (byte : ℕ) (behind : List ℕ) → left ≡ byte ∷ behind
     → IsLeft test text left → IsCut test text left
-cut_at test text left byte behind e is = record {
-  fails = ap test (is.whole ∙ ap (λ (l : List ℕ). is.begun ++ l) e) ∙ is.stuck byte behind e behind;
-  is = is;
-}
+cut_at test text left byte behind e is = grind (arith, behind)
 
 -- what follows a front decides
 pub cut_behind : (test other : List ℕ → Bool) (front : List ℕ)
     → ((text : List ℕ) → test (front ++ text) ≡ other text) → (text left : List ℕ) → IsCut other text left
     → IsCut test (front ++ text) left
-cut_behind test other front alike text left cut = record {
-  fails = alike text ∙ cut.fails;
-  is = behind test other front alike text left cut.is;
-}
+cut_behind test other front alike text left cut = grind (arith, behind)
 
 module _ (test : List ℕ → Bool) (text rest : List ℕ) (passes : Bool) (stops : Stops test text rest passes) where
   -- a walk that stops at the end of what is whole has read it
   pub stops_passes : passes ≡ true → (length rest == 0) ≡ true → test text ≡ true
-  stops_passes is none =
-      ap test (stops.left.whole ∙ ap (λ (l : List ℕ). stops.left.begun ++ l) (empty_run rest none)
-      ∙ append-nil stops.left.begun) ∙ stops.is ∙ is
+  stops_passes is none = grind (arith, empty_run, append-nil)
 
   pub stops_cut : passes ≡ false → IsCut test text rest
   stops_cut is = by rest refl
@@ -202,9 +188,4 @@ module _ (test : List ℕ → Bool) (text rest : List ℕ) (passes : Bool) (stop
 -- what stands before the rest
 pub stops_begun : (test : List ℕ → Bool) (text rest : List ℕ) (passes : Bool) (stops : Stops test text rest passes)
     → take (length text - length rest) text ≡ stops.left.begun
-stops_begun test text rest passes stops =
-    let begun = stops.left.begun in
-    let count : length text - length rest ≡ length begun =
-    omega (arith, ap (λ (l : List ℕ). length l) stops.left.whole, length-append begun rest) in
-    ap (λ (n : ℕ). take n text) count ∙ ap (λ (l : List ℕ). take (length begun) l) stops.left.whole
-    ∙ take_at begun rest _ refl
+stops_begun test text rest passes stops = grind (arith, length-append, take_at)

@@ -1,7 +1,6 @@
 use Rattle.std.proofs.Common.{◌≡◌, ◌∙◌, ◌+◌, ◌-◌, ◌∷◌, [], ℕ, ap, arith, refl}
-use Rattle.version_order.specs.keys.NumberBytes.{length_bytes}
-use Rattle.version_order.proofs.lemmas.NumberBytes.{length_bytes-long, length_bytes-short}
-use Rattle.version_order.proofs.lemmas.Sinks.{next_fits, owes_all, owes_rest, owes_same}
+use Rattle.version_order.specs.keys.Codes.{length_bytes}
+use Rattle.version_order.proofs.lemmas.{NumberBytes.length_bytes-long, NumberBytes.length_bytes-short, Sinks.next_fits, Sinks.owes_all, Sinks.owes_rest, Sinks.owes_same}
 use Rattle.version_order.proofs.numbers.put_length.Goals as goal
 
 longer : (left : ℕ) → left ≡ 255 + (left - 255)

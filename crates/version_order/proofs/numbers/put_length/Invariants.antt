@@ -1,4 +1,4 @@
-use Rattle.version_order.specs.keys.NumberBytes.{length_bytes}
+use Rattle.version_order.specs.keys.Codes.{length_bytes}
 use Rattle.version_order.proofs.lemmas.Sinks.{Owes}
 use Rattle.version_order.proofs.numbers.put_length.Given as goal
 

@@ -1,10 +1,7 @@
 use Rattle.std.proofs.Common.{ℕ, List, ◌++◌, ◌∙◌, ap, drop, length}
-use Rattle.std.specs.Char.{is_ascii_digit}
-use Rattle.std.specs.List.{prefix_len}
-use Rattle.version_order.specs.keys.NumberBytes.{length_bytes}
-use Rattle.version_order.proofs.lemmas.NumberBytes.{is_zero, number_of_run}
-use Rattle.version_order.proofs.lemmas.Runs.{rest_within, zero_digit}
-use Rattle.version_order.proofs.lemmas.Sinks.{next_fits, owes_all, owes_rest}
+use Rattle.std.specs.{Char.is_ascii_digit, List.prefix_len}
+use Rattle.version_order.specs.keys.Codes.{length_bytes}
+use Rattle.version_order.proofs.lemmas.{NumberBytes.is_zero, NumberBytes.number_of_run, Runs.rest_within, Runs.zero_digit, Sinks.next_fits, Sinks.owes_all, Sinks.owes_rest}
 use Rattle.version_order.proofs.numbers.put_long_number.Goals as goal
 
 pub put_length-requires : goal.put_length-requires

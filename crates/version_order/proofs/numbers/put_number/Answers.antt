@@ -1,6 +1,5 @@
 use Rattle.std.proofs.Common.{[], ◌∷◌}
-use Rattle.version_order.proofs.lemmas.NumberBytes.{number_of_digit}
-use Rattle.version_order.proofs.lemmas.Sinks.{next_fits, owes_all, owes_rest}
+use Rattle.version_order.proofs.lemmas.{NumberBytes.number_of_digit, Sinks.next_fits, Sinks.owes_all, Sinks.owes_rest}
 use Rattle.version_order.proofs.numbers.put_number.Goals as goal
 
 pub put-requires : goal.put-requires

@@ -1,8 +1,7 @@
 use Rattle.std.proofs.Common.{◌∙◌, ◌∷◌, [], ℕ, List, ap, drop, refl, sym}
 use Rattle.std.specs.List.{prefix_len, take_while}
 use Rattle.version_order.specs.texts.Class.{contains}
-use Rattle.version_order.proofs.lemmas.Runs.{run_cons}
-use Rattle.version_order.proofs.lemmas.Sinks.{next_fits, owes_all, owes_rest, owes_same}
+use Rattle.version_order.proofs.lemmas.{Runs.run_cons, Sinks.next_fits, Sinks.owes_all, Sinks.owes_rest, Sinks.owes_same}
 use Rattle.version_order.proofs.numbers.put_run.Goals as goal
 
 pub loop-first-init : goal.loop-first-init

@@ -1,6 +1,5 @@
 use Rattle.std.proofs.Common.{◌≡◌, ◌∷◌, take, refl}
-use Rattle.std.proofs.lemmas.Grind.{put_two}
-use Rattle.std.proofs.lemmas.List.{take_all}
+use Rattle.std.proofs.lemmas.{Grind.put_two, List.take_all}
 use Rattle.version_order.specs.texts.Bytes.{dot}
 use Rattle.version_parts.proofs.lemmas.Lists.{joined}
 use Rattle.version_parts.proofs.lists.write_dotted.Goals as goal

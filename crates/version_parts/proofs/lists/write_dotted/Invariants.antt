@@ -1,6 +1,5 @@
 use Rattle.std.proofs.Common.{◌∷◌, take}
-use Rattle.std.specs.Fmt.{HasWritten, IsPlainFormatter}
-use Rattle.std.specs.List.{flat_map}
+use Rattle.std.specs.{Fmt.HasWritten, Fmt.IsPlainFormatter, List.flat_map}
 use Rattle.version_order.specs.texts.Bytes.{dot}
 use Rattle.version_parts.proofs.lists.write_dotted.Given as goal
 

@@ -1,28 +1,17 @@
 -- The versions that `~` or `^` matches are in its range, and with a strict version no others are.
-use Rattle.std.proofs.Common.{◌≡◌, ◌↔◌, ℕ, Bool, if◌then◌else◌, zero, suc, ◌<◌, ◌≤◌, ◌==◌, ◌⊎◌, inl, inr, List, [], ◌∷◌, ◌++◌, true, false, Some, IsTrue, nat_cmp, refl, sym, ap, ◌∙◌, arith, append_assoc, append-nil}
+use Rattle.std.proofs.Common.{◌≡◌, ◌↔◌, ℕ, Bool, if◌then◌else◌, zero, suc, ◌<◌, ◌≤◌, ◌==◌, ◌⊎◌, inl, inr, List, [], ◌∷◌, ◌++◌, true, false, Some, IsTrue, nat_cmp, refl, sym, ap, ◌∙◌, arith, append_assoc, append-nil, rules}
 use Rattle.std.proofs.lemmas.Bool.Decides.{nat_tests}
-use Rattle.std.specs.Bool.{MatchBool}
-use Rattle.std.specs.Cmp.{nat_cmp_total, ranks, tied_itself}
-use Rattle.std.specs.Ordering.{MatchOrdering, ordering_then}
-use Rattle.std.specs.declared.cmp.Ordering.{Ordering}
+use Rattle.std.specs.{Bool.MatchBool, Cmp.nat_cmp_total, Cmp.ranks, Cmp.tied_itself, Ordering.MatchOrdering, Ordering.ordering_then, declared.cmp.Ordering.Ordering}
 use Rattle.std.specs.declared.cmp.Ordering.TheVariants.{Less, Equal, Greater}
-use Rattle.version_rules.proofs.lemmas.Grammar.{split_last-append}
+use Rattle.version_rules.proofs.lemmas.{Grammar.split_last-append, Key.part_writes}
 use Rattle.version_order.proofs.lemmas.NumberBytes.{number_writes}
-use Rattle.version_rules.proofs.lemmas.Key.{part_writes}
-use Rattle.version_order.specs.keys.Codes.{items_bytes, then_equal}
-use Rattle.version_order.specs.keys.Lists.{bytes_cmp}
-use Rattle.version_order.specs.keys.NumberBytes.{number_bytes}
+use Rattle.version_order.specs.keys.{Codes.items_bytes, Codes.then_equal, Codes.number_bytes, Lists.bytes_cmp}
+use Rattle.version_rules.specs.key.Key.{Key, key_of_semver, key_of_version, plain, strict_body, key_bytes, tail_bytes}
 use Rattle.version_rules.specs.key.PartKey.{PartKey, Number, Word, part_bytes, part_cmp, parts_bytes}
-use Rattle.version_rules.specs.laws.Part.{part_total}
-use Rattle.version_rules.specs.key.Key.{Key, key_of_semver, key_of_version, plain, strict_body, key_bytes}
-use Rattle.version_rules.specs.requirement.Matching.{MatchesCaret, MatchesTilde}
 use Rattle.version_rules.specs.requirement.Range.{AreBetween, IsIn, above_begun, begun, but_last, series_range, through_other}
-use Rattle.version_rules.specs.grammar.SemVer.{PlainSemVer}
-use Rattle.version_rules.specs.requirement.SemVerMatch.{Numbers, both_zero, numbers}
-use Rattle.version_rules.specs.key.Tail.{tail_bytes}
-use Rattle.version_rules.specs.grammar.Version.{PlainVersion}
 use Rattle.version_rules.specs.requirement.VersionMatch.{IsNotBelow, PartsMatchCaret, PartsMatchTilde, PartsNotBelow, is_plain_zero}
-use Rattle.version_rules.specs.grammar.Versioning.{PlainVersioning, Ideal, General, Complex}
+use Rattle.version_rules.specs.{grammar.SemVer.PlainSemVer, grammar.Version.PlainVersion, grammar.Versioning.PlainVersioning, grammar.Versioning.Ideal, grammar.Versioning.General, grammar.Versioning.Complex, laws.Part.part_total}
+use Rattle.version_rules.specs.requirement.{Matching.MatchesCaret, Matching.MatchesTilde, SemVerMatch.Numbers, SemVerMatch.both_zero, SemVerMatch.numbers}
 use Rattle.version_rules.specs.requirement.SemVerMatch as strict
 
 -- ---- orders in turn
@@ -134,12 +123,7 @@ caret_at_least : (wanted parts : List PartKey) → PartsMatchCaret wanted parts
     → PartsNotBelow wanted parts
 caret_at_least [] parts m = tt
 caret_at_least (w ∷ wanted) [] m = m
-caret_at_least (w ∷ wanted) (p ∷ parts) m =
-    (rw m.0 (not_below_itself p), others (is_plain_zero w) (caret_at_least wanted parts) m.1)
-  where
-    others : {P Q : Type 0} (zero : Bool) → (P → Q) → MatchBool zero P Q → Q
-    others true step m = step m
-    others false step m = m
+caret_at_least (w ∷ wanted) (p ∷ parts) m = grind (arith, not_below_itself, caret_at_least wanted parts)
 
 caret_keeps : (wanted parts : List PartKey)
     → PartsMatchCaret wanted parts → (more : List PartKey) × (parts ≡ through_other wanted ++ more)
@@ -175,19 +159,7 @@ first_numbers n m parts x begin y =
 -- is not below
 number_first : (m n : ℕ) (rest : Ordering)
     → (¬ (ordering_then (nat_cmp n m) rest ≡ Less)) ↔ ((m < n) ⊎ ((m ≡ n) × (¬ (rest ≡ Less))))
-number_first m n rest = by (nat_cmp n m) (ranks n m)
-  where
-    by : (r : Ordering) → MatchOrdering r (n < m) (n ≡ m) (m < n)
-        → (¬ (ordering_then r rest ≡ Less)) ↔ ((m < n) ⊎ ((m ≡ n) × (¬ (rest ≡ Less))))
-    by Less k = (
-      λ h. absurd (h refl),
-      λ e. elim e [ inl above ↦ absurd (omega arith) | inr same ↦ absurd (omega (arith, same.0)) ],
-    )
-    by Equal k = (
-      λ h. inr (sym k, h),
-      λ e. elim e [ inl above ↦ absurd (omega arith) | inr same ↦ same.1 ],
-    )
-    by Greater k = (λ h. inl k, λ e less. cc less)
+number_first m n rest = grind (arith, nat_cmp, ranks)
 
 -- a number that is kept is the same, and the other parts lie between the other bounds
 kept_number : (m n : ℕ) {wanted kept parts : List PartKey} {x : List ℕ}
@@ -335,9 +307,7 @@ module _ (kept : List PartKey → List PartKey) where
 
   strict_in : (w v : PlainSemVer)
       → Bounds (key_of_semver w) (key_of_semver v) ↔ IsIn (series_range kept (Ideal w)) (Ideal v)
-  strict_in w v =
-      let bounds = between (key_of_semver w) (key_of_semver v) (kept (body_of (numbers w))) refl in
-      (λ i. record { between = bounds.0 i; of_kind = refl }, λ i. bounds.1 i.between)
+  strict_in w v = search (rules, between, numbers)
 
   general_in : (w v : PlainVersion) → (key_of_version w).epoch ≡ (key_of_version v).epoch
       → Bounds (key_of_version w) (key_of_version v)

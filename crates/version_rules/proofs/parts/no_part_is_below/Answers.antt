@@ -1,6 +1,5 @@
 use Rattle.std.proofs.Common.{◌∙◌, ◌∷◌, ap, refl, sym}
-use Rattle.std.proofs.lemmas.Bool.{and_from, and_left, and_right}
-use Rattle.std.proofs.lemmas.Bool.Decides.{Decides-at}
+use Rattle.std.proofs.lemmas.{Bool.and_from, Bool.and_left, Bool.and_right, Bool.Decides.Decides-at}
 use Rattle.std.specs.Ordering.{is_ge}
 use Rattle.version_rules.proofs.lemmas.Matching.{not_below_decides}
 use Rattle.version_rules.proofs.parts.no_part_is_below.Goals as goal

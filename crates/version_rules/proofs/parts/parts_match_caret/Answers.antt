@@ -1,6 +1,5 @@
 use Rattle.std.proofs.Common.{◌∙◌, ◌∷◌, ap, sym}
-use Rattle.std.proofs.lemmas.Bool.{and_from, and_left, and_right}
-use Rattle.std.proofs.lemmas.Bool.Decides.{Decides-at, same_from_decides}
+use Rattle.std.proofs.lemmas.{Bool.and_from, Bool.and_left, Bool.and_right, Bool.Decides.Decides-at, Bool.Decides.same_from_decides}
 use Rattle.std.specs.Ordering.{is_eq}
 use Rattle.version_rules.proofs.lemmas.Matching.{caret_decides, last_bound, last_free, not_below_decides}
 use Rattle.version_rules.proofs.parts.parts_match_caret.Goals as goal

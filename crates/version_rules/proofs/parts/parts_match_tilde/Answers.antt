@@ -1,6 +1,5 @@
 use Rattle.std.proofs.Common.{◌∙◌, ap, refl, sym}
-use Rattle.std.proofs.lemmas.Bool.{and_left}
-use Rattle.std.proofs.lemmas.Bool.Decides.{Decides-at}
+use Rattle.std.proofs.lemmas.{Bool.and_left, Bool.Decides.Decides-at}
 use Rattle.std.specs.Ordering.{is_eq, is_ge}
 use Rattle.version_rules.proofs.lemmas.Matching.{tilde_decides}
 use Rattle.version_rules.proofs.parts.parts_match_tilde.Goals as goal

@@ -35,8 +35,8 @@ returns-in-Some-clause-ok g c =
     (c.write_front.ensures.bytes ∙ (λ i. put_at (c.as_mut_slice.ensures.value i) (last i) bytes))
     fits (omega (arith, last, end.0))
 
-pub returns-in-None-clause-ok : goal.returns-in-None-clause-ok
-returns-in-None-clause-ok g c =
+pub returns-in-None : goal.returns-in-None
+returns-in-None g c =
     let old = c.args.list.now.items in
     let bytes = (g.V.SchemeVersion.plain c.args.version.now).key in
     let n = c.saturating_add-size.result in
@@ -49,22 +49,9 @@ returns-in-None-clause-ok g c =
     (search rules)
     (c.write_front.ensures.bytes ∙ (λ i. put_at (c.as_mut_slice.ensures.value i) (last i) bytes))
     (omega (arith, last, c.saturating_add-size.ensures, c.if-size.false)) last in
-    subst (λ (l : List ℕ). OnOk c.append_counted-in-None.result (c.append_counted-in-None.new.list.items ≡ l ++ bytes)) back
-    c.append_counted-in-None.ensures.ok
-
-pub returns-in-None-clause-err : goal.returns-in-None-clause-err
-returns-in-None-clause-err g c =
-    let old = c.args.list.now.items in
-    let bytes = (g.V.SchemeVersion.plain c.args.version.now).key in
-    let n = c.saturating_add-size.result in
-    let last : c.len-start.result ≡ length old = search rules in
-    let counted : c.args.list.now.len ≡ length old = search rules in
-    let back : c.truncate-in-None.new.self.items ≡ old =
-    c.truncate-in-None.ensures.items
-    ∙ taken_back old c.resize.new.self.items c.write_front.new.room bytes n c.resize.new.self.len c.len-start.result
-    (c.in_ok-resize.ensures.items ∙ ap (λ k. take n old ++ replicate (n - k) 0) counted)
-    (search rules)
-    (c.write_front.ensures.bytes ∙ (λ i. put_at (c.as_mut_slice.ensures.value i) (last i) bytes))
-    (omega (arith, last, c.saturating_add-size.ensures, c.if-size.false)) last in
-    subst (λ (l : List ℕ). OnErr c.append_counted-in-None.result (c.append_counted-in-None.new.list.items ≡ l)) back
-    c.append_counted-in-None.ensures.err
+    record {
+      ok = subst (λ (l : List ℕ). OnOk c.append_counted-in-None.result (c.append_counted-in-None.new.list.items ≡ l ++ bytes))
+          back c.append_counted-in-None.ensures.ok;
+      err = subst (λ (l : List ℕ). OnErr c.append_counted-in-None.result (c.append_counted-in-None.new.list.items ≡ l)) back
+          c.append_counted-in-None.ensures.err;
+    }

@@ -1,8 +1,5 @@
 use Rattle.std.proofs.Common.{◌≡◌, ◌≤◌, ℕ, List, [], ◌∷◌, IfSome, Option, Some, arith, length, length-append, refl, rules, subst, sym}
-use Rattle.version_order.specs.Facts.{key_room}
-use Rattle.version_order.specs.declared.ends.End.TheVariants.{AfterKey}
-use Rattle.version_order.specs.keys.Sinks.{IsWritten}
-use Rattle.version_order.specs.Keyed.{AreWithin, PlainKeyed}
+use Rattle.version_order.specs.{Facts.key_room, Keyed.AreWithin, Keyed.PlainKeyed, declared.ends.End.TheVariants.AfterKey, keys.Sinks.IsWritten}
 use Rattle.version_schemes.proofs.key.write_key.Goals as goal
 
 -- a key has as many bytes as the key of a text of that length may have

@@ -1,9 +1,7 @@
 use Rattle.version_order.specs.declared.ends.Kept.TheVariants.{ButLastOrOnly, ThroughOther}
-use Rattle.version_rules.specs.key.Key.{key_of}
+use Rattle.version_rules.specs.{key.Key.key_of, requirement.Range.but_last_or_only, requirement.Range.through_other}
 use Rattle.version_texts.specs.Mixed.{mixed, mixed_begins}
-use Rattle.version_rules.specs.requirement.Range.{but_last_or_only, through_other}
-use Rattle.version_sets.specs.Comparison.{ends_with}
-use Rattle.version_sets.specs.declared.read.comparison.Comparison.TheVariants.{Prefix}
+use Rattle.version_sets.specs.{Comparison.ends_with, declared.read.comparison.Comparison.TheVariants.Prefix}
 use Rattle.version_sets.proofs.lemmas.Members.{all_but, prefix_is, series_is}
 use Rattle.version_sets.proofs.laws.series.Goals as goal
 

@@ -1,10 +1,7 @@
 use Rattle.std.proofs.Common.{◌≡◌, ◌∙◌, ◌+◌, ◌*◌, ◌≤◌, ◌||◌, ◌&&◌, None, ap, arith, false, length, refl, subst, sym, true}
 use Rattle.std.proofs.Math.Bool.{and-true, or-false}
-use Rattle.version_sets.specs.Form.{form_bytes}
-use Rattle.version_sets.specs.Pieces.{pieces, plain_piece}
-use Rattle.version_sets.specs.Reader.{Continues}
 use Rattle.version_sets.specs.Reading.{at_end, piece_room, pieces_room, read_pieces, read_set}
-use Rattle.version_sets.specs.Steps.{unfinished}
+use Rattle.version_sets.specs.{Form.form_bytes, Pieces.pieces, Pieces.plain_piece, Reader.Continues, Steps.unfinished}
 use Rattle.version_sets.proofs.lemmas.Reader.{at_first}
 use Rattle.version_order.specs.Facts.{key_room}
 use Rattle.version_sets.proofs.read.read_set.Goals as goal

@@ -1,8 +1,5 @@
 use Rattle.std.proofs.Common.{◌≡◌, ◌+◌, ◌*◌, ◌≤◌, Bool, List, length, ℕ}
-use Rattle.version_sets.specs.Pieces.{pieces}
-use Rattle.version_sets.specs.Reader.{Continues, Fits, Holds}
-use Rattle.version_sets.specs.Reading.{pieces_room, read_pieces, read_set}
-use Rattle.version_sets.specs.declared.read.steps.State.TheVariants.{Come}
+use Rattle.version_sets.specs.{Pieces.pieces, Reader.Continues, Reader.Fits, Reader.Holds, Reading.pieces_room, Reading.read_pieces, Reading.read_set, declared.read.steps.State.TheVariants.Come}
 use Rattle.version_order.specs.Facts.{key_room}
 use Rattle.version_sets.proofs.read.read_set.Given as goal
 

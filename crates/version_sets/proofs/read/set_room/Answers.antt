@@ -1,6 +1,5 @@
 use Rattle.std.proofs.Common.{◌≡◌, ◌+◌, ap, arith}
-use Rattle.version_sets.specs.Pieces.{pieces, plain_piece}
-use Rattle.version_sets.specs.Reading.{piece_room, pieces_room}
+use Rattle.version_sets.specs.{Pieces.pieces, Pieces.plain_piece, Reading.piece_room, Reading.pieces_room}
 use Rattle.version_order.specs.Facts.{key_room}
 use Rattle.version_sets.proofs.read.set_room.Goals as goal
 

@@ -1,8 +1,6 @@
 use Rattle.std.proofs.Common.{◌≡◌, ◌+◌, length, ℕ}
-use Rattle.version_order.specs.keys.Sinks.{saturated}
-use Rattle.version_sets.specs.Pieces.{pieces}
-use Rattle.version_sets.specs.Reading.{pieces_room}
-use Rattle.version_order.specs.Facts.{key_room}
+use Rattle.version_order.specs.{Facts.key_room, keys.Sinks.saturated}
+use Rattle.version_sets.specs.{Pieces.pieces, Reading.pieces_room}
 use Rattle.version_sets.proofs.read.set_room.Given as goal
 
 -- the room for the pieces so far, and that for those that are left

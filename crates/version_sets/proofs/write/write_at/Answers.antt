@@ -1,8 +1,8 @@
 use Rattle.std.proofs.Common.{◌∙◌, ◌++◌, List, ap, arith, refl, sym, ℕ}
 use Rattle.version_order.specs.keys.Sinks.{put_at}
 use Rattle.version_sets.proofs.lemmas.Members.{put_between}
-use Rattle.version_sets.proofs.write.write_at.Goals as goal
 use Rattle.version_sets.proofs.write.write_at.Goals.{then-start-room-via-then-start-room, then-start-room-via-else-start-room+then-bytes-room}
+use Rattle.version_sets.proofs.write.write_at.Goals as goal
 
 pub returns-then-start-room-clause-written : goal.returns-then-start-room-clause-written
 returns-then-start-room-clause-written c = record {

@@ -1,10 +1,8 @@
 use Rattle.std.proofs.Common.{◌≡◌, ◌∙◌, ◌+◌, ◌*◌, ◌∷◌, List, ap, arith, length, length-append, refl, sym, ℕ}
 use Rattle.std.specs.List.{concat, flat_map}
 use Rattle.version_order.specs.keys.Sinks.{length-put, put_at, put_nothing}
-use Rattle.version_sets.specs.Form.{number, places}
-use Rattle.version_sets.specs.Set.{left}
-use Rattle.version_sets.proofs.lemmas.Form.{number_length}
-use Rattle.version_sets.proofs.lemmas.Members.{put_next}
+use Rattle.version_sets.specs.{Form.number, Form.places, Set.left}
+use Rattle.version_sets.proofs.lemmas.{Form.number_length, Members.put_next}
 use Rattle.version_sets.proofs.write.write_ends.Goals as goal
 
 pub loop-end-preserved : goal.loop-end-preserved

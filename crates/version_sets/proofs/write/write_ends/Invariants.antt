@@ -1,7 +1,6 @@
 use Rattle.std.proofs.Common.{◌≡◌, ◌+◌, ◌*◌, ◌≤◌, length}
 use Rattle.std.specs.List.{concat, flat_map}
-use Rattle.version_sets.specs.Form.{number, places}
-use Rattle.version_sets.specs.Set.{left, merge_left}
+use Rattle.version_sets.specs.{Form.number, Form.places, Set.left, Set.merge_left}
 use Rattle.version_order.specs.keys.Sinks.{put_at}
 use Rattle.version_sets.proofs.write.write_ends.Given as goal
 

@@ -2,19 +2,11 @@
 use Rattle.std.proofs.Common.{◌≡◌, ◌==◌, ◌&&◌, ◌∙◌, ◌<◌, ◌≤◌, ◌^◌, ◌⊎◌, if◌then◌else◌, ℕ, zero, suc, Bool, true, false, List, [], ◌∷◌, ◌++◌, drop, length, map, nat_lt, take, Option, Some, None, refl, sym, ap, arith, inl, inr}
 use Rattle.std.proofs.Math.Dec.{eqb-suc-zero}
 use Rattle.std.proofs.lemmas.Bool.{and_from, eqb-true, lt-ltb, ltb-true}
-use Rattle.std.specs.Cmp.{first_so, nat_cmp_is, second_so}
-use Rattle.std.specs.List.{list_all}
-use Rattle.std.specs.Option.{option_map, option_map_or, unwrap_or}
-use Rattle.std.specs.Ordering.{nat_cmp, ordering_then}
-use Rattle.std.specs.declared.cmp.Ordering.{Ordering}
+use Rattle.std.specs.{Cmp.first_so, Cmp.nat_cmp_is, Cmp.second_so, List.list_all, Option.option_map, Option.option_map_or, Option.unwrap_or, Ordering.nat_cmp, Ordering.ordering_then, declared.cmp.Ordering.Ordering}
 use Rattle.std.specs.declared.cmp.Ordering.TheVariants.{Less, Equal, Greater}
-use Rattle.version_rules.specs.grammar.Chunk.{PlainChunk, number_of}
-use Rattle.version_rules.specs.key.Key.{key_of, plain, precedence, versioning_epoch}
 use Rattle.version_rules.specs.grammar.Versioning.{versioning_kind, PlainVersioning, Ideal, General, Complex, is_prerelease}
-use Rattle.version_rules.specs.grammar.Last.{PlainLast}
-use Rattle.version_rules.specs.key.PartKey.{PartKey, chunk_parts, list_cmp, part_key}
-use Rattle.version_rules.specs.key.Tail.{PreReleased, Bare, Released, tail_cmp}
-use Rattle.version_rules.specs.grammar.Version.{PlainVersion}
+use Rattle.version_rules.specs.key.Key.{key_of, plain, precedence, versioning_epoch, PreReleased, Bare, Released, tail_cmp}
+use Rattle.version_rules.specs.{grammar.Chunk.PlainChunk, grammar.Chunk.number_of, grammar.Last.PlainLast, grammar.Version.PlainVersion, key.PartKey.PartKey, key.PartKey.chunk_parts, key.PartKey.list_cmp, key.PartKey.part_key}
 use Rattle.version_order.specs.keys.Codes.{then_equal}
 use Rattle.version_order.proofs.lemmas.NumberBytes.{above, below}
 use Rattle.version_rules.proofs.lemmas.Key.{plain_number}

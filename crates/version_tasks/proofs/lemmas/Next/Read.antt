@@ -1,33 +1,17 @@
 -- What comes next, read off the text of a version.
 use Rattle.std.proofs.Common.{◌≡◌, ◌==◌, ◌&&◌, ◌-◌, ◌+◌, ◌<◌, ◌≤◌, ◌^◌, ◌∙◌, if◌then◌else◌, ℕ, zero, suc, Bool, true, false, List, [], ◌∷◌, ◌++◌, drop, length, map, take, Some, None, refl, sym, ap, subst, arith, append_assoc, append-nil, length-append, inl, inr}
 use Rattle.std.proofs.Math.Seq.{drop-nil}
-use Rattle.std.proofs.lemmas.Bool.{and_from, cases_Bool, lt-ltb}
-use Rattle.std.proofs.lemmas.List.{length-map, map-append, take_all, take_at}
-use Rattle.std.proofs.lemmas.List.Splits.{join_with_byte-slice_split}
-use Rattle.std.specs.Cmp.{first_so, second_so}
-use Rattle.std.specs.Fmt.{decimal}
-use Rattle.std.specs.List.{join_with_byte, list_all}
-use Rattle.std.specs.Option.{option_map}
-use Rattle.std.specs.Str.Parse.{digits_value}
-use Rattle.version_rules.specs.grammar.Body.{body_text}
-use Rattle.version_order.specs.texts.Bytes.{dot}
-use Rattle.version_rules.specs.grammar.Chunk.{PlainChunk, SpellsPart, number_of}
-use Rattle.version_rules.specs.grammar.Conversions.{version_of_semver}
-use Rattle.version_rules.specs.grammar.Last.{IsLastOf, PlainLast}
-use Rattle.version_rules.specs.grammar.SemVer.{semver_text}
-use Rattle.version_rules.specs.grammar.Version.{PlainVersion, SpellsVersion}
+use Rattle.std.proofs.lemmas.{Bool.and_from, Bool.cases_Bool, Bool.lt-ltb, List.length-map, List.map-append, List.take_all, List.take_at, List.Splits.join_with_byte-slice_split}
+use Rattle.std.specs.{Cmp.first_so, Cmp.second_so, Fmt.decimal, List.join_with_byte, List.list_all, Option.option_map, Str.Parse.digits_value}
 use Rattle.version_rules.specs.grammar.Versioning.{PlainVersioning, Ideal, General, Complex, SpellsVersioning, is_prerelease, versioning_of, versioning_text}
-use Rattle.version_rules.proofs.lemmas.Body.{body_printed}
-use Rattle.version_rules.proofs.lemmas.Chunk.{digit_alphanumeric}
-use Rattle.version_rules.proofs.lemmas.Versioning.{strict_is_general}
-use Rattle.version_rules.proofs.lemmas.Numeral.{numeral_printed}
-use Rattle.version_texts.specs.VersioningRef.{epoch_and_parts, numbers_alone, numeral_value, version_in}
+use Rattle.version_rules.specs.grammar.{Body.body_text, Chunk.PlainChunk, Chunk.SpellsPart, Chunk.number_of, Conversions.version_of_semver, Last.IsLastOf, Last.PlainLast, SemVer.semver_text, Version.PlainVersion, Version.SpellsVersion}
 use Rattle.version_order.specs.texts.Cuts.{behind_piece, first_piece, further_pieces, is_dot, pieces}
-use Rattle.version_texts.specs.Scan.{is_numeral}
-use Rattle.version_texts.proofs.lemmas.order.Piece.{pieces_are}
+use Rattle.version_order.specs.texts.Bytes.{dot}
+use Rattle.version_rules.proofs.lemmas.{Body.body_printed, Chunk.digit_alphanumeric, Numeral.numeral_printed, Versioning.strict_is_general}
+use Rattle.version_texts.specs.{Scan.is_numeral, VersioningRef.epoch_and_parts, VersioningRef.numbers_alone, VersioningRef.numeral_value, VersioningRef.version_in}
 use Rattle.version_texts.proofs.lemmas.scan.Spelled.{NonePass, body_pieces, chunk_bytes, none_pass, numeral_passes, numeral_spells, no_numeral, pieces_give}
+use Rattle.version_texts.proofs.lemmas.{order.Piece.pieces_are, scan.Section.digits_not}
 use Rattle.version_order.proofs.lemmas.Bytes.{alphanumeric_no_dot}
-use Rattle.version_texts.proofs.lemmas.scan.Section.{digits_not}
 use Rattle.version_tasks.specs.Next.{IsNext, NoNext, all_of, last_number, last_place, numbers_of}
 use Rattle.version_tasks.specs.NextText.{is_zero, is_zero_number, next_text, zeros_text}
 use Rattle.version_tasks.proofs.lemmas.Next.Order.{are_zeros, fit, is_next, next_at, none_beyond, none_past, none_without, number_at, raised, raised_count, raised_fit, raised_follows, raised_number}

@@ -1,30 +1,16 @@
 -- The text of a version of numbers, which parses as that version.
 use Rattle.std.proofs.Common.{◌≡◌, ◌∙◌, ◌<◌, ◌^◌, ◌+◌, ◌-◌, ℕ, zero, suc, true, List, [], ◌∷◌, ◌++◌, drop, get_or, length, map, Option, Some, None, refl, sym, ap, subst, arith, append_assoc, append-nil, zero-add}
-use Rattle.std.proofs.lemmas.Bool.{ltb-true, ne_eqb}
-use Rattle.std.proofs.lemmas.Fmt.{decimal_digit, decimal_is_IsNumeral, first_decimal}
-use Rattle.std.proofs.lemmas.Str.{IsUtf8-from_ascii}
-use Rattle.std.proofs.lemmas.Str.Ascii.{IsAscii-nil}
-use Rattle.std.specs.Cmp.{first_so, second_so}
-use Rattle.std.specs.Fmt.{decimal}
-use Rattle.std.specs.List.{join_with_byte}
-use Rattle.std.specs.Str.{IsAscii, IsUtf8}
-use Rattle.version_rules.specs.grammar.Body.{PlainBody, SpellsBody}
-use Rattle.version_order.specs.texts.Bytes.{dot}
-use Rattle.version_rules.specs.grammar.Chunk.{PlainChunk, SpellsPart}
-use Rattle.version_rules.specs.grammar.Conversions.{version_of_semver}
-use Rattle.version_order.specs.texts.Grammar.{SpellsDotted, SpellsOptional}
-use Rattle.version_rules.specs.grammar.Last.{IsLastOf}
-use Rattle.version_rules.specs.grammar.Numeral.{HasNoLeadingZero, SpellsNumeral}
-use Rattle.version_rules.specs.grammar.SemVer.{PlainSemVer, SpellsSemVer}
-use Rattle.version_rules.specs.grammar.Version.{PlainVersion, SpellsEpoch, SpellsVersion, epoch_text}
+use Rattle.std.proofs.lemmas.{Bool.ltb-true, Bool.ne_eqb, Fmt.decimal_digit, Fmt.decimal_is_IsNumeral, Fmt.first_decimal, Str.IsUtf8-from_ascii, Str.Ascii.IsAscii-nil}
+use Rattle.std.specs.{Cmp.first_so, Cmp.second_so, Fmt.decimal, List.join_with_byte, Str.IsAscii, Str.IsUtf8}
 use Rattle.version_rules.specs.grammar.Versioning.{PlainVersioning, Ideal, General, Complex, SpellsVersioning, versioning_of, versioning_text}
+use Rattle.version_rules.specs.grammar.{Body.PlainBody, Body.SpellsBody, Chunk.PlainChunk, Chunk.SpellsPart, Chunk.HasNoLeadingZero, Chunk.SpellsNumeral, Conversions.version_of_semver, Last.IsLastOf, SemVer.PlainSemVer, SemVer.SpellsSemVer}
+use Rattle.version_rules.specs.grammar.Version.{PlainVersion, SpellsEpoch, SpellsVersion, epoch_text}
+use Rattle.version_order.specs.texts.{Bytes.dot, Grammar.SpellsDotted, Grammar.SpellsOptional}
 use Rattle.version_rules.proofs.lemmas.Versioning.{strict_is_general, versioning_ascii, versioning_of-Some, versioning_of-spells, versioning_printed}
-use Rattle.version_rules.proofs.lemmas.Numeral.{decimal-digits, numeral_printed}
-use Rattle.version_rules.proofs.lemmas.Version.{version_unique}
+use Rattle.version_rules.proofs.lemmas.{Numeral.decimal-digits, Numeral.numeral_printed, Version.version_unique}
 use Rattle.version_texts.specs.VersioningRef.{epoch_and_parts}
 use Rattle.version_texts.proofs.lemmas.scan.Spelled.{dotted_more, dotted_one}
-use Rattle.version_tasks.specs.Next.{IsOfForm, MayFollow, numbers_of}
-use Rattle.version_tasks.specs.NextText.{next_text, zeros_text}
+use Rattle.version_tasks.specs.{Next.IsOfForm, Next.MayFollow, Next.numbers_of, NextText.next_text, NextText.zeros_text}
 use Rattle.version_tasks.proofs.lemmas.Next.Order.{body_is, body_numbers, body_of, fit, number_at, raised}
 use Rattle.version_rules.specs.grammar.Chunk as chunk
 use Rattle.version_rules.specs.grammar.Last as last

@@ -1,37 +1,19 @@
 -- The number that comes next after the chunks of a word, read off texts.
 use Rattle.std.proofs.Common.{◌≡◌, ◌∙◌, ℕ, List, [], ◌∷◌, ◌++◌, Option, Some, None, refl, sym, ap, arith, length-append, length, ◌==◌, true, false, drop, take, IfNone, IfSome, MatchOption, ◌<◌, ◌≤◌, ◌^◌, ◌⊎◌, suc, map, not, append_assoc, inl, inr}
-use Rattle.std.specs.Cmp.{tied_itself, nat_cmp_is}
-use Rattle.std.specs.Ordering.{nat_cmp, ordering_then}
-use Rattle.std.specs.declared.cmp.Ordering.{Ordering}
+use Rattle.std.specs.{Borrow.Bor, Cmp.tied_itself, Cmp.nat_cmp_is, List.list_all, Ordering.nat_cmp, Ordering.ordering_then, Str.bytes_eq, Str.Parse.digits_value, declared.cmp.Ordering.Ordering}
 use Rattle.std.specs.declared.cmp.Ordering.TheVariants.{Less, Equal, Greater}
-use Rattle.version_rules.specs.grammar.Chunk.{PlainChunk, Numeric, Alphanum, chunk_text}
-use Rattle.version_order.specs.keys.Codes.{then_equal}
-use Rattle.version_rules.specs.laws.Release.{chunk_total, chunks_same}
+use Rattle.version_rules.specs.{grammar.Body.SpellsRelease, grammar.Body.release_text, grammar.Chunk.PlainChunk, grammar.Chunk.Numeric, grammar.Chunk.Alphanum, grammar.Chunk.chunk_text, laws.Part.chunk_total, laws.Part.chunks_same}
 use Rattle.version_rules.specs.order.Parts.{chunk_cmp, release_cmp}
-use Rattle.version_tasks.specs.NextPre.{AreNamed}
-use Rattle.version_texts.proofs.lemmas.scan.Spelled.{release_chunks, split-append, split_run, numeral_spells}
-use Rattle.std.proofs.lemmas.List.{drop_at, take-append-drop, take_at}
-use Rattle.std.proofs.lemmas.Slice.Eq.{bytes_eq-Decides}
-use Rattle.std.specs.Borrow.{Bor}
-use Rattle.std.specs.Str.{bytes_eq}
-use Rattle.version_order.specs.texts.Bytes.{dot, is_identifier_byte}
-use Rattle.version_order.specs.texts.Front.{begins, is_run}
-use Rattle.version_tasks.proofs.lemmas.NextPre.Text.{dotted, chunks_joined, release_spelled}
-use Rattle.version_tasks.specs.NextPreText.{word_text, IsLeastNumber, NonePass, Passes, is_release, is_word, word_chunks}
 use Rattle.version_order.specs.texts.Cuts.{is_dot, pieces, behind_piece, first_piece, further_pieces}
-use Rattle.std.proofs.lemmas.Bool.{and_parts, cases_Bool, not-true}
-use Rattle.std.proofs.lemmas.List.Folds.{list_all-append}
-use Rattle.std.specs.List.{list_all}
-use Rattle.std.specs.Str.Parse.{digits_value}
+use Rattle.version_order.specs.{keys.Codes.then_equal, texts.Bytes.dot, texts.Bytes.is_identifier_byte, texts.Front.begins, texts.Front.is_run, texts.Grammar.SpellsDotted}
+use Rattle.version_tasks.specs.NextPreText.{word_text, IsLeastNumber, NonePass, Passes, is_release, is_word, word_chunks}
+use Rattle.version_tasks.specs.NextPre.{AreNamed}
+use Rattle.version_texts.proofs.lemmas.{order.Piece.pieces_are, scan.Spelled.release_chunks, scan.Spelled.split-append, scan.Spelled.split_run, scan.Spelled.numeral_spells}
+use Rattle.std.proofs.lemmas.{Bool.and_parts, Bool.cases_Bool, Bool.not-true, List.drop_at, List.take-append-drop, List.take_at, List.Folds.list_all-append, Slice.Eq.bytes_eq-Decides}
+use Rattle.version_tasks.proofs.lemmas.{Next.Order.three_ways, NextPre.Text.dotted, NextPre.Text.chunks_joined, NextPre.Text.release_spelled}
 use Rattle.version_rules.proofs.lemmas.Chunk.{release_printed}
 use Rattle.version_order.proofs.lemmas.NumberBytes.{above, below}
-use Rattle.version_order.specs.texts.Grammar.{SpellsDotted}
-use Rattle.version_rules.specs.grammar.Release.{SpellsRelease, release_text}
-use Rattle.version_tasks.proofs.lemmas.Next.Order.{three_ways}
-use Rattle.version_texts.proofs.lemmas.order.Piece.{pieces_are}
-use Rattle.version_texts.specs.Key.{chunk_of, chunks_of}
-use Rattle.version_texts.specs.Scan.{is_chunk, is_numeral}
-use Rattle.version_texts.specs.VersioningRef.{numeral_value}
+use Rattle.version_texts.specs.{Key.chunk_of, Key.chunks_of, Scan.is_chunk, Scan.is_numeral, VersioningRef.numeral_value}
 
 -- ---- chunks and a number after them, compared with the chunks of a pre-release
 

@@ -1,21 +1,14 @@
 -- Which pre-releases of a word come after a version, and the least of them.
 use Rattle.std.proofs.Common.{◌≡◌, ◌∙◌, ◌<◌, ◌≤◌, ◌^◌, ◌⊎◌, ℕ, suc, List, [], ◌∷◌, ◌++◌, Option, Some, None, refl, sym, ap, arith, inl, inr}
-use Rattle.std.specs.Cmp.{nat_cmp_is}
-use Rattle.std.specs.Option.{option_map_or}
-use Rattle.std.specs.Ordering.{nat_cmp, ordering_then}
-use Rattle.std.specs.declared.cmp.Ordering.TheVariants.{Less, Equal, Greater}
+use Rattle.std.specs.{Cmp.nat_cmp_is, Option.option_map_or, Ordering.nat_cmp, Ordering.ordering_then, declared.cmp.Ordering.TheVariants.Less, declared.cmp.Ordering.TheVariants.Equal, declared.cmp.Ordering.TheVariants.Greater}
 use Rattle.version_order.proofs.lemmas.NumberBytes.{above, below}
-use Rattle.version_rules.specs.grammar.Chunk.{PlainChunk, Numeric}
-use Rattle.version_rules.specs.grammar.SemVer.{PlainSemVer}
-use Rattle.version_rules.specs.grammar.Versioning.{PlainVersioning, Ideal, General, Complex}
-use Rattle.version_rules.specs.key.Key.{key_of, precedence, strict_body}
+use Rattle.version_rules.specs.key.Key.{key_of, precedence, strict_body, Tail, PreReleased, Bare, tail_cmp}
+use Rattle.version_rules.specs.grammar.{Chunk.PlainChunk, Chunk.Numeric, SemVer.PlainSemVer, Versioning.PlainVersioning, Versioning.Ideal, Versioning.General, Versioning.Complex}
 use Rattle.version_rules.specs.key.PartKey.{list_cmp}
-use Rattle.version_rules.specs.key.Tail.{Tail, PreReleased, Bare, tail_cmp}
-use Rattle.version_tasks.specs.Next.{IsAfter}
 use Rattle.version_tasks.specs.NextPre.{AreNamed, IsNextPre, IsOfPreForm, IsPreRelease, NoNextPre}
 use Rattle.version_tasks.specs.NextPreText.{IsPlace, NonePass, Passes, own_chunks, word_chunks}
-use Rattle.version_tasks.proofs.lemmas.Next.Order.{both_raised, same, three_ways}
-use Rattle.version_tasks.proofs.lemmas.NextPre.Number.{numbers_cmp, one_named}
+use Rattle.version_tasks.specs.Next.{IsAfter}
+use Rattle.version_tasks.proofs.lemmas.{Next.Order.both_raised, Next.Order.same, Next.Order.three_ways, NextPre.Number.numbers_cmp, NextPre.Number.one_named}
 
 abbrev tail_of : Option (List PlainChunk) → Tail
 tail_of pre_rel = option_map_or PreReleased pre_rel Bare

@@ -1,15 +1,11 @@
 -- What comes next among pre-releases, read off the text of a version.
 use Rattle.std.proofs.Common.{◌≡◌, ◌∙◌, ◌<◌, ◌≤◌, ◌^◌, ℕ, suc, true, false, List, [], ◌∷◌, Option, Some, refl, sym, ap, subst, arith, inl, inr}
-use Rattle.version_rules.specs.grammar.Chunk.{PlainChunk}
 use Rattle.version_rules.specs.grammar.Versioning.{versioning_kind, PlainVersioning, Ideal, General, Complex, SpellsVersioning, versioning_nth, versioning_of, versioning_text}
-use Rattle.version_rules.specs.grammar.Release.{SpellsRelease}
-use Rattle.version_tasks.proofs.lemmas.Next.Text.{printed}
-use Rattle.version_tasks.proofs.lemmas.NextPre.Order.{is_next, none_past, none_unnamed}
-use Rattle.version_tasks.proofs.lemmas.NextPre.Text.{own_read, release_passes, release_spelled}
-use Rattle.version_tasks.specs.NextPre.{AreNamed, IsNextPre, IsPreRelease, NoNextPre}
+use Rattle.version_rules.specs.grammar.{Body.SpellsRelease, Chunk.PlainChunk}
+use Rattle.version_tasks.proofs.lemmas.{Next.Text.printed, NextPre.Order.is_next, NextPre.Order.none_past, NextPre.Order.none_unnamed, NextPre.Text.own_read, NextPre.Text.release_passes, NextPre.Text.release_spelled}
 use Rattle.version_tasks.specs.NextPreText.{IsPlace, NonePass, is_own, is_release, own_chunks, pre_text, pre_version, word_chunks}
-use Rattle.version_texts.specs.VersioningRef.{field_text}
-use Rattle.version_texts.specs.declared.versioning_ref.field.Field.TheVariants.{PreRelease}
+use Rattle.version_tasks.specs.NextPre.{AreNamed, IsNextPre, IsPreRelease, NoNextPre}
+use Rattle.version_texts.specs.{VersioningRef.field_text, declared.versioning_ref.field.Field.TheVariants.PreRelease}
 use Rattle.version_rules.specs.declared.kind.Kind.TheVariants as kind
 
 -- ---- a given word

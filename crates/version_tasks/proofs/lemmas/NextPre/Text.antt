@@ -1,25 +1,16 @@
 -- The text of a pre-release of a word, which parses as that version.
 use Rattle.std.proofs.Common.{◌≡◌, ◌∙◌, ◌<◌, ◌^◌, ℕ, true, List, [], ◌∷◌, ◌++◌, map, Option, Some, None, refl, sym, ap, subst, append_assoc, append-nil}
-use Rattle.std.proofs.lemmas.List.{map-append}
-use Rattle.std.proofs.lemmas.Str.{IsUtf8-from_ascii}
-use Rattle.std.specs.Fmt.{decimal}
-use Rattle.std.specs.Option.{option_map}
-use Rattle.std.specs.Str.{IsAscii, IsUtf8}
-use Rattle.version_rules.proofs.lemmas.Chunk.{release_printed}
-use Rattle.version_rules.proofs.lemmas.Versioning.{versioning_ascii, versioning_of-Some, versioning_of-spells}
-use Rattle.version_order.specs.texts.Bytes.{dot, hyphen, is_identifier_byte}
-use Rattle.version_rules.specs.grammar.Chunk.{PlainChunk, Numeric, SpellsChunk}
-use Rattle.version_order.specs.texts.Grammar.{SpellsOptional}
-use Rattle.version_rules.specs.grammar.Release.{SpellsRelease, release_text}
-use Rattle.version_rules.specs.grammar.SemVer.{PlainSemVer, SpellsSemVer}
+use Rattle.std.proofs.lemmas.{List.map-append, Str.IsUtf8-from_ascii}
+use Rattle.std.specs.{Fmt.decimal, Option.option_map, Str.IsAscii, Str.IsUtf8}
+use Rattle.version_rules.proofs.lemmas.{Chunk.release_printed, Versioning.versioning_ascii, Versioning.versioning_of-Some, Versioning.versioning_of-spells}
+use Rattle.version_order.specs.texts.{Bytes.dot, Bytes.hyphen, Bytes.is_identifier_byte, Cuts.is_dot, Grammar.SpellsOptional}
+use Rattle.version_rules.specs.grammar.{Body.SpellsRelease, Body.release_text, Chunk.PlainChunk, Chunk.Numeric, Chunk.SpellsChunk, SemVer.PlainSemVer, SemVer.SpellsSemVer}
 use Rattle.version_rules.specs.grammar.Versioning.{PlainVersioning, Ideal, versioning_of}
 use Rattle.version_tasks.proofs.lemmas.Next.Text.{ascii_left, ascii_right, decimal_spells}
 use Rattle.version_tasks.specs.NextPreText.{is_own, is_release, is_word, numbers_text, own_chunks, pre_text, pre_version, word_chunks, word_text}
 use Rattle.version_texts.proofs.lemmas.scan.Spelled.{release_chunks, both_pass, dotted_one, split-append, dotted_passes, dotted_spells}
 use Rattle.version_order.proofs.lemmas.Bytes.{digit_identifier, identifier_no_dot}
-use Rattle.version_texts.specs.Key.{chunk_of, chunks_of}
-use Rattle.version_order.specs.texts.Cuts.{is_dot}
-use Rattle.version_texts.specs.Scan.{is_chunk}
+use Rattle.version_texts.specs.{Key.chunk_of, Key.chunks_of, Scan.is_chunk}
 
 -- a text passes the test exactly if it spells its chunks
 pub release_spelled : (text : List ℕ) → is_release text ≡ true → SpellsRelease text (chunks_of text)

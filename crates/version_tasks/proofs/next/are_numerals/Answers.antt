@@ -1,6 +1,5 @@
 use Rattle.std.proofs.Common.{rules, tests}
-use Rattle.std.proofs.lemmas.Iterator.Search.{all_from_yields_List}
-use Rattle.std.proofs.lemmas.Iterator.Splits.{YieldsList-from_slice_split}
+use Rattle.std.proofs.lemmas.Iterator.{Search.all_from_yields_List, Splits.YieldsList-from_slice_split}
 use Rattle.version_order.specs.texts.Cuts.{is_dot}
 use Rattle.version_texts.specs.Scan.{is_numeral}
 use Rattle.version_tasks.proofs.next.are_numerals.Goals as goal

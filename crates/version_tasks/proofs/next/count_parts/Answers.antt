@@ -1,6 +1,5 @@
 use Rattle.std.proofs.Common.{◌∙◌, List, ℕ, ap, length, rules, tests}
-use Rattle.std.proofs.lemmas.Iterator.Consumers.{count_from_yields_List}
-use Rattle.std.proofs.lemmas.Iterator.Splits.{YieldsList-from_slice_split}
+use Rattle.std.proofs.lemmas.Iterator.{Consumers.count_from_yields_List, Splits.YieldsList-from_slice_split}
 use Rattle.version_order.specs.texts.Cuts.{is_dot}
 use Rattle.version_tasks.proofs.lemmas.Next.Read.{further_are}
 use Rattle.version_tasks.proofs.next.count_parts.Goals as goal

@@ -1,8 +1,6 @@
 use Rattle.std.proofs.Common.{rules, tests}
-use Rattle.std.proofs.lemmas.Iterator.Search.{all_from_yields_List}
-use Rattle.std.proofs.lemmas.Iterator.Splits.{YieldsList-from_slice_split}
-use Rattle.version_order.specs.texts.Bytes.{is_identifier_byte}
-use Rattle.version_order.specs.texts.Cuts.{is_dot}
+use Rattle.std.proofs.lemmas.Iterator.{Search.all_from_yields_List, Splits.YieldsList-from_slice_split}
+use Rattle.version_order.specs.texts.{Bytes.is_identifier_byte, Cuts.is_dot}
 use Rattle.version_texts.specs.Scan.{is_chunk}
 use Rattle.version_tasks.proofs.pre.is_release.Goals as goal
 

@@ -1,10 +1,7 @@
 use Rattle.std.proofs.Common.{◌∙◌, not, rules, tests, sym}
-use Rattle.std.proofs.lemmas.Iterator.Consumers.{fold_from_yields_List}
-use Rattle.std.proofs.lemmas.Iterator.Splits.{YieldsList-from_slice_split}
-use Rattle.std.proofs.lemmas.List.Folds.{fold-map}
+use Rattle.std.proofs.lemmas.{Iterator.Consumers.fold_from_yields_List, Iterator.Splits.YieldsList-from_slice_split, List.Folds.fold-map}
 use Rattle.std.specs.Char.{is_ascii_alphabetic}
-use Rattle.version_tasks.specs.Stability.{lower, of_word, runs}
-use Rattle.version_tasks.specs.declared.stability.Stability.TheVariants.{Stable}
+use Rattle.version_tasks.specs.{Stability.lower, Stability.of_word, Stability.runs, declared.stability.Stability.TheVariants.Stable}
 use Rattle.version_tasks.proofs.stability.of_words.Goals as goal
 
 pub returns : goal.returns

@@ -1,8 +1,7 @@
 use Rattle.std.proofs.Common.{◌≡◌, ◌∙◌, Bor, List, ℕ, Option, Some, None, false, true, refl, sym, ap}
 use Rattle.std.specs.Option.{is_some, option_map}
 use Rattle.version_order.specs.texts.Front.{◌>>=◌}
-use Rattle.version_tasks.specs.Next.{after_separator}
-use Rattle.version_tasks.specs.Tag.{text_at_beginning, text_in_tag}
+use Rattle.version_tasks.specs.{Next.after_separator, Tag.text_at_beginning, Tag.text_in_tag}
 use Rattle.version_tasks.proofs.lemmas.Tag.{after_separator_shorter, begun, missed}
 use Rattle.version_tasks.proofs.tag.text_in_tag.Goals as goal
 

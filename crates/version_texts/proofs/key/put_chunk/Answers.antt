@@ -1,9 +1,7 @@
-use Rattle.std.proofs.Common.{◌≡◌, ◌==◌, ◌∙◌, ℕ, List, ap, length, sym, ◌∷◌, [], Bool, drop}
-use Rattle.std.specs.Char.{is_ascii_digit}
-use Rattle.std.specs.List.{list_all, prefix_len}
+use Rattle.std.proofs.Common.{◌≡◌, ◌==◌, ◌∙◌, ℕ, List, ap, length, sym, ◌∷◌, [], Bool, drop, arith}
+use Rattle.std.specs.{Char.is_ascii_digit, List.list_all, List.prefix_len}
 use Rattle.version_texts.proofs.lemmas.key.Pieces.{number_chunk, text_chunk}
-use Rattle.version_order.proofs.lemmas.Runs.{run_is}
-use Rattle.version_order.proofs.lemmas.Sinks.{next_fits, owes_all, owes_rest}
+use Rattle.version_order.proofs.lemmas.{Runs.run_is, Sinks.next_fits, Sinks.owes_all, Sinks.owes_rest}
 use Rattle.version_texts.proofs.key.put_chunk.Goals as goal
 
 -- a text is all digits if none of it is left after its digits
@@ -20,11 +18,7 @@ put-requires g c =
     (number_chunk c.args.text.now all) c.requires.fits)
 
 pub put_number-requires : goal.put_number-requires
-put_number-requires g c =
-    let laws = g.met.S.Sink in
-    let all = all_digits c.args.text.now _ _ c.split_run.ensures.rest c.if-is_empty.ensures in
-    (owes_rest (2 ∷ []) _ (owes_all laws.fits_first laws.fits_then laws.takes_both
-    (number_chunk c.args.text.now all) c.requires.fits) c.put.ensures).room
+put_number-requires g c = grind (arith, all_digits, owes_rest, owes_all, number_chunk)
 
 pub returns-then-is_empty : goal.returns-then-is_empty
 returns-then-is_empty g c =
@@ -50,12 +44,7 @@ put_all-requires g c =
     next_fits _ _ (owes_rest (3 ∷ []) _ all c.put-2.ensures)
 
 pub put-requires-3 : goal.put-requires-3
-put-requires-3 g c =
-    let laws = g.met.S.Sink in
-    let other = all_digits c.args.text.now _ _ c.split_run.ensures.rest c.if-is_empty.ensures in
-    let chunk = text_chunk c.args.text.now other c.requires.text in
-    let all = owes_all laws.fits_first laws.fits_then laws.takes_both chunk c.requires.fits in
-    (owes_rest _ _ (owes_rest (3 ∷ []) _ all c.put-2.ensures) c.put_all.ensures).room
+put-requires-3 g c = grind (arith, all_digits, text_chunk, owes_all, owes_rest)
 
 pub returns : goal.returns
 returns g c =

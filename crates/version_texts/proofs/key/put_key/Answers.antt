@@ -1,6 +1,5 @@
-use Rattle.version_rules.specs.key.Tail.{tail_bytes}
-use Rattle.version_texts.specs.Scan.{tail_in}
-use Rattle.version_texts.specs.Key.{tail_of, text_key}
+use Rattle.version_rules.specs.key.Key.{tail_bytes}
+use Rattle.version_texts.specs.{Key.tail_of, Key.text_key, Scan.tail_in}
 use Rattle.version_order.proofs.lemmas.Sinks.{next_fits, owes_all, owes_rest}
 use Rattle.version_texts.proofs.lemmas.versioning_ref.VersioningRef.{key_halves}
 use Rattle.version_texts.proofs.key.put_key.Goals as goal

@@ -1,9 +1,7 @@
-use Rattle.std.proofs.Common.{ℕ, List, ◌∙◌, ap, drop, sym, ◌∷◌, [], refl, subst}
-use Rattle.std.specs.Char.{is_ascii_alphanumeric, is_ascii_digit}
-use Rattle.std.specs.List.{prefix_len, take_while}
+use Rattle.std.proofs.Common.{ℕ, List, ◌∙◌, ap, drop, sym, ◌∷◌, [], refl, subst, arith}
+use Rattle.std.specs.{Char.is_ascii_alphanumeric, Char.is_ascii_digit, List.prefix_len, List.take_while}
 use Rattle.version_texts.proofs.lemmas.key.Pieces.{number_and_suffix, plain_of_run, rest_of_plain, suffixed_of_run, word_of_run}
-use Rattle.version_order.proofs.lemmas.Runs.{digit_alphanumeric, rest_within}
-use Rattle.version_order.proofs.lemmas.Sinks.{next_fits, owes_all, owes_rest}
+use Rattle.version_order.proofs.lemmas.{Runs.digit_alphanumeric, Runs.rest_within, Sinks.next_fits, Sinks.owes_all, Sinks.owes_rest}
 use Rattle.version_texts.proofs.key.put_part.Goals.{then-begins_with+else-not-begins_with, else-begins_with}
 use Rattle.version_rules.specs.key.PartKey.{split_bytes, split_of}
 use Rattle.version_texts.proofs.key.put_part.Goals as goal
@@ -26,12 +24,7 @@ put_number-left-requires g c =
     next_fits _ _ (owes_rest (3 ∷ []) _ all c.put.ensures)
 
 pub put-requires-then-not-begins_with : goal.put-requires-then-not-begins_with
-put-requires-then-not-begins_with g c =
-    let laws = g.met.S.Sink in
-    let plain = plain_of_run c.args.text.now _ (sym c.if-begins_with.ensures)
-    c.put_number-left.ensures.rest (sym c.if-not-begins_with.ensures) in
-    let all = owes_all laws.fits_first laws.fits_then laws.takes_both plain c.requires in
-    (owes_rest _ _ (owes_rest (3 ∷ []) _ all c.put.ensures) c.put_number-left.ensures.bytes).room
+put-requires-then-not-begins_with g c = grind (arith, plain_of_run, owes_all, owes_rest)
 
 pub returns-then-not-begins_with : goal.returns-then-not-begins_with
 returns-then-not-begins_with g c =

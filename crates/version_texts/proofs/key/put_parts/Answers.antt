@@ -1,4 +1,4 @@
-use Rattle.std.proofs.Common.{◌∙◌, refl, rules}
+use Rattle.std.proofs.Common.{◌∙◌, refl, rules, arith}
 use Rattle.std.specs.Char.{is_ascii_alphanumeric}
 use Rattle.version_texts.proofs.lemmas.key.Pieces.{first_part, last_part, part_and_more, rest_and_more, rest_of_last}
 use Rattle.version_texts.proofs.lemmas.order.Piece.{behind_shorter}
@@ -6,9 +6,7 @@ use Rattle.version_order.proofs.lemmas.Sinks.{next_fits, owes_all, owes_rest, ow
 use Rattle.version_texts.proofs.key.put_parts.Goals as goal
 
 pub parts-init : goal.parts-init
-parts-init g c =
-    let laws = g.met.S.Sink in
-    (owes_all laws.fits_first laws.fits_then laws.takes_both refl c.requires, refl)
+parts-init g c = grind (arith, owes_all)
 
 pub parts-preserved : goal.parts-preserved
 parts-preserved g c =
@@ -32,14 +30,10 @@ returns-then-is_decided-clause-bytes g c =
     left.ends _ (c.if-is_decided.ensures (search rules) first.0)
 
 pub returns-in-None-clause-bytes : goal.returns-in-None-clause-bytes
-returns-in-None-clause-bytes g c =
-    let last = last_part c.parts.left.now _ c.put_part-rest.ensures.rest c.in-None.ensures in
-    (owes_same last c.parts.invariant.0).ends _ c.put_part-rest.ensures.bytes
+returns-in-None-clause-bytes g c = grind (arith, last_part, owes_same)
 
 pub returns-in-None-clause-rest : goal.returns-in-None-clause-rest
-returns-in-None-clause-rest g c =
-    rest_of_last c.parts.left.now c.put_part-rest.result.now c.put_part-rest.ensures.rest
-    c.in-None.ensures ∙ c.parts.invariant.1
+returns-in-None-clause-rest g c = grind (arith, rest_of_last)
 
 pub put_part-rest-requires : goal.put_part-rest-requires
 put_part-rest-requires g c =

@@ -1,8 +1,7 @@
 use Rattle.std.proofs.Common.{◌≡◌, drop, length}
 use Rattle.std.specs.List.{prefix_len, take_while}
-use Rattle.version_order.specs.keys.Codes.{items_bytes}
+use Rattle.version_order.specs.{keys.Codes.items_bytes, texts.Bytes.is_section_byte}
 use Rattle.version_rules.specs.key.PartKey.{part_bytes}
-use Rattle.version_order.specs.texts.Bytes.{is_section_byte}
 use Rattle.version_texts.specs.Key.{parts_of}
 use Rattle.version_order.proofs.lemmas.Sinks.{Owes}
 use Rattle.version_texts.proofs.key.put_parts.Given as goal

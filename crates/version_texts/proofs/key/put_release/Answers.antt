@@ -1,4 +1,4 @@
-use Rattle.std.proofs.Common.{◌∙◌, ap, refl}
+use Rattle.std.proofs.Common.{◌∙◌, ap, arith}
 use Rattle.std.proofs.lemmas.List.{nil_from_length}
 use Rattle.std.specs.List.{list_all}
 use Rattle.version_order.specs.texts.Bytes.{is_identifier_byte}
@@ -8,9 +8,7 @@ use Rattle.version_order.proofs.lemmas.Sinks.{next_fits, owes_all, owes_rest, ow
 use Rattle.version_texts.proofs.key.put_release.Goals as goal
 
 pub chunks-init : goal.chunks-init
-chunks-init g c =
-    let laws = g.met.S.Sink in
-    (owes_all laws.fits_first laws.fits_then laws.takes_both refl c.requires.fits, c.requires.text)
+chunks-init g c = grind (arith, owes_all)
 
 pub chunks-preserved : goal.chunks-preserved
 chunks-preserved g c =
@@ -38,16 +36,10 @@ put_chunk-requires-clause-fits g c =
     c.chunks.invariant.0)
 
 pub put-requires : goal.put-requires
-put-requires g c =
-    let last = last_chunk c.chunks.left.now _ c.split_run.result.1.now c.split_run.ensures.run
-    c.split_run.ensures.rest (nil_from_length _ c.in-None.ensures.cases) in
-    (owes_rest _ _ (owes_same last c.chunks.invariant.0) c.put_chunk.ensures).room
+put-requires g c = grind (arith, last_chunk, nil_from_length, owes_rest, owes_same)
 
 pub returns-in-None : goal.returns-in-None
-returns-in-None g c =
-    let last = last_chunk c.chunks.left.now _ c.split_run.result.1.now c.split_run.ensures.run
-    c.split_run.ensures.rest (nil_from_length _ c.in-None.ensures.cases) in
-    (owes_rest _ _ (owes_same last c.chunks.invariant.0) c.put_chunk.ensures).ends _ c.put.ensures
+returns-in-None g c = grind (arith, last_chunk, nil_from_length, owes_rest, owes_same)
 
 pub returns-then-is_decided : goal.returns-then-is_decided
 returns-then-is_decided g c =

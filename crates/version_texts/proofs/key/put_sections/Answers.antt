@@ -1,15 +1,12 @@
-use Rattle.std.proofs.Common.{[], ◌∷◌, refl}
+use Rattle.std.proofs.Common.{[], ◌∷◌, arith}
 use Rattle.std.proofs.lemmas.List.{nil_from_length}
 use Rattle.version_order.specs.texts.Bytes.{is_section_byte}
-use Rattle.version_texts.proofs.lemmas.key.Pieces.{behind_all, first_section, last_section, section_and_more}
-use Rattle.version_texts.proofs.lemmas.order.Piece.{behind_shorter}
+use Rattle.version_texts.proofs.lemmas.{key.Pieces.behind_all, key.Pieces.first_section, key.Pieces.last_section, key.Pieces.section_and_more, order.Piece.behind_shorter}
 use Rattle.version_order.proofs.lemmas.Sinks.{next_fits, owes_all, owes_rest, owes_same}
 use Rattle.version_texts.proofs.key.put_sections.Goals as goal
 
 pub sections-init : goal.sections-init
-sections-init g c =
-    let laws = g.met.S.Sink in
-    (owes_all laws.fits_first laws.fits_then laws.takes_both refl c.requires.fits, c.requires.text)
+sections-init g c = grind (arith, owes_all)
 
 pub sections-preserved : goal.sections-preserved
 sections-preserved g c =
@@ -51,8 +48,4 @@ put_list-requires g c =
     next_fits _ _ (owes_rest (2 ∷ []) _ (owes_same first.1 c.sections.invariant.0) c.put.ensures)
 
 pub put-requires-in-None : goal.put-requires-in-None
-put-requires-in-None g c =
-    let last = last_section c.sections.left.now c.in-Some.rest.now c.in-Some.ensures.rest
-    (nil_from_length _ c.in-None.ensures.cases) in
-    let left = owes_rest (2 ∷ []) _ (owes_same last c.sections.invariant.0) c.put.ensures in
-    (owes_rest _ _ left c.in-Some.ensures.bytes).room
+put-requires-in-None g c = grind (arith, last_section, nil_from_length, owes_rest, owes_same)

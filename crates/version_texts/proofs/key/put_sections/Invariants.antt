@@ -1,10 +1,8 @@
 use Rattle.std.proofs.Common.{◌≡◌, length, true}
 use Rattle.std.specs.List.{list_all}
 use Rattle.version_order.specs.keys.Codes.{list_bytes}
-use Rattle.version_rules.specs.key.Tail.{section_bytes}
-use Rattle.version_texts.specs.declared.scan.shape.TailKind.TheVariants.{Sections}
-use Rattle.version_texts.specs.Scan.{is_tail_byte}
-use Rattle.version_texts.specs.Key.{sections_of}
+use Rattle.version_rules.specs.key.Key.{section_bytes}
+use Rattle.version_texts.specs.{Key.sections_of, Scan.is_tail_byte, declared.scan.shape.TailKind.TheVariants.Sections}
 use Rattle.version_order.proofs.lemmas.Sinks.{Owes}
 use Rattle.version_texts.proofs.key.put_sections.Given as goal
 

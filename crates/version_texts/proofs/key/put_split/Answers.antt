@@ -1,9 +1,7 @@
-use Rattle.std.proofs.Common.{ℕ, List, ◌∙◌, ap, drop, sym, ◌∷◌, [], refl}
-use Rattle.std.specs.Char.{is_ascii_alphabetic, is_ascii_alphanumeric, is_ascii_digit}
-use Rattle.std.specs.List.{prefix_len}
+use Rattle.std.proofs.Common.{ℕ, List, ◌∙◌, ap, drop, sym, ◌∷◌, [], refl, arith}
+use Rattle.std.specs.{Char.is_ascii_alphabetic, Char.is_ascii_alphanumeric, Char.is_ascii_digit, List.prefix_len}
 use Rattle.version_texts.proofs.lemmas.key.Pieces.{rest_of_letters, split_begun, split_of_letters, split_of_number}
-use Rattle.version_order.proofs.lemmas.Runs.{digit_alphanumeric, letter_alphanumeric, rest_within}
-use Rattle.version_order.proofs.lemmas.Sinks.{next_fits, owes_all, owes_rest}
+use Rattle.version_order.proofs.lemmas.{Runs.digit_alphanumeric, Runs.letter_alphanumeric, Runs.rest_within, Sinks.next_fits, Sinks.owes_all, Sinks.owes_rest}
 use Rattle.version_texts.proofs.key.put_split.Goals as goal
 
 abbrev after_run : List ℕ → List ℕ
@@ -23,12 +21,7 @@ put-requires g c =
     next_fits (0 ∷ []) _ (owes_rest _ _ all c.put_run-rest.ensures.bytes)
 
 pub put-requires-then-not-begins_with : goal.put-requires-then-not-begins_with
-put-requires-then-not-begins_with g c =
-    let laws = g.met.S.Sink in
-    let letters = split_of_letters c.args.text.now _ c.put_run-rest.ensures.rest
-    (sym c.if-not-begins_with.ensures) in
-    let all = owes_all laws.fits_first laws.fits_then laws.takes_both letters c.requires in
-    (owes_rest (0 ∷ []) _ (owes_rest _ _ all c.put_run-rest.ensures.bytes) c.put.ensures).room
+put-requires-then-not-begins_with g c = grind (arith, split_of_letters, owes_all, owes_rest)
 
 pub returns-then-not-begins_with : goal.returns-then-not-begins_with
 returns-then-not-begins_with g c =

@@ -1,48 +1,26 @@
 -- The length of a version's key: at most three bytes for each byte of its text, and five more.
 use Rattle.version_texts.proofs.lemmas.scan.Spelled.{chunk_some, digits_from, identifier_metadata, some_digits}
-use Rattle.std.proofs.Common.{◌≡◌, ◌∙◌, ◌+◌, ◌*◌, ◌<◌, ◌≤◌, ℕ, suc, Bool, true, false, List, [], ◌∷◌, length, take, drop, Some, None, refl, sym, ap, arith, if◌then◌else◌, ◌++◌, map, Option}
-use Rattle.std.proofs.lemmas.List.{length-append, length-take, take-append-drop, map-append}
 use Rattle.std.proofs.lemmas.List.Elements.{All-drop, All-take, All-append, All-cons, All-nil}
-use Rattle.std.specs.Char.{is_ascii_digit, is_ascii_alphanumeric}
-use Rattle.std.specs.List.{position_or_len, prefix_len, take_while, list_all}
-use Rattle.std.specs.Str.Parse.{digits_value}
-use Rattle.version_order.proofs.lemmas.Front.{list_all-take_while, all_weaker}
-use Rattle.version_order.specs.texts.DigitRun.{number_front, starts_with_digit, is_digits}
-use Rattle.version_order.specs.keys.NumberBytes.{number_bytes, text_bytes}
-use Rattle.version_rules.specs.key.PartKey.{part_bytes, part_key, suffix_bytes, suffix_of, PartKey, chunk_parts, parts_bytes, section_parts, numbered_bytes, split_bytes, split_of}
-use Rattle.version_order.proofs.lemmas.NumberBytes.{IsHigh, text_length, number_length, list_length}
-use Rattle.std.proofs.lemmas.Bool.Decides.{nat_tests}
-use Rattle.std.specs.Cmp.{first_so, second_so}
-use Rattle.std.specs.Option.{option_map_or, unwrap_or}
-use Rattle.version_rules.proofs.lemmas.Chunk.{part_printed}
-use Rattle.version_rules.proofs.lemmas.Last.{last_printed}
-use Rattle.version_rules.proofs.lemmas.MChunk.{mchunk_printed}
-use Rattle.version_rules.proofs.lemmas.Grammar.{of_mchunk, of_numeral}
-use Rattle.version_rules.specs.grammar.Body.{PlainBody, SpellsBody}
-use Rattle.version_order.specs.texts.Bytes.{dot, hyphen, is_identifier_byte, is_metadata_byte}
-use Rattle.version_rules.specs.grammar.Chunk.{Numeric, Alphanum, PlainChunk, SpellsChunk, SpellsChunkOf, SpellsPart, chunk_text}
-use Rattle.version_order.specs.keys.Codes.{items_bytes}
+use Rattle.std.proofs.lemmas.{Bool.Decides.nat_tests, List.length-append, List.length-take, List.take-append-drop, List.map-append}
+use Rattle.std.specs.{Char.is_ascii_digit, Char.is_ascii_alphanumeric, Cmp.first_so, Cmp.second_so, List.position_or_len, List.prefix_len, List.take_while, List.list_all, Option.option_map_or, Option.unwrap_or, Str.Parse.digits_value}
+use Rattle.version_order.proofs.lemmas.{Front.list_all-take_while, Front.all_weaker, NumberBytes.IsHigh, NumberBytes.text_length, NumberBytes.number_length, NumberBytes.list_length}
 use Rattle.version_order.specs.texts.Grammar.{SpellsDotted, SpellsEach, SpellsOptional, Colon, Hyphen, Plus, Underscore, Tilde}
-use Rattle.version_rules.specs.grammar.Last.{last_text}
-use Rattle.version_rules.specs.grammar.MChunk.{Digits, Rev, Plain, PlainMChunk, SpellsMChunk, mchunk_text}
-use Rattle.version_rules.specs.grammar.Numeral.{SpellsNumeral}
-use Rattle.version_rules.specs.grammar.Release.{SpellsRelease}
-use Rattle.version_rules.specs.order.Parts.{chunk_bytes, release_bytes}
-use Rattle.version_rules.specs.key.Key.{key_behind_epoch, key_of, key_of_mess, key_of_sections, key_of_semver, key_of_version, plain, section_epoch, sections_tail, Key, key_bytes}
-use Rattle.version_rules.specs.grammar.Mess.{Further, PlainMess, Section, SpellsFurther, SpellsMess, SpellsSection}
-use Rattle.version_rules.specs.grammar.SemVer.{PlainSemVer, SpellsSemVer}
-use Rattle.version_rules.specs.key.Tail.{Bare, Released, Tail, section_bytes, tail_bytes}
-use Rattle.version_rules.specs.grammar.Version.{PlainVersion, SpellsEpoch, SpellsVersion}
-use Rattle.version_rules.proofs.lemmas.Versioning.{versioning_of-spells}
-use Rattle.version_rules.specs.grammar.Versioning.{PlainVersioning, Ideal, General, Complex, SpellsVersioning, versioning_of}
-use Rattle.version_texts.specs.Key.{room_for}
-use Rattle.version_rules.specs.requirement.Range.{end_bytes, kept_parts, begun, but_last, or_others, through_other}
-use Rattle.version_order.specs.keys.Lists.{split_last}
-use Rattle.version_rules.specs.requirement.VersionMatch.{is_plain_zero}
-use Rattle.version_order.specs.declared.ends.End.{End}
-use Rattle.version_order.specs.declared.ends.End.TheVariants.{AboveBegun, AfterKey, Begun}
-use Rattle.version_order.specs.declared.ends.Kept.{Kept}
+use Rattle.version_order.specs.declared.ends.{End.End, End.TheVariants.AboveBegun, End.TheVariants.AfterKey, End.TheVariants.Begun, Kept.Kept}
 use Rattle.version_order.specs.declared.ends.Kept.TheVariants.{All, ButLast, ButLastOrOnly, ThroughOther}
+use Rattle.version_order.specs.{keys.Codes.number_bytes, keys.Codes.text_bytes, keys.Codes.items_bytes, texts.Bytes.dot, texts.Bytes.hyphen, texts.Bytes.is_identifier_byte, texts.Bytes.is_metadata_byte}
+use Rattle.version_order.specs.texts.Front.{number_front, starts_with_digit, is_digits}
+use Rattle.version_rules.specs.grammar.Chunk.{Numeric, Alphanum, PlainChunk, SpellsChunk, SpellsChunkOf, SpellsPart, chunk_text, SpellsNumeral}
+use Rattle.version_rules.specs.grammar.MChunk.{Digits, Rev, Plain, PlainMChunk, SpellsMChunk, mchunk_text}
+use Rattle.version_rules.specs.grammar.Mess.{Further, PlainMess, Section, SpellsFurther, SpellsMess, SpellsSection}
+use Rattle.version_rules.specs.grammar.Versioning.{PlainVersioning, Ideal, General, Complex, SpellsVersioning, versioning_of}
+use Rattle.version_rules.specs.key.Key.{key_behind_epoch, key_of, key_of_mess, key_of_sections, key_of_semver, key_of_version, plain, section_epoch, sections_tail, Key, key_bytes, Bare, Released, Tail, section_bytes, tail_bytes}
+use Rattle.version_rules.specs.key.PartKey.{part_bytes, part_key, suffix_bytes, suffix_of, PartKey, chunk_parts, parts_bytes, section_parts, numbered_bytes, split_bytes, split_of}
+use Rattle.version_rules.specs.requirement.Range.{end_bytes, kept_parts, begun, but_last, or_others, through_other}
+use Rattle.version_rules.specs.grammar.{Body.PlainBody, Body.SpellsBody, Body.SpellsRelease, Last.last_text, SemVer.PlainSemVer, SemVer.SpellsSemVer, Version.PlainVersion, Version.SpellsEpoch, Version.SpellsVersion}
+use Rattle.version_rules.specs.order.Parts.{chunk_bytes, release_bytes}
+use Rattle.version_rules.proofs.lemmas.{Chunk.part_printed, Grammar.of_mchunk, Grammar.of_numeral, Last.last_printed, MChunk.mchunk_printed, Versioning.versioning_of-spells}
+use Rattle.version_texts.specs.Key.{room_for}
+use Rattle.std.proofs.Common.{◌≡◌, ◌∙◌, ◌+◌, ◌*◌, ◌<◌, ◌≤◌, ℕ, suc, Bool, true, false, List, [], ◌∷◌, length, take, drop, Some, None, refl, sym, ap, arith, if◌then◌else◌, ◌++◌, map, Option, rules}
 
 -- ---- the length of a part's bytes: at most three for each byte of its text, and one more
 
@@ -63,9 +41,7 @@ digits_rest text = drop (prefix_len is_ascii_digit text) text
 run_is_some : (text : List ℕ) → starts_with_digit text ≡ true
     → 0 < length (take_while is_ascii_digit text)
 run_is_some [] e = cc e
-run_is_some (b ∷ text) e =
-    let some : 0 < prefix_len is_ascii_digit (b ∷ text) = rw e (omega arith) in
-    omega (arith, some, length-take (prefix_len is_ascii_digit (b ∷ text)) (b ∷ text))
+run_is_some (b ∷ text) e = grind (arith, length-take)
 
 run_ends : (text : List ℕ) → starts_with_digit (drop (prefix_len is_ascii_digit text) text) ≡ false
 run_ends [] = refl
@@ -107,9 +83,7 @@ numbered_length text high = by (starts_with_digit text) refl
 first_stays : (text : List ℕ) → starts_with_digit text ≡ false → 0 < length text
     → 0 < length (take (position_or_len is_ascii_digit text) text)
 first_stays [] e some = some
-first_stays (b ∷ text) e some =
-    let one : 0 < position_or_len is_ascii_digit (b ∷ text) = rw e (omega arith) in
-    omega (arith, one, length-take (position_or_len is_ascii_digit (b ∷ text)) (b ∷ text))
+first_stays (b ∷ text) e some = grind (arith, length-take)
 
 pub split_length : (text : List ℕ) → IsHigh text → starts_with_digit text ≡ false → 0 < length text
     → length (split_bytes (split_of text)) ≤ 3 * length text
@@ -131,9 +105,7 @@ split_length text high word some =
 suffix_length : (text : List ℕ) → IsHigh text → starts_with_digit text ≡ false
     → length (suffix_bytes (suffix_of text)) ≤ 3 * length text + 1
 suffix_length [] high word = omega arith
-suffix_length (b ∷ text) high word =
-    let split = split_length (b ∷ text) high word (omega arith) in
-    omega (arith, split)
+suffix_length (b ∷ text) high word = search (rules, split_length)
 
 pub part_length : (text : List ℕ) → IsHigh text → 0 < length text
     → length (part_bytes (Some (part_key text))) ≤ 3 * length text + 1
@@ -287,10 +259,7 @@ tail_length : (Of : List PlainChunk → Tail)
     → length (tail_bytes (option_map_or Of o Bare)) ≤ 3 * length text + 1
 unfolding SpellsOptional
 tail_length Of one_more text None s = omega arith
-tail_length Of one_more text (Some chunks) s =
-    let release = release_length s.0 chunks s.2 in
-    let long : length text ≡ length s.0 + 1 = rw s.1 (omega arith) in
-    omega (arith, release, one_more chunks, long)
+tail_length Of one_more text (Some chunks) s = grind (arith, release_length, one_more)
 
 further_length : (text : List ℕ) (further : Further) → SpellsFurther text further
     → length (section_bytes (Some (section_parts further.1))) ≤ 3 * length text
@@ -339,9 +308,7 @@ epoch_length : (text : List ℕ) (o : Option ℕ) → SpellsEpoch text o
     → length (number_bytes (unwrap_or o 0)) ≤ 3 * length text + 1
 unfolding SpellsEpoch
 epoch_length text None s = omega arith
-epoch_length text (Some n) s =
-    let long = ap length s.1 ∙ length-append s.0 (58 ∷ []) in
-    omega (arith, numeral_length s.0 n s.2, long)
+epoch_length text (Some n) s = grind (arith, length-append, numeral_length)
 
 version_length : (text : List ℕ) (v : PlainVersion) → SpellsVersion text v
     → length (key_bytes (key_of_version v)) ≤ room_for (length text)
@@ -411,20 +378,7 @@ behind_length None first_text more_text first more e s each =
 behind_length (Some epoch) first_text more_text first [] e s each =
     bare_length first_text more_text first [] s each
 behind_length (Some epoch) first_text more_text first ((Colon, body) ∷ more) e s each =
-    let number = section_epoch_length first_text first epoch s e in
-    let section = section_length each.3.0 body each.3.2 in
-    let tail = sections_length each.1 more each.4 in
-    let behind_sign : length each.0 ≡ length each.3.0 + 1 = rw each.3.1 (omega arith) in
-    let behind_body = ap length each.2 ∙ length-append each.0 each.1 in
-    omega (
-      arith,
-      number,
-      section,
-      tail,
-      behind_sign,
-      behind_body,
-      key_length epoch (section_parts body) (sections_tail more),
-    )
+    grind (arith, section_epoch_length, section_length, sections_length, length-append, key_length)
 behind_length (Some epoch) first_text more_text first ((Hyphen, body) ∷ more) e s each =
     bare_length first_text more_text first ((Hyphen, body) ∷ more) s each
 behind_length (Some epoch) first_text more_text first ((Plus, body) ∷ more) e s each =
@@ -463,16 +417,7 @@ one_more part parts = length-append (part_bytes (Some part)) (items_bytes part_b
 -- kept parts have no more bytes than all parts
 pub but_last_length : (parts : List PartKey) → length_of (but_last parts) ≤ length_of parts
 but_last_length [] = omega arith
-but_last_length (part ∷ parts) = by (split_last parts) (but_last_length parts)
-  where
-    whole : Option (List PartKey × PartKey) → List PartKey × PartKey
-    whole split = option_map_or (λ s. (part ∷ s.0, s.1)) split ([], part)
-
-    by : (split : Option (List PartKey × PartKey))
-        → length_of (option_map_or (λ s. s.0) split []) ≤ length_of parts
-        → length_of (whole split).0 ≤ length_of (part ∷ parts)
-    by None fewer = omega arith
-    by (Some s) fewer = omega (arith, fewer, one_more part s.0, one_more part parts)
+but_last_length (part ∷ parts) = grind (arith, one_more, but_last_length parts)
 
 pub or_others_length : (kept parts : List PartKey) → length_of kept ≤ length_of parts
     → length_of (or_others kept parts) ≤ length_of parts
@@ -481,12 +426,7 @@ or_others_length (part ∷ kept) parts fewer = fewer
 
 pub through_other_length : (parts : List PartKey) → length_of (through_other parts) ≤ length_of parts
 through_other_length [] = omega arith
-through_other_length (part ∷ parts) = by (is_plain_zero part) (through_other_length parts)
-  where
-    by : (zero : Bool) → length_of (through_other parts) ≤ length_of parts
-        → length_of (part ∷ (if zero then through_other parts else [])) ≤ length_of (part ∷ parts)
-    by true fewer = omega (arith, fewer, one_more part (through_other parts), one_more part parts)
-    by false fewer = omega (arith, one_more part [], one_more part parts)
+through_other_length (part ∷ parts) = grind (arith, one_more, through_other_length parts)
 
 -- what the keys of an epoch and of some parts begin with
 pub begun_length : (epoch : ℕ) (parts : List PartKey)
@@ -508,19 +448,6 @@ kept_length ThroughOther parts = through_other_length parts
 
 pub end_length : (end : End) (k : Key) → length (end_bytes end k) ≤ length (key_bytes k) + 1
 end_length AfterKey k = omega (arith, length-append (key_bytes k) (0 ∷ []))
-end_length (Begun kept) k =
-    omega (
-      arith,
-      begun_length k.epoch (kept_parts kept k.body),
-      kept_length kept k.body,
-      below_key k,
-    )
-end_length (AboveBegun kept) k =
-    omega (
-      arith,
-      length-append (begun k.epoch (kept_parts kept k.body)) (4 ∷ []),
-      begun_length k.epoch (kept_parts kept k.body),
-      kept_length kept k.body,
-      below_key k,
-    )
+end_length (Begun kept) k = grind (arith, begun_length, kept_length, below_key)
+end_length (AboveBegun kept) k = grind (arith, length-append, begun_length, kept_length, below_key)
 end_length end k = omega arith

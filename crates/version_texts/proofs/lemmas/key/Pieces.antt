@@ -1,31 +1,18 @@
 -- The pieces of a text between marks, and the bytes of lists of them, piece by piece.
 use Rattle.std.proofs.Common.{◌≡◌, ◌==◌, ◌∙◌, ℕ, Bool, true, false, not, List, [], ◌∷◌, ◌++◌, drop, map, Option, Some, None, refl, sym, ap, inl, inr, arith, append-nil, append_assoc, ◌||◌}
-use Rattle.std.proofs.lemmas.Bool.{cases_Bool, eqb-true, and_from}
-use Rattle.std.proofs.lemmas.Bool.Decides.{nat_tests}
-use Rattle.std.proofs.lemmas.List.Concat.{flat_map-cons}
-use Rattle.std.specs.Char.{is_ascii_alphanumeric, is_ascii_digit, is_ascii_alphabetic}
-use Rattle.std.specs.Cmp.{first_so, second_so}
+use Rattle.std.proofs.lemmas.{Bool.cases_Bool, Bool.eqb-true, Bool.and_from, Bool.Decides.nat_tests, List.Concat.flat_map-cons}
 use Rattle.std.specs.List.{list_all, prefix_len, take_while, list_any, slice_split}
-use Rattle.version_order.specs.texts.Bytes.{dot, is_identifier_byte, is_metadata_byte, is_section_byte}
-use Rattle.version_order.specs.keys.Codes.{items_bytes, list_bytes}
-use Rattle.version_order.specs.texts.DigitRun.{run_value, is_digits}
-use Rattle.version_order.specs.texts.Front.{begins}
-use Rattle.version_order.specs.keys.Lists.{with_end}
-use Rattle.version_order.specs.keys.NumberBytes.{number_bytes, text_bytes}
+use Rattle.std.specs.{Char.is_ascii_alphanumeric, Char.is_ascii_digit, Char.is_ascii_alphabetic, Cmp.first_so, Cmp.second_so}
+use Rattle.version_order.specs.keys.{Codes.items_bytes, Codes.list_bytes, Codes.number_bytes, Codes.text_bytes, Lists.with_end}
+use Rattle.version_order.specs.texts.{Bytes.dot, Bytes.is_identifier_byte, Bytes.is_metadata_byte, Bytes.is_section_byte, Cuts.pieces, Front.run_value, Front.is_digits, Front.begins, Grammar.is_sep}
 use Rattle.version_rules.specs.key.PartKey.{part_bytes, part_key, PartKey, suffix_bytes, suffix_of, parts_bytes, split_bytes, split_of}
-use Rattle.version_rules.specs.order.Parts.{chunk_bytes, release_bytes}
-use Rattle.version_order.proofs.lemmas.Front.{take_while-all, begins-drop, list_all-take_while, all_weaker}
-use Rattle.version_texts.specs.Key.{chunk_of, chunks_of, parts_of, sections_of, tail_of, tail_of_sections}
-use Rattle.version_order.specs.texts.Cuts.{pieces}
+use Rattle.version_rules.specs.{key.Key.held_bytes, key.Key.section_bytes, order.Parts.chunk_bytes, order.Parts.release_bytes}
 use Rattle.version_order.proofs.lemmas.Runs.{last_piece, next_piece, not_false, not_true, run_cons, run_none, split_end, split_mark, all_behind, split_some, no_run, rest_within, begins_inner, begins_neither, digit_alphanumeric, letter_alphanumeric, run_and_more}
-use Rattle.version_order.proofs.lemmas.Bytes.{alphanumeric_no_dot, alphanumeric_section, alphanumeric_identifier, letter_other}
+use Rattle.version_order.proofs.lemmas.{Bytes.alphanumeric_no_dot, Bytes.alphanumeric_section, Bytes.alphanumeric_identifier, Bytes.letter_other, Front.take_while-all, Front.begins-drop, Front.list_all-take_while, Front.all_weaker}
 use Rattle.version_order.proofs.lemmas.NumberBytes.{text_of_run}
-use Rattle.version_rules.proofs.lemmas.Numeral.{split_of-digits, split_of-no_digit}
-use Rattle.version_rules.proofs.lemmas.Key.{part_key-digits, part_key-word}
-use Rattle.version_order.specs.texts.Grammar.{is_sep}
-use Rattle.version_rules.specs.key.Tail.{held_bytes, section_bytes}
-use Rattle.version_texts.specs.declared.scan.shape.TailKind.TheVariants.{Sections}
-use Rattle.version_texts.specs.Scan.{is_tail_byte}
+use Rattle.version_texts.specs.Key.{chunk_of, chunks_of, parts_of, sections_of, tail_of, tail_of_sections}
+use Rattle.version_texts.specs.{Scan.is_tail_byte, declared.scan.shape.TailKind.TheVariants.Sections}
+use Rattle.version_rules.proofs.lemmas.{Key.part_key-digits, Key.part_key-word, Numeral.split_of-digits, Numeral.split_of-no_digit}
 use Rattle.version_texts.proofs.lemmas.scan.Complex.{section_no_sep}
 
 -- the bytes of an item and more items, and of one item alone
@@ -248,15 +235,7 @@ pub split_of_letters : (text rest : List ℕ) → rest ≡ drop (prefix_len is_a
     → split_bytes (split_of (take_while is_ascii_alphanumeric text))
     ≡ take_while is_ascii_alphabetic text ++ (0 ∷ 0 ∷ [])
 split_of_letters text rest r other =
-    let letters = take_while is_ascii_alphabetic text in
-    let alone = letters_alone text letters refl in
-    let none = (no_run is_ascii_alphanumeric rest (nothing_after text rest r other)).0 in
-    let whole : take_while is_ascii_alphanumeric text ≡ letters =
-    letters_first text letters rest refl r ∙ ap (λ (xs : List ℕ). letters ++ xs) none
-    ∙ append-nil letters in
-    ap (λ (xs : List ℕ). split_bytes (split_of xs)) whole
-    ∙ ap split_bytes (split_of-no_digit letters alone.0)
-    ∙ ap (λ (xs : List ℕ). xs ++ 0 ∷ []) alone.1 ∙ append_assoc letters (0 ∷ []) (0 ∷ [])
+    grind (arith, letters_alone, no_run, nothing_after, letters_first, append-nil, split_of-no_digit, append_assoc)
 
 -- the rest after the run is what follows its letters
 pub rest_of_letters : (text rest : List ℕ) → rest ≡ drop (prefix_len is_ascii_alphabetic text) text

@@ -1,27 +1,15 @@
 -- Where two versions differ first, by their keys, and two lists of parts, by their first parts and
 -- what follows these.
 use Rattle.std.proofs.Common.{sym, if◌then◌else◌, ◌≡◌, ◌∙◌, ◌+◌, ◌<◌, ℕ, suc, true, false, List, [], ◌∷◌, Option, Some, None, length, length-drop, refl, ap, arith, ◌↔◌, ◌⊎◌, ◌==◌, zero, Bool, eqb-true, eq-eqb, inl, inr, take}
-use Rattle.std.specs.List.{position_or_len}
-use Rattle.std.specs.Option.{option_map, unwrap_or, option_or}
-use Rattle.std.specs.Ordering.{is_eq, is_ne, ordering_reverse}
-use Rattle.std.specs.declared.cmp.Ordering.{Ordering}
+use Rattle.std.specs.{Cmp.Equal-is, Cmp.IsTotalOrder, Cmp.tied_itself, List.position_or_len, Option.option_map, Option.unwrap_or, Option.option_or, Ordering.is_eq, Ordering.is_ne, Ordering.ordering_reverse, declared.cmp.Ordering.Ordering}
 use Rattle.std.specs.declared.cmp.Ordering.TheVariants.{Less, Equal, Greater}
-use Rattle.version_rules.specs.key.Key.{Key, key_of, precedence}
-use Rattle.version_rules.specs.key.PartKey.{part_cmp, PartKey}
-use Rattle.version_rules.specs.grammar.Versioning.{PlainVersioning, versioning_plain_cmp, SameVersioning}
-use Rattle.version_texts.proofs.lemmas.requirement.EndOrder.{further, parts_are}
-use Rattle.version_texts.proofs.lemmas.order.Piece.{pieces_are, further_of_more, further_of_none, chain}
-use Rattle.version_texts.specs.Order.{difference_of, first_differing, key_difference}
-use Rattle.version_texts.specs.Key.{first_part, parts_of}
-use Rattle.version_order.specs.texts.Cuts.{behind_piece, is_dot}
-use Rattle.version_texts.specs.declared.order.difference.Difference.{Difference}
+use Rattle.version_rules.specs.{grammar.Versioning.PlainVersioning, grammar.Versioning.versioning_plain_cmp, grammar.Versioning.SameVersioning, key.Key.Key, key.Key.key_of, key.Key.precedence, key.Key.tail_cmp}
+use Rattle.version_rules.specs.{key.PartKey.part_cmp, key.PartKey.PartKey, laws.Key.tail_total, laws.Key.keys_tied, laws.Part.part_total, laws.Part.parts_same, laws.Versioning.versioning_plain_total}
+use Rattle.version_texts.proofs.lemmas.{order.Piece.pieces_are, order.Piece.further_of_more, order.Piece.further_of_none, order.Piece.chain, requirement.EndOrder.further, requirement.EndOrder.parts_are}
 use Rattle.version_texts.specs.declared.order.difference.Difference.TheVariants.{Same, Tie, Epoch, Part, Tail}
-use Rattle.std.specs.Cmp.{Equal-is, IsTotalOrder, tied_itself}
+use Rattle.version_texts.specs.{Key.first_part, Key.parts_of, Order.difference_of, Order.first_differing, Order.key_difference, declared.order.difference.Difference.Difference}
+use Rattle.version_order.specs.texts.Cuts.{behind_piece, is_dot}
 use Rattle.version_rules.proofs.lemmas.Order.{precedence_equal, tail_equal, versioning_equal}
-use Rattle.version_rules.specs.key.Tail.{tail_cmp}
-use Rattle.version_rules.specs.laws.Key.{tail_total, keys_tied}
-use Rattle.version_rules.specs.laws.Part.{part_total, parts_same}
-use Rattle.version_rules.specs.laws.Versioning.{versioning_plain_total}
 
 -- the number of a part, counted from another on
 abbrev pub counted_from : ℕ → Option ℕ → Option ℕ

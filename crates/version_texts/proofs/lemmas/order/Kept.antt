@@ -1,21 +1,12 @@
 -- The parts of a text before its last dot, and through its first part that is not a plain zero.
 use Rattle.std.proofs.Common.{◌≡◌, ◌-◌, ◌<◌, ◌≤◌, ◌∙◌, ℕ, Bool, Bor, true, false, IfSome, List, [], ◌∷◌, ◌++◌, get_or, length, map, take, Option, Some, None, refl, sym, ap, arith, inl, inr, append-nil, append_assoc, length-append}
-use Rattle.std.proofs.lemmas.Bool.{cases_Bool}
-use Rattle.std.proofs.lemmas.List.{map-append, take-append-drop, take_all, take_at}
-use Rattle.std.proofs.lemmas.Grind.{take_at_read}
-use Rattle.std.proofs.lemmas.List.Elements.{All-cons, All-nil}
-use Rattle.std.proofs.lemmas.List.Splits.{slice_split_none}
-use Rattle.std.proofs.lemmas.List.Folds.{list_all-append}
-use Rattle.std.specs.Cmp.{first_so}
-use Rattle.std.specs.List.{list_all}
-use Rattle.version_rules.specs.key.PartKey.{PartKey, part_key}
+use Rattle.std.proofs.lemmas.{Bool.cases_Bool, Grind.take_at_read, List.map-append, List.take-append-drop, List.take_all, List.take_at, List.Elements.All-cons, List.Elements.All-nil, List.Folds.list_all-append, List.Splits.slice_split_none}
+use Rattle.std.specs.{Cmp.first_so, List.list_all}
+use Rattle.version_rules.specs.{key.PartKey.PartKey, key.PartKey.part_key, requirement.Range.but_last, requirement.Range.but_last_or_only, requirement.Range.or_others, requirement.Range.through_other, requirement.VersionMatch.is_plain_zero}
 use Rattle.version_rules.proofs.lemmas.Grammar.{split_last-append}
-use Rattle.version_rules.specs.requirement.Range.{but_last, but_last_or_only, or_others, through_other}
-use Rattle.version_rules.specs.requirement.VersionMatch.{is_plain_zero}
 use Rattle.version_order.specs.texts.Cuts.{behind_piece, first_piece, is_dot, pieces}
 use Rattle.version_texts.specs.Key.{parts_of}
-use Rattle.version_texts.proofs.lemmas.order.Piece.{parts_begin, piece_ends, piece_grows}
-use Rattle.version_texts.proofs.lemmas.scan.Spelled.{NonePass, split-append}
+use Rattle.version_texts.proofs.lemmas.{order.Piece.parts_begin, order.Piece.piece_ends, order.Piece.piece_grows, scan.Spelled.NonePass, scan.Spelled.split-append}
 
 -- a text without dots is one part
 pub one_part : (text : List ℕ) → NonePass is_dot text → parts_of text ≡ part_key text ∷ []

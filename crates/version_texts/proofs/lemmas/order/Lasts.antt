@@ -1,42 +1,22 @@
 -- Last parts of one key compare by whether they are decomposed, and by their texts.
 use Rattle.std.proofs.Common.{◌≡◌, ◌==◌, ◌||◌, ◌&&◌, ◌∙◌, ◌<◌, ℕ, Bool, true, false, List, [], ◌∷◌, ◌++◌, drop, length, Some, None, refl, sym, ap, arith, inl, inr, append-nil, ◌+◌, ◌≤◌, ◌⊎◌, subst}
 use Rattle.std.proofs.lemmas.Bool.{and_from, and_parts, cases_Bool, eqb-true, or_cases, or_right}
-use Rattle.std.proofs.lemmas.Bool.Decides.{nat_tests}
-use Rattle.std.proofs.lemmas.Cmp.{nat_list_cmp_total, tied_itself}
 use Rattle.std.proofs.lemmas.List.{drop_at, nil_from_length, take-append-drop, take_at, drop_all, length-drop}
-use Rattle.std.specs.Char.{is_ascii_alphabetic, is_ascii_digit, is_ascii_alphanumeric}
-use Rattle.std.specs.Cmp.{first_so, second_so, nat_cmp_is, ranks}
-use Rattle.std.specs.Fmt.{decimal}
-use Rattle.std.specs.List.{list_all, prefix_len, take_while}
-use Rattle.std.specs.Str.Parse.{digits_value}
+use Rattle.std.proofs.lemmas.{Bool.Decides.nat_tests, Cmp.nat_list_cmp_total, Cmp.tied_itself}
+use Rattle.std.specs.{Char.is_ascii_alphabetic, Char.is_ascii_digit, Char.is_ascii_alphanumeric, Cmp.first_so, Cmp.second_so, Cmp.nat_cmp_is, Cmp.ranks, Fmt.decimal, List.list_all, List.prefix_len, List.take_while}
+use Rattle.std.specs.{Ordering.MatchOrdering, Ordering.nat_cmp, Ordering.ordering_then, Str.Parse.digits_value, declared.cmp.Ordering.Ordering}
 use Rattle.std.specs.declared.cmp.Ordering.TheVariants.{Equal, Less, Greater}
-use Rattle.version_rules.specs.grammar.Chunk.{PlainChunk, SpellsPart, chunk_text}
-use Rattle.version_order.specs.texts.DigitRun.{starts_with_digit, behind_digits}
-use Rattle.version_order.specs.texts.Front.{begins}
 use Rattle.version_rules.specs.grammar.Last.{Alphanum, IsLastOf, IsLetters, IsOther, Numeric, PlainLast, Post, Rc, SpellsPost, SpellsRc}
-use Rattle.version_rules.specs.order.LastOrder.{last_plain_cmp}
-use Rattle.version_order.specs.keys.Lists.{bytes_cmp}
-use Rattle.version_rules.specs.grammar.Numeral.{SpellsNumeral}
 use Rattle.version_rules.specs.key.PartKey.{Number, PartKey, Word, part_key, suffix_of, Split, split_of}
-use Rattle.version_rules.proofs.lemmas.Numeral.{split_of-digits, split_of-no_digit}
-use Rattle.version_order.proofs.lemmas.Front.{list_all-take_while, prefix_len-append}
-use Rattle.version_rules.proofs.lemmas.Last.{last_of-only}
-use Rattle.version_rules.proofs.lemmas.Order.{last_plain_equal}
-use Rattle.version_rules.proofs.lemmas.Key.{part_key-digits, plain_number}
-use Rattle.version_order.proofs.lemmas.Bytes.{letter_other}
-use Rattle.version_texts.specs.Scan.{is_numeral}
+use Rattle.version_rules.specs.{grammar.Chunk.PlainChunk, grammar.Chunk.SpellsPart, grammar.Chunk.chunk_text, grammar.Chunk.SpellsNumeral, order.Parts.last_plain_cmp}
+use Rattle.version_order.specs.{keys.Lists.bytes_cmp, texts.Bytes.dot, texts.Bytes.is_section_byte, texts.Cuts.is_dot, texts.Cuts.pieces, texts.Front.starts_with_digit, texts.Front.behind_digits, texts.Front.begins}
+use Rattle.version_rules.proofs.lemmas.{Key.part_key-digits, Key.plain_number, Last.last_of-only, Numeral.split_of-digits, Numeral.split_of-no_digit, Order.last_plain_equal}
+use Rattle.version_order.proofs.lemmas.{Bytes.letter_other, Front.list_all-take_while, Front.prefix_len-append, Orders.then_assoc, Runs.run_cons, Runs.run_is}
 use Rattle.version_texts.specs.Order.{is_lettered, is_numbered, last_tie, bodies_tie, messy_tie, parts_tie, after_letters}
-use Rattle.version_order.proofs.lemmas.Runs.{run_cons, run_is}
-use Rattle.version_texts.proofs.lemmas.scan.Spelled.{digits_from, numeral_passes, numeral_spells}
-use Rattle.version_texts.proofs.lemmas.order.Variants.{number_key}
-use Rattle.version_rules.specs.grammar.Chunk as chunk
-use Rattle.std.specs.Ordering.{MatchOrdering, nat_cmp, ordering_then}
-use Rattle.std.specs.declared.cmp.Ordering.{Ordering}
-use Rattle.version_order.specs.texts.Bytes.{dot, is_section_byte}
-use Rattle.version_order.proofs.lemmas.Orders.{then_assoc}
-use Rattle.version_order.specs.texts.Cuts.{is_dot, pieces}
-use Rattle.version_texts.proofs.lemmas.order.Piece.{pieces_are}
+use Rattle.version_texts.specs.Scan.{is_numeral}
 use Rattle.version_texts.proofs.lemmas.key.Pieces.{next_part, only_part, rest_and_more, rest_of_last, no_digits}
+use Rattle.version_texts.proofs.lemmas.{order.Piece.pieces_are, order.Variants.number_key, scan.Spelled.digits_from, scan.Spelled.numeral_passes, scan.Spelled.numeral_spells}
+use Rattle.version_rules.specs.grammar.Chunk as chunk
 
 -- ---- the keys of decomposed parts
 

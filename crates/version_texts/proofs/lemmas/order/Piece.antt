@@ -1,34 +1,19 @@
 -- The first piece of a text: its digits, and how the other pieces follow.
-use Rattle.std.proofs.Math.Bool.{or-false}
-use Rattle.std.proofs.Common.{◌≡◌, ◌==◌, ◌∙◌, ℕ, Bool, true, false, List, [], ◌∷◌, length, Some, refl, sym, ap, inl, inr, one-add, arith, ◌↔◌, map, IsTrue, ◌≢◌, Ordering, ◌||◌, not, ◌&&◌, drop, None, ◌<◌}
-use Rattle.std.proofs.Math.Dec.{eqb-suc-zero}
-use Rattle.std.proofs.lemmas.Bool.{cases_Bool}
-use Rattle.std.specs.Char.{is_ascii_digit}
+use Rattle.std.proofs.Math.{Bool.or-false, Dec.eqb-suc-zero}
+use Rattle.std.proofs.lemmas.{Bool.cases_Bool, Bool.Decides.nat_tests, Cmp.nat_cmp_total, Cmp.tied_itself, List.length-drop, Map.Lookups.exact_bytes}
 use Rattle.std.specs.List.{before_first, list_all, slice_split, take_while, prefix_len}
-use Rattle.std.specs.Str.Parse.{digits_value}
-use Rattle.version_order.proofs.lemmas.Front.{take_while-all}
-use Rattle.version_rules.specs.grammar.Chunk.{Alphanum, Numeric}
-use Rattle.version_order.specs.texts.DigitRun.{number_front, run_value, starts_with_digit, behind_digits}
-use Rattle.version_rules.specs.key.PartKey.{split_of, numbered_cmp, split_cmp, Word, Number, part_key, suffix_of, part_cmp}
-use Rattle.version_order.proofs.lemmas.Runs.{run_is, run_cons, not_false, not_true, run_none}
-use Rattle.version_order.proofs.lemmas.Bytes.{digit_no_dot}
-use Rattle.version_order.specs.texts.Cuts.{behind_piece, first_piece, from_first, further_pieces, is_dot}
-use Rattle.version_texts.specs.Key.{chunk_of, parts_of, sections_of, tail_of_sections, delimits, sign_of}
-use Rattle.std.proofs.lemmas.Cmp.{nat_cmp_total, tied_itself}
-use Rattle.std.proofs.lemmas.Map.Lookups.{exact_bytes}
-use Rattle.std.specs.Ordering.{nat_cmp, ordering_index, ordering_then}
+use Rattle.std.specs.{Char.is_ascii_digit, Cmp.Lexicographic.slice_cmp, Option.option_cmp, Ordering.nat_cmp, Ordering.ordering_index, Ordering.ordering_then, Str.Parse.digits_value}
 use Rattle.std.specs.declared.cmp.Ordering.TheVariants.{Less, Equal, Greater}
-use Rattle.version_order.specs.keys.Lists.{bytes_cmp, none_last_cmp}
-use Rattle.version_rules.specs.order.Parts.{chunk_cmp}
-use Rattle.std.proofs.lemmas.Bool.Decides.{nat_tests}
-use Rattle.version_order.specs.texts.Bytes.{dot}
-use Rattle.version_texts.specs.declared.order.delimiters.Delimiters.{Delimiters}
-use Rattle.version_texts.specs.declared.order.delimiters.Delimiters.TheVariants.{Dots, Marks}
-use Rattle.std.specs.Option.{option_cmp}
-use Rattle.version_order.specs.texts.Front.{begins}
-use Rattle.std.proofs.lemmas.List.{length-drop}
-use Rattle.std.specs.Cmp.Lexicographic.{slice_cmp}
-use Rattle.version_rules.specs.key.Tail.{tail_rank}
+use Rattle.version_order.proofs.lemmas.Runs.{run_is, run_cons, not_false, not_true, run_none}
+use Rattle.version_order.proofs.lemmas.{Bytes.digit_no_dot, Front.take_while-all}
+use Rattle.version_rules.specs.key.PartKey.{split_of, numbered_cmp, split_cmp, Word, Number, part_key, suffix_of, part_cmp}
+use Rattle.version_rules.specs.{grammar.Chunk.Alphanum, grammar.Chunk.Numeric, key.Key.tail_rank, order.Parts.chunk_cmp}
+use Rattle.version_order.specs.texts.Cuts.{behind_piece, first_piece, from_first, further_pieces, is_dot}
+use Rattle.version_order.specs.texts.Front.{number_front, run_value, starts_with_digit, behind_digits, begins}
+use Rattle.version_order.specs.{keys.Lists.bytes_cmp, keys.Lists.none_last_cmp, texts.Bytes.dot}
+use Rattle.version_texts.specs.Key.{chunk_of, parts_of, sections_of, tail_of_sections, delimits, sign_of}
+use Rattle.version_texts.specs.declared.order.delimiters.{Delimiters.Delimiters, Delimiters.TheVariants.Dots, Delimiters.TheVariants.Marks}
+use Rattle.std.proofs.Common.{◌≡◌, ◌==◌, ◌∙◌, ℕ, Bool, true, false, List, [], ◌∷◌, length, Some, refl, sym, ap, inl, inr, one-add, arith, ◌↔◌, map, IsTrue, ◌≢◌, Ordering, ◌||◌, not, ◌&&◌, drop, None, ◌<◌}
 
 -- a first byte that divides pieces stands behind an empty piece; another belongs to the first piece
 pub piece_ends : (test : ℕ → Bool) (b : ℕ) (text : List ℕ) → test b ≡ true

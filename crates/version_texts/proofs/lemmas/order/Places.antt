@@ -1,24 +1,16 @@
 -- The texts of messy versions compare by the places of their bytes as their chunks and signs do.
-use Rattle.version_order.proofs.lemmas.Bytes.{alphanumeric_no_dot}
-use Rattle.std.proofs.Common.{◌≡◌, ◌∙◌, ◌<◌, ◌≤◌, ℕ, false, true, List, [], ◌∷◌, ◌++◌, Option, Some, None, refl, sym, ap, subst, arith, append-nil, append_assoc}
+use Rattle.version_order.proofs.lemmas.{Bytes.alphanumeric_no_dot, Orders.then_assoc}
 use Rattle.std.proofs.lemmas.Bool.Decides.{nat_tests}
-use Rattle.std.specs.Char.{is_ascii_alphanumeric}
-use Rattle.std.specs.Cmp.{first_so, nat_cmp_is, second_so}
-use Rattle.std.specs.Cmp.Lexicographic.{slice_cmp}
-use Rattle.std.specs.List.{flat_map, list_all}
-use Rattle.std.specs.Option.{is_some}
-use Rattle.std.specs.Ordering.{nat_cmp, on, ordering_then, then_cmp}
-use Rattle.std.specs.declared.cmp.Ordering.{Ordering}
-use Rattle.std.specs.declared.cmp.Ordering.TheVariants.{Less, Greater}
-use Rattle.version_order.specs.texts.Bytes.{dot}
+use Rattle.std.specs.{Char.is_ascii_alphanumeric, Cmp.first_so, Cmp.nat_cmp_is, Cmp.second_so, Cmp.Lexicographic.slice_cmp, List.flat_map, List.list_all, Option.is_some}
+use Rattle.std.specs.{Ordering.nat_cmp, Ordering.on, Ordering.ordering_then, Ordering.then_cmp, declared.cmp.Ordering.Ordering, declared.cmp.Ordering.TheVariants.Less, declared.cmp.Ordering.TheVariants.Greater}
 use Rattle.version_order.specs.texts.Grammar.{SpellsDotted, SpellsEach, PlainSep, Colon, is_sep, sep_byte, sep_plain_cmp, sep_rank}
-use Rattle.version_order.specs.keys.Lists.{bytes_cmp}
-use Rattle.version_rules.specs.grammar.MChunk.{PlainMChunk, SpellsMChunk, mchunk_text}
-use Rattle.version_order.proofs.lemmas.Orders.{then_assoc}
-use Rattle.version_rules.proofs.lemmas.MChunk.{mchunk_printed, spelled_run}
+use Rattle.version_order.specs.{keys.Lists.bytes_cmp, texts.Bytes.dot}
 use Rattle.version_rules.specs.grammar.Mess.{Further, PlainMess, Section, SpellsFurther, SpellsMess, SpellsSection, further_text, joined_section, mess_text}
+use Rattle.version_rules.specs.grammar.MChunk.{PlainMChunk, SpellsMChunk, mchunk_text}
+use Rattle.version_rules.proofs.lemmas.MChunk.{mchunk_printed, spelled_run}
 use Rattle.version_texts.specs.Order.{byte_place, messy_tie}
 use Rattle.version_texts.proofs.lemmas.scan.Complex.{further_text-is}
+use Rattle.std.proofs.Common.{◌≡◌, ◌∙◌, ◌<◌, ◌≤◌, ℕ, false, true, List, [], ◌∷◌, ◌++◌, Option, Some, None, refl, sym, ap, subst, arith, append-nil, append_assoc}
 
 -- ---- places
 

@@ -1,50 +1,26 @@
 -- Two versions of one key compare field by field as their texts do by their shapes.
 use Rattle.std.proofs.Common.{◌≡◌, if◌then◌else◌, ℕ, List, Option, Some, None, inl, inr, refl, sym, subst, arith, ◌∙◌, ◌<◌, [], ◌∷◌, ◌++◌, drop, length, map, ap, length-append}
-use Rattle.std.proofs.lemmas.Bool.{cases_Bool}
 use Rattle.std.proofs.lemmas.Cmp.{lists_total, nat_cmp_total, nat_list_cmp_total, on_total, then_total}
-use Rattle.std.specs.Cmp.{IsTotalOrder, tied_itself, nat_cmp_is}
-use Rattle.std.specs.Cmp.Lexicographic.{options_total}
-use Rattle.std.specs.Option.{option_cmp, option_map_or, unwrap_or}
+use Rattle.std.proofs.lemmas.Bool.{cases_Bool}
+use Rattle.std.specs.{Cmp.IsTotalOrder, Cmp.tied_itself, Cmp.nat_cmp_is, Cmp.Lexicographic.options_total, Fmt.decimal, List.prefix_len, List.take_while, Option.option_cmp, Option.option_map_or, Option.unwrap_or}
+use Rattle.std.specs.{Ordering.nat_cmp, Ordering.ordering_then, Ordering.on, Ordering.then_cmp, declared.cmp.Ordering.Ordering}
 use Rattle.std.specs.declared.cmp.Ordering.TheVariants.{Equal, Less, Greater}
-use Rattle.version_order.specs.keys.Lists.{bytes_cmp, split_last}
-use Rattle.version_texts.specs.Scan.{body_start, from_body}
-use Rattle.version_texts.specs.Order.{bodies_tie, general_tie, is_numbered, last_tie, parts_tie, messy_tie, byte_place, kind_place, texts_tie}
-use Rattle.std.specs.Fmt.{decimal}
-use Rattle.std.specs.List.{prefix_len, take_while}
-use Rattle.std.specs.Ordering.{nat_cmp, ordering_then, on, then_cmp}
-use Rattle.std.specs.declared.cmp.Ordering.{Ordering}
-use Rattle.version_rules.specs.grammar.Body.{PlainBody, SpellsBody}
-use Rattle.version_order.specs.texts.Bytes.{colon, hyphen, plus, is_section_byte}
-use Rattle.version_rules.specs.grammar.Chunk.{Alphanum, Numeric, PlainChunk, SpellsPart, chunk_text}
+use Rattle.version_order.specs.{keys.Codes.then_equal, keys.Lists.bytes_cmp, keys.Lists.split_last, texts.Bytes.colon, texts.Bytes.hyphen, texts.Bytes.plus, texts.Bytes.is_section_byte, texts.Cuts.pieces}
 use Rattle.version_order.specs.texts.Grammar.{SpellsDotted, SpellsOptional}
-use Rattle.version_rules.specs.grammar.Last.{IsLastOf, PlainLast}
-use Rattle.version_rules.specs.order.LastOrder.{last_plain_cmp}
-use Rattle.version_rules.specs.grammar.Release.{SpellsMetadata, SpellsRelease, release_text}
-use Rattle.version_rules.specs.key.PartKey.{PartKey, part_key}
-use Rattle.version_rules.specs.grammar.SemVer.{optional_text}
-use Rattle.version_rules.specs.laws.Release.{release_total}
-use Rattle.version_rules.specs.order.Parts.{chunk_cmp, release_cmp}
-use Rattle.version_rules.proofs.lemmas.Chunk.{part_printed, release_printed}
-use Rattle.version_rules.proofs.lemmas.SemVer.{optional_printed}
-use Rattle.version_order.proofs.lemmas.Orders.{then_assoc}
-use Rattle.version_rules.specs.key.Key.{Key, key_of_version, key_of, precedence, key_tie_cmp}
-use Rattle.version_rules.specs.grammar.Version.{PlainVersion, SpellsVersion, epoch_text}
-use Rattle.version_rules.specs.order.Kinds.{version_plain_cmp}
-use Rattle.version_texts.specs.Key.{parts_of}
-use Rattle.version_order.specs.texts.Cuts.{pieces}
-use Rattle.version_texts.proofs.lemmas.scan.Spelled.{body_parts, body_pieces}
-use Rattle.version_texts.proofs.lemmas.scan.Shape.{version_cut, IsCut, from_body-is, printed_epoch}
-use Rattle.version_texts.proofs.lemmas.order.Lasts.{number_apart, numbers_same, run_cut, tied_lasts, IsNonempty, parts_then}
-use Rattle.version_rules.specs.key.Tail as tail
+use Rattle.version_texts.specs.Order.{bodies_tie, general_tie, is_numbered, last_tie, parts_tie, messy_tie, byte_place, kind_place, texts_tie}
+use Rattle.version_texts.specs.{Key.parts_of, Scan.body_start, Scan.from_body}
+use Rattle.version_rules.specs.grammar.Body.{PlainBody, SpellsBody, SpellsMetadata, SpellsRelease, release_text}
+use Rattle.version_rules.specs.grammar.Chunk.{Alphanum, Numeric, PlainChunk, SpellsPart, chunk_text}
 use Rattle.version_rules.specs.grammar.Versioning.{versioning_kind, PlainVersioning, Ideal, General, Complex, versioning_of}
-use Rattle.version_rules.proofs.lemmas.Order.{keys_same}
-use Rattle.version_texts.proofs.lemmas.order.Variants.{messy_decides}
+use Rattle.version_rules.specs.key.Key.{Key, key_of_version, key_of, precedence, key_tie_cmp}
+use Rattle.version_rules.specs.{declared.kind.Kind.Kind, grammar.Last.IsLastOf, grammar.Last.PlainLast, grammar.SemVer.optional_text, grammar.Version.PlainVersion, grammar.Version.SpellsVersion, grammar.Version.epoch_text}
+use Rattle.version_rules.specs.{key.PartKey.PartKey, key.PartKey.part_key, laws.Part.release_total, order.Kinds.version_plain_cmp, order.Orders.versioning_cmp, order.Parts.last_plain_cmp, order.Parts.chunk_cmp, order.Parts.release_cmp}
+use Rattle.version_rules.proofs.lemmas.{Chunk.part_printed, Chunk.release_printed, Key.ties_alike, Order.keys_same, SemVer.optional_printed, Versioning.versioning_of-spells}
+use Rattle.version_order.proofs.lemmas.Orders.{then_assoc}
+use Rattle.version_texts.proofs.lemmas.order.Lasts.{number_apart, numbers_same, run_cut, tied_lasts, IsNonempty, parts_then}
+use Rattle.version_texts.proofs.lemmas.{order.Variants.messy_decides, scan.Shape.version_cut, scan.Shape.IsCut, scan.Shape.from_body-is, scan.Shape.printed_epoch, scan.Spelled.body_parts, scan.Spelled.body_pieces}
+use Rattle.version_rules.specs.key.Key as tail
 use Rattle.version_rules.specs.declared.kind.Kind.TheVariants as kind
-use Rattle.version_rules.specs.order.Orders.{versioning_cmp}
-use Rattle.version_rules.specs.declared.kind.Kind.{Kind}
-use Rattle.version_order.specs.keys.Codes.{then_equal}
-use Rattle.version_rules.proofs.lemmas.Key.{ties_alike}
-use Rattle.version_rules.proofs.lemmas.Versioning.{versioning_of-spells}
 
 -- ---- the orders of general versions of one key are total
 

@@ -1,42 +1,22 @@
 -- Chunks of messy versions that have one key compare by their texts, and so do zeros and any chunk.
 use Rattle.std.proofs.Common.{◌≡◌, ◌==◌, ◌∙◌, ◌<◌, ◌≢◌, ℕ, true, false, List, [], ◌∷◌, ◌++◌, drop, length, Some, None, refl, sym, ap, arith, inl, inr, append-nil, ◌⊎◌, map}
-use Rattle.std.proofs.lemmas.Bool.{cases_Bool, eqb-false, eqb-true}
-use Rattle.std.proofs.lemmas.Bool.Decides.{nat_tests}
-use Rattle.std.proofs.lemmas.Cmp.{nat_cmp_total, tied_itself}
-use Rattle.std.proofs.lemmas.List.{take-append-drop}
-use Rattle.std.specs.Char.{is_ascii_alphanumeric, is_ascii_digit}
+use Rattle.std.proofs.lemmas.{Bool.cases_Bool, Bool.eqb-false, Bool.eqb-true, Bool.Decides.nat_tests, Cmp.nat_cmp_total, Cmp.tied_itself, List.take-append-drop}
 use Rattle.std.specs.Cmp.{first_so, nat_cmp_is, second_so, IsTotalOrder, on_total, then_total}
-use Rattle.std.specs.FinMap.{nat_cmp-IsAntisymmetric}
-use Rattle.std.specs.List.{before_first, list_all, position_or_len, prefix_len}
-use Rattle.std.specs.Ordering.{nat_cmp, ordering_then}
-use Rattle.std.specs.Str.Parse.{digits_value}
+use Rattle.std.specs.{Char.is_ascii_alphanumeric, Char.is_ascii_digit, Cmp.Lexicographic.lists_total, Cmp.Lexicographic.nat_list_cmp_total, Cmp.Lexicographic.slice_cmp, FinMap.nat_cmp-IsAntisymmetric}
+use Rattle.std.specs.{List.before_first, List.list_all, List.position_or_len, List.prefix_len, Ordering.nat_cmp, Ordering.ordering_then, Str.Parse.digits_value, declared.cmp.Ordering.Ordering}
 use Rattle.std.specs.declared.cmp.Ordering.TheVariants.{Less, Equal, Greater}
-use Rattle.version_order.specs.texts.DigitRun.{is_digits, number_front, run_value, starts_with_digit, behind_digits}
-use Rattle.version_order.specs.keys.Lists.{bytes_cmp}
+use Rattle.version_order.specs.texts.Front.{is_digits, number_front, run_value, starts_with_digit, behind_digits}
+use Rattle.version_order.specs.{keys.Codes.then_first, keys.Codes.bytes_same, keys.Lists.bytes_cmp, texts.Cuts.from_first, texts.Grammar.Colon, texts.Grammar.sep_plain_cmp}
 use Rattle.version_rules.specs.grammar.MChunk.{Digits, Plain, PlainMChunk, Rev, SpellsDigits, SpellsMChunk, SpellsRevision, mchunk_plain_cmp, mchunk_text}
-use Rattle.version_order.specs.keys.Codes.{then_first, bytes_same}
-use Rattle.version_rules.specs.key.PartKey.{Number, Word, part_key, suffix_of, PartKey, section_parts, Split, split_of}
-use Rattle.version_rules.proofs.lemmas.Numeral.{split_of-digits}
-use Rattle.version_order.proofs.lemmas.Front.{all_weaker, take_while-all}
-use Rattle.version_rules.proofs.lemmas.MChunk.{spelled_run}
-use Rattle.version_rules.proofs.lemmas.Key.{part_key-digits, part_key-word}
-use Rattle.version_order.proofs.lemmas.NumberOrder.{numbers_compared}
-use Rattle.version_order.proofs.lemmas.NumberBytes.{is_zero}
-use Rattle.version_order.specs.texts.Cuts.{from_first}
-use Rattle.version_order.proofs.lemmas.Runs.{run_is}
-use Rattle.std.specs.Cmp.Lexicographic.{lists_total, nat_list_cmp_total, slice_cmp}
-use Rattle.std.specs.declared.cmp.Ordering.{Ordering}
-use Rattle.version_rules.specs.laws.Last.{sep_total}
-use Rattle.version_order.specs.texts.Grammar.{Colon, sep_plain_cmp}
-use Rattle.version_order.proofs.lemmas.Orders.{then_decided}
-use Rattle.version_rules.specs.key.Key.{Key, key_of_mess, key_of_sections, mess_epoch, precedence, section_epoch, sections_tail}
 use Rattle.version_rules.specs.grammar.Mess.{Further, PlainMess, Section, SpellsMess, further_plain_cmp, mess_plain_cmp, section_plain_cmp}
-use Rattle.version_rules.specs.laws.Versioning.{mess_total}
-use Rattle.version_rules.proofs.lemmas.Order.{keys_same}
-use Rattle.version_rules.proofs.lemmas.Mess.{mess_printed}
+use Rattle.version_rules.specs.key.Key.{Key, key_of_mess, key_of_sections, mess_epoch, precedence, section_epoch, sections_tail}
+use Rattle.version_rules.specs.key.PartKey.{Number, Word, part_key, suffix_of, PartKey, section_parts, Split, split_of}
+use Rattle.version_rules.specs.laws.{Last.sep_total, Versioning.mess_total}
+use Rattle.version_rules.proofs.lemmas.{Key.part_key-digits, Key.part_key-word, MChunk.spelled_run, Mess.mess_printed, Numeral.split_of-digits, Order.keys_same}
+use Rattle.version_order.proofs.lemmas.{Front.all_weaker, Front.take_while-all, NumberBytes.numbers_compared, NumberBytes.is_zero, Orders.then_decided, Runs.run_is}
 use Rattle.version_texts.specs.Order.{messy_tie}
-use Rattle.version_texts.proofs.lemmas.scan.Complex.{alone, apart, uncounted}
 use Rattle.version_texts.proofs.lemmas.order.Places.{AreChunks, AreSections, HasSections, IsSection, further_texts_cmp, mess_texts_cmp, spelled_sections, texts_cmp, texts_compare}
+use Rattle.version_texts.proofs.lemmas.scan.Complex.{alone, apart, uncounted}
 
 -- ---- the texts that a number or a word is the key of
 

@@ -1,26 +1,16 @@
 -- Empty ranges, and the members of a list that make its range empty.
 use Rattle.std.proofs.Common.{◌≡◌, ◌↔◌, ◌∙◌, ◌<◌, ◌++◌, ℕ, true, if◌then◌else◌, List, [], ◌∷◌, Option, Some, None, IfSome, IsSomeAnd, IsTrue, ap, arith, inl, inr, length, refl, subst, sym}
-use Rattle.std.proofs.lemmas.Cmp.{nat_list_cmp_total}
-use Rattle.std.proofs.lemmas.List.Elements.{All-cons, All-head, All-nil, All-tail}
-use Rattle.std.specs.List.{All}
-use Rattle.std.specs.Option.{is_some, option_map}
-use Rattle.std.specs.Ordering.{is_lt, ordering_reverse}
-use Rattle.std.specs.declared.cmp.Ordering.{Ordering}
+use Rattle.std.proofs.lemmas.{Cmp.nat_list_cmp_total, List.Elements.All-cons, List.Elements.All-head, List.Elements.All-nil, List.Elements.All-tail}
+use Rattle.std.specs.{List.All, Option.is_some, Option.option_map, Ordering.is_lt, Ordering.ordering_reverse, declared.cmp.Ordering.Ordering}
 use Rattle.std.specs.declared.cmp.Ordering.TheVariants.{Less, Equal, Greater}
 use Rattle.version_rules.proofs.lemmas.Range.{IsBelow, IsBelowHigh, below_earlier_high, from_empty, list_in, of_all_kinds, of_common_kinds, requirement_in, common_in, stays_from}
-use Rattle.version_rules.specs.declared.kind.Kind.{Kind}
-use Rattle.version_order.specs.keys.Lists.{bytes_cmp}
-use Rattle.version_rules.specs.grammar.Versioning.{versioning_kind, PlainVersioning}
-use Rattle.version_rules.specs.requirement.Matching.{Matches, MatchesAll}
-use Rattle.version_rules.specs.requirement.Range.{IsIn, PlainRange, bytes_of, common, earlier, earlier_high, everything, has_kind, later, no_kinds, range_of, requirement_range}
-use Rattle.version_rules.specs.requirement.Requirement.{PlainRequirement, requirement_of}
+use Rattle.version_rules.specs.requirement.Range.{IsIn, PlainRange, common, earlier, earlier_high, everything, has_kind, later, no_kinds, range_of, requirement_range}
+use Rattle.version_rules.specs.{declared.kind.Kind.Kind, grammar.Versioning.PlainVersioning, requirement.Matching.Matches, requirement.Matching.MatchesAll, requirement.Requirement.PlainRequirement, requirement.Requirement.requirement_of}
 use Rattle.version_rules.specs.requirement.Requirements.{requirements_of, before_others}
-use Rattle.version_texts.proofs.lemmas.requirement.Members.{first_and_others, some_pieces}
-use Rattle.version_texts.proofs.lemmas.requirement.RangeRef.{ReadList, read_list, narrowed}
+use Rattle.version_order.specs.keys.Lists.{bytes_cmp}
+use Rattle.version_texts.proofs.lemmas.requirement.{Members.first_and_others, Members.some_pieces, RangeRef.ReadList, RangeRef.read_list, RangeRef.narrowed}
 use Rattle.version_texts.specs.Requirement.{ExcludeEachOther, IsAt, IsByEnds, NotEach, cut_at_commas, list_of}
-use Rattle.version_texts.specs.declared.requirement.conflict.Conflict.{Conflict}
-use Rattle.version_texts.specs.declared.requirement.conflict.Span.{Span}
-use Rattle.version_texts.specs.Range.{IsCrossed, IsEmpty}
+use Rattle.version_texts.specs.{Range.IsCrossed, Range.IsEmpty, declared.requirement.conflict.Conflict.Conflict, declared.requirement.conflict.Span.Span}
 use Rattle.version_rules.specs.declared.kind.Kind.TheVariants as kind
 
 -- ---- comparisons of bytes
@@ -172,9 +162,7 @@ each_begins (b ∷ bytes) (r ∷ list) some =
 module _ (bytes text : List ℕ) (range : PlainRange)
     (read : option_map range_of (requirements_of text) ≡ Some range) where
   pub each_begins_before : IsOfEach (BeginsBefore bytes) (requirements_of text) range
-  each_begins_before =
-      is_of_each (BeginsBefore bytes) (both_begin bytes) (requirements_of text) range read
-      (λ list e. each_begins bytes list (some_members text list e))
+  each_begins_before = grind (arith, is_of_each, both_begin, each_begins, some_members)
 
   pub not_each_begins : range.low ≡ bytes
       → NotEach (λ r. BeginsBefore bytes (requirement_range r)) (requirements_of text)
@@ -199,12 +187,7 @@ crossing a b apart = by a.high b.high apart
 
 -- a crossed range has nothing in common with itself
 pub crossed_alone : (range : PlainRange) → IsCrossed range → ¬ (EndsAfter range.low range)
-crossed_alone range = by range.high
-  where
-    by : (high : Option (List ℕ)) → IsSomeAnd high (λ h. ¬ (bytes_cmp range.low h ≡ Less))
-        → ¬ (IsBelowHigh high range.low)
-    by None crossed = absurd crossed
-    by (Some h) crossed = crossed
+crossed_alone range = grind arith
 
 -- the ends of a crossed range
 pub crossed_ends : (range : PlainRange) (low high : List ℕ) → range.low ≡ low
@@ -214,12 +197,7 @@ crossed_ends range low high is_low is_high crossed less = grind arith
 -- what begins not below a low end, and what ends not above a high end, where these are crossed
 pub ends_crossed : (low high : List ℕ) (a b : PlainRange) → ¬ (bytes_cmp low high ≡ Less)
     → ¬ (BeginsBefore low a) → ¬ (EndsAfter high b) → ¬ (EndsAfter a.low b)
-ends_crossed low high a b crossed begins = by b.high
-  where
-    by : (end : Option (List ℕ)) → ¬ (IsBelowHigh end high) → ¬ (IsBelowHigh end a.low)
-    by None ends after = ends tt
-    by (Some h) ends after =
-        stays_from high h a.low ends (stays_from low high a.low crossed begins) after
+ends_crossed low high a b crossed begins = grind (arith, stays_from)
 
 -- what does not end above the high end of a range ends no later
 pub ends_no_later : (end whole : Option (List ℕ)) (high : List ℕ) → whole ≡ Some high
@@ -227,9 +205,7 @@ pub ends_no_later : (end whole : Option (List ℕ)) (high : List ℕ) → whole 
     → IfSome whole (λ least. IsSomeAnd end (λ h. ¬ (bytes_cmp least h ≡ Less)))
 ends_no_later end None high e ends = tt
 ends_no_later None (Some least) high e ends = absurd (ends tt)
-ends_no_later (Some h) (Some least) high e ends =
-    let same : high ≡ least = cc e in
-    subst (λ bytes. ¬ (bytes_cmp bytes h ≡ Less)) same ends
+ends_no_later (Some h) (Some least) high e ends = grind arith
 
 -- ---- the range of a text
 
@@ -247,9 +223,7 @@ module _ (spelled : Option (List PlainRequirement)) (range : PlainRange)
   pub is_by_ends : (text : List ℕ) (conflict : Conflict) → IsByEnds text range conflict
       → IfSome spelled (λ wanted. IsCrossed (range_of wanted)
       → IsByEnds text (range_of wanted) conflict)
-  is_by_ends text conflict ends =
-      rw parsed.spelled_is
-      (λ crossed. subst (λ q. IsByEnds text q conflict) (sym parsed.range_is) ends)
+  is_by_ends text conflict ends = grind arith
 
   pub is_not_by_ends : (text : List ℕ) (conflict : Conflict) → ¬ (IsCrossed range)
       → IfSome spelled (λ wanted. IsCrossed (range_of wanted)
@@ -260,17 +234,8 @@ module _ (spelled : Option (List PlainRequirement)) (range : PlainRange)
 -- ---- laws
 
 pub none_in_empty : (range : PlainRange) (v : PlainVersioning) → IsEmpty range → ¬ (IsIn range v)
-none_in_empty range v (inl crossed) inside =
-    by range.high crossed inside.between.below_high
-  where
-    by : (high : Option (List ℕ)) → IsSomeAnd high (λ h. ¬ (bytes_cmp range.low h ≡ Less))
-        → ¬ (IfSome high (λ h. bytes_cmp (bytes_of v) h ≡ Less))
-    by None crossed below = absurd crossed
-    by (Some h) crossed below =
-        stays_from range.low h (bytes_of v) crossed inside.between.from_low below
-none_in_empty range v (inr none) inside =
-    none_of (versioning_kind v)
-    (subst (λ kinds. IsTrue (has_kind kinds (versioning_kind v))) none inside.of_kind)
+none_in_empty range v (inl crossed) inside = grind (arith, stays_from)
+none_in_empty range v (inr none) inside = grind (arith, none_of)
 
 pub none_matched : (list : List PlainRequirement) (v : PlainVersioning) → IsEmpty (range_of list)
     → ¬ (MatchesAll list v)

@@ -1,35 +1,18 @@
 -- The ends of ranges, compared by their epochs, their parts and what follows these.
-use Rattle.std.proofs.Common.{◌≡◌, ◌∙◌, ◌<◌, ℕ, true, List, [], ◌∷◌, ◌++◌, Option, Some, None, IsTrue, IfNone, IfSome, IsSome, suc, length, length-drop, ap, append_assoc, append-nil, arith, map, nat_cmp, refl, subst, sym, not, ◌==◌, inl, inr}
-use Rattle.std.specs.Borrow.{Bor}
-use Rattle.std.proofs.lemmas.Cmp.{nat_list_cmp_total, tied_itself}
-use Rattle.std.specs.Cmp.{ranks}
-use Rattle.std.specs.List.{position_or_len}
-use Rattle.std.specs.Option.{option_map_or, option_map}
-use Rattle.std.specs.Ordering.{MatchOrdering, ordering_index, ordering_then}
-use Rattle.std.specs.declared.cmp.Ordering.{Ordering}
-use Rattle.std.specs.declared.cmp.Ordering.TheVariants.{Less, Equal, Greater}
-use Rattle.version_order.proofs.lemmas.Codes.{ended}
-use Rattle.version_rules.proofs.lemmas.Order.{key_writes}
-use Rattle.version_order.proofs.lemmas.NumberBytes.{above, below, number_writes}
-use Rattle.version_rules.proofs.lemmas.Key.{part_writes}
-use Rattle.version_order.specs.keys.Codes.{items_bytes}
-use Rattle.version_rules.specs.requirement.Range.{end_bytes, kept_parts}
-use Rattle.version_rules.specs.key.Key.{Key, precedence, key_of, key_bytes}
-use Rattle.version_order.specs.keys.Lists.{bytes_cmp}
-use Rattle.version_order.specs.keys.NumberBytes.{number_bytes}
-use Rattle.version_rules.specs.key.PartKey.{PartKey, part_bytes, part_cmp, part_key, parts_bytes}
-use Rattle.version_rules.specs.key.Tail.{tail_bytes}
-use Rattle.version_order.specs.declared.ends.End.{End}
-use Rattle.version_texts.proofs.lemmas.order.Piece.{pieces_are, decided, further_of_more, further_of_none}
+use Rattle.version_texts.proofs.lemmas.{key.KeyRoom.enough_room, key.KeyRoom.end_length, order.Piece.pieces_are, order.Piece.decided, order.Piece.further_of_more, order.Piece.further_of_none}
 use Rattle.version_texts.specs.Range.{Begins, IsOfPart, after_key, behind_parts, fixed_bytes, is_key, kept_of, mark_of}
-use Rattle.version_texts.specs.Key.{parts_behind, parts_of, room_for}
+use Rattle.version_texts.specs.{Key.parts_behind, Key.parts_of, Key.room_for, Mixed.mixed}
+use Rattle.version_order.specs.{Keyed.AreWithin, Keyed.end_of, declared.ends.End.End, keys.Codes.number_bytes, keys.Codes.items_bytes, keys.Lists.bytes_cmp}
 use Rattle.version_order.specs.texts.Cuts.{first_piece, behind_piece, further_pieces, is_dot}
+use Rattle.version_rules.specs.key.Key.{tail_bytes, Key, precedence, key_of, key_bytes}
+use Rattle.version_rules.specs.key.PartKey.{PartKey, part_bytes, part_cmp, part_key, parts_bytes}
+use Rattle.version_rules.specs.{grammar.Versioning.PlainVersioning, grammar.Versioning.versioning_of, requirement.Range.end_bytes, requirement.Range.kept_parts}
+use Rattle.version_order.proofs.lemmas.{Codes.ended, Front.cases_Option, NumberBytes.above, NumberBytes.below, NumberBytes.number_writes}
+use Rattle.version_rules.proofs.lemmas.{Key.part_writes, Order.key_writes}
+use Rattle.std.specs.{Borrow.Bor, Cmp.ranks, List.position_or_len, Option.option_map_or, Option.option_map, Ordering.ordering_index, Ordering.ordering_then, declared.cmp.Ordering.Ordering, declared.cmp.Ordering.TheVariants.Equal}
+use Rattle.std.proofs.lemmas.Cmp.{nat_list_cmp_total, tied_itself}
+use Rattle.std.proofs.Common.{◌≡◌, ◌∙◌, ◌<◌, ℕ, true, List, [], ◌∷◌, ◌++◌, Option, Some, None, IsTrue, IfNone, IfSome, IsSome, suc, length, length-drop, ap, append_assoc, append-nil, arith, map, nat_cmp, refl, subst, sym, not, ◌==◌, inl, inr}
 use Rattle.version_order.specs.declared.ends.End.TheVariants as end
-use Rattle.version_order.proofs.lemmas.Front.{cases_Option}
-use Rattle.version_rules.specs.grammar.Versioning.{PlainVersioning, versioning_of}
-use Rattle.version_order.specs.Keyed.{AreWithin, end_of}
-use Rattle.version_texts.specs.Mixed.{mixed}
-use Rattle.version_texts.proofs.lemmas.key.KeyRoom.{enough_room, end_length}
 
 -- the bytes of some parts, and those after them
 abbrev pub front : List PartKey → List ℕ → List ℕ
@@ -56,16 +39,7 @@ pub by_marks : (m n : ℕ) (x y : List ℕ) → Begins m x → Begins n y → (m
 by_marks m n [] [] begin begin_too same = rw (begin, begin_too) refl
 by_marks m n [] (b ∷ y) begin begin_too same = below m n (omega (arith, begin, begin_too.1))
 by_marks m n (a ∷ x) [] begin begin_too same = above m n (omega (arith, begin.1, begin_too))
-by_marks m n (a ∷ x) (b ∷ y) begin begin_too same =
-    rw (begin.0, begin_too.0) (by (nat_cmp a b) (ranks a b))
-  where
-    by : (r : Ordering) → MatchOrdering r (a < b) (a ≡ b) (b < a)
-        → r ≡ ordering_then r (bytes_cmp x y)
-    by Less k = refl
-    by Equal k =
-        let rest : y ≡ x = cc (same (begin.0 ∙ k ∙ sym begin_too.0)) in
-        sym (ap (bytes_cmp x) rest ∙ tied_itself nat_list_cmp_total x)
-    by Greater k = refl
+by_marks m n (a ∷ x) (b ∷ y) begin begin_too same = grind (arith, nat_cmp, ranks, tied_itself, nat_list_cmp_total)
 
 -- bytes after an ended list, beside a list that may go on: if the marks are the same, so are they
 pub one_ended : (m n mark : ℕ) (behind other : List ℕ) (more : Option (Bor (List ℕ)))
@@ -117,14 +91,8 @@ pub end_parts : (end : End) (k : Key) → fixed_bytes end ≡ None
     ≡ number_bytes k.epoch ++ front (kept_parts (kept_of end) k.body) (behind_parts end k)
 end_parts end.Key k e =
     ap (λ (l : List ℕ). number_bytes k.epoch ++ l) (key_front k (tail_bytes k.tail))
-end_parts end.AfterKey k e =
-    append_assoc (number_bytes k.epoch) (parts_bytes k.body ++ tail_bytes k.tail) (0 ∷ [])
-    ∙ ap (λ (l : List ℕ). number_bytes k.epoch ++ l)
-    (append_assoc (parts_bytes k.body) (tail_bytes k.tail) (0 ∷ [])
-    ∙ key_front k (tail_bytes k.tail ++ 0 ∷ []))
-end_parts (end.Begun kept) k e =
-    ap (λ (l : List ℕ). number_bytes k.epoch ++ l)
-    (sym (append-nil (items_bytes part_bytes (kept_parts kept k.body))))
+end_parts end.AfterKey k e = grind (arith, append_assoc, key_front)
+end_parts (end.Begun kept) k e = grind (arith, append-nil)
 end_parts (end.AboveBegun kept) k e =
     append_assoc (number_bytes k.epoch) (items_bytes part_bytes (kept_parts kept k.body)) (4 ∷ [])
 end_parts end k e = cc e

@@ -1,27 +1,18 @@
 -- What `~` and `^` ask of two versions, by their texts and shapes.
-use Rattle.std.proofs.Common.{◌≡◌, ◌↔◌, ◌⊎◌, ◌∙◌, ◌<◌, ◌≤◌, ◌==◌, ℕ, suc, zero, true, false, List, [], ◌∷◌, Some, IsTrue, ap, arith, inl, inr, refl, sym, Bool, subst}
+use Rattle.std.proofs.Common.{◌≡◌, ◌↔◌, ◌⊎◌, ◌∙◌, ◌<◌, ◌≤◌, ◌==◌, ℕ, suc, zero, true, false, List, [], ◌∷◌, Some, IsTrue, ap, arith, refl, sym, Bool, subst}
 use Rattle.std.proofs.Math.Dec.{eqb-suc-zero}
 use Rattle.std.proofs.lemmas.Bool.Decides.{Decides-and, Decides-like}
-use Rattle.std.specs.Bool.{Decides, MatchBool, ⊤}
-use Rattle.std.specs.Cmp.{Equal-is}
-use Rattle.std.specs.Ordering.{is_eq, is_ge, nat_cmp, ordering_then}
-use Rattle.std.specs.declared.cmp.Ordering.TheVariants.{Equal}
+use Rattle.std.specs.{Bool.Decides, Bool.MatchBool, Bool.⊤, Ordering.is_eq, Ordering.is_ge, Ordering.nat_cmp, Ordering.ordering_then}
 use Rattle.version_order.proofs.lemmas.NumberBytes.{above, below}
 use Rattle.version_order.specs.keys.Codes.{then_equal}
-use Rattle.version_rules.specs.key.PartKey.{PartKey, list_cmp, part_cmp}
-use Rattle.version_rules.proofs.lemmas.Matching.{not_less, same_decides, tilde_decides}
-use Rattle.version_rules.specs.key.Key.{plain, strict_body, Key, key_of}
-use Rattle.version_rules.specs.requirement.SemVerMatch.{MatchesMinor, Numbers, numbers}
-use Rattle.version_rules.specs.requirement.SemVerMatch as strict
-use Rattle.version_rules.specs.requirement.VersionMatch.{IsNotBelow, PartsMatchCaret, PartsMatchTilde, is_plain_zero}
-use Rattle.version_rules.specs.declared.kind.Kind.{Kind}
 use Rattle.version_rules.specs.grammar.Versioning.{versioning_kind, PlainVersioning, Ideal, General, Complex, versioning_of}
-use Rattle.version_rules.specs.requirement.Matching.{MatchesCaret, MatchesTilde}
+use Rattle.version_rules.specs.{declared.kind.Kind.Kind, key.Key.plain, key.Key.strict_body, key.Key.Key, key.Key.key_of, key.PartKey.PartKey, key.PartKey.list_cmp, key.PartKey.part_cmp}
+use Rattle.version_rules.specs.requirement.{Matching.MatchesCaret, Matching.MatchesTilde, SemVerMatch.MatchesMinor, SemVerMatch.Numbers, SemVerMatch.numbers}
+use Rattle.version_rules.specs.requirement.VersionMatch.{IsNotBelow, PartsMatchCaret, PartsMatchTilde, is_plain_zero}
+use Rattle.version_rules.proofs.lemmas.Matching.{not_less, same_decides, tilde_decides}
 use Rattle.version_texts.proofs.lemmas.versioning_ref.VersioningRef.{versioning_key}
-use Rattle.version_texts.specs.declared.scan.shape.Shape.{Shape}
-use Rattle.version_texts.specs.Range.{epoch_and_parts_of}
-use Rattle.version_texts.specs.Scan.{body_in, shape_at, shape_of}
-use Rattle.version_texts.specs.Key.{parts_of, text_key}
+use Rattle.version_texts.specs.{Key.parts_of, Key.text_key, Range.epoch_and_parts_of, Scan.body_in, Scan.shape_at, Scan.shape_of, declared.scan.shape.Shape.Shape}
+use Rattle.version_rules.specs.requirement.SemVerMatch as strict
 use Rattle.version_rules.specs.declared.kind.Kind.TheVariants as kind
 use Rattle.version_rules.specs.requirement.VersionMatch as general
 
@@ -74,22 +65,13 @@ minors_caret : (b c y z : ℕ) → PartsMatchCaret (plain b ∷ plain c ∷ []) 
     ↔ strict.MatchesCaret (0, b, c) (0, y, z)
 minors_caret zero c zero z =
     (λ match. plain_same c z match.1.0, λ e. (refl, (ap plain e, last_free c)))
-minors_caret zero c (suc y) z =
-    rw (eqb-suc-zero y)
-    (λ match. absurd (no_zero y match.0), λ match. absurd (omega (arith, match.0)))
-minors_caret (suc b) c y z = rw (eqb-suc-zero b) (
-  λ match. (plain_same (suc b) y match.0, (not_below c z).0 match.1.0),
-  λ match. (ap plain match.0, ((not_below c z).1 match.1, tt)),
-)
+minors_caret zero c (suc y) z = grind (arith, eqb-suc-zero, no_zero)
+minors_caret (suc b) c y z = grind (arith, eqb-suc-zero, plain_same, not_below)
 
 majors_caret : (b c x y z : ℕ)
     → PartsMatchCaret (strict_body 0 b c) (strict_body x y z) ↔ strict.MatchesCaret (0, b, c) (x, y, z)
-majors_caret b c zero y z =
-    let minors = minors_caret b c y z in
-    (λ match. minors.0 match.1, λ match. (refl, minors.1 match))
-majors_caret b c (suc x) y z =
-    rw (eqb-suc-zero x)
-    (λ match. absurd (no_zero x match.0), λ match. absurd (omega (arith, match.0)))
+majors_caret b c zero y z = grind (arith, minors_caret)
+majors_caret b c (suc x) y z = grind (arith, eqb-suc-zero, no_zero)
 
 -- a minor and patch are not less
 pairs_not_less : (b c y z : ℕ)
@@ -133,25 +115,19 @@ module _ (w p : PartKey) (wanted_more more : List PartKey) (wanted v : Numbers)
   pub caret_of_major : is_plain_zero w ≡ false → is_eq (part_cmp (Some p) (Some w)) ≡ true
       → IsTrue (is_ge (list_cmp (p ∷ more) (w ∷ wanted_more))) ↔ strict.MatchesCaret wanted v
   caret_of_major other same =
-      let tied : nat_cmp v.0 wanted.0 ≡ Equal =
-      sym (plain_cmp v.0 wanted.0)
-      ∙ (λ i. part_cmp (Some (sym first i)) (Some (sym first_wanted i))) ∙ (Equal-is _).0 same in
-      let order : list_cmp (p ∷ more) (w ∷ wanted_more)
-      ≡ ordering_then (nat_cmp v.1 wanted.1) (nat_cmp v.2 wanted.2) =
-      (λ i. list_cmp (numbers i) (wanted_numbers i))
-      ∙ bodies_cmp wanted.0 wanted.1 wanted.2 v.0 v.1 v.2
-      ∙ ap (λ o. ordering_then o (ordering_then (nat_cmp v.1 wanted.1) (nat_cmp v.2 wanted.2)))
-      tied in
-      let both = pairs_not_less wanted.1 wanted.2 v.1 v.2 in
-      rw (order, no_plain_zero wanted.0 (rw first_wanted at other))
-      (λ e. (sym (cmp_same v.0 wanted.0 tied), both.0 e), λ match. both.1 match.1)
-    where
-      cmp_same : (m n : ℕ) → nat_cmp m n ≡ Equal → m ≡ n
-      cmp_same m n e = elim (three_ways m n) [
-        | inl less ↦ cc (below m n less, e)
-        | inr (inl same) ↦ same
-        | inr (inr more) ↦ cc (above m n more, e)
-      ]
+      grind (
+        arith,
+        plain_cmp,
+        first,
+        first_wanted,
+        same,
+        bodies_cmp,
+        pairs_not_less,
+        no_plain_zero,
+        three_ways,
+        below,
+        above,
+      )
 
 -- ---- the shape of a version
 

@@ -1,21 +1,15 @@
 -- The first member of a list that fails a test: the pieces of its text before and after what is
 -- left to be searched.
-use Rattle.std.proofs.Common.{◌≡◌, ◌∙◌, ◌<◌, ◌+◌, ℕ, List, [], ◌∷◌, ◌++◌, Option, Some, None, append_assoc, arith, ap, length, length-append, refl, sym, IsSomeAnd, ◌==◌, ◌-◌, map, drop, if◌then◌else◌, length-drop, take, ◌≤◌, inl, inr}
-use Rattle.std.proofs.lemmas.List.{append-nil, take_all}
+use Rattle.std.proofs.Common.{◌≡◌, ◌∙◌, ◌<◌, ◌+◌, ℕ, List, [], ◌∷◌, ◌++◌, Option, Some, None, append_assoc, arith, ap, length, length-append, refl, sym, IsSomeAnd, ◌==◌, ◌-◌, map, drop, length-drop, take, ◌≤◌, inl, inr}
 use Rattle.std.proofs.lemmas.List.Elements.{All-append, All-cons, All-head, All-nil, All-tail, All-from_get_or}
-use Rattle.std.proofs.lemmas.List.Splits.{join_with_byte-slice_split, length-slice_split, slice_split_first, slice_split_none}
+use Rattle.std.proofs.lemmas.{Bool.cases_Bool, List.append-nil, List.take_all, List.Splits.join_with_byte-slice_split, List.Splits.length-slice_split, List.Splits.slice_split_first, List.Splits.slice_split_none}
 use Rattle.std.proofs.lemmas.List.Sums.{sum_by-append, sum_by-cons, fails_before_first}
-use Rattle.std.specs.List.{All, join_with_byte, position_or_len, AllZip}
-use Rattle.version_rules.specs.requirement.Requirement.{PlainRequirement, requirement_of, SpellsRequirement, requirement_text}
+use Rattle.std.specs.{List.All, List.join_with_byte, List.position_or_len, List.AllZip, Option.is_none, Option.is_some, Prelude.eqb}
+use Rattle.version_rules.specs.requirement.{Range.inexact_members, Range.inexact_text, Range.requirement_range, Requirement.PlainRequirement, Requirement.requirement_of, Requirement.SpellsRequirement, Requirement.requirement_text}
 use Rattle.version_rules.specs.requirement.Requirements.{comma, requirements_of, every, before_others}
-use Rattle.version_texts.proofs.lemmas.scan.Spelled.{split-append}
-use Rattle.version_texts.proofs.lemmas.requirement.RangeRef.{both, read_both}
+use Rattle.version_texts.proofs.lemmas.{requirement.RangeRef.both, requirement.RangeRef.read_both, scan.Spelled.split-append}
 use Rattle.version_texts.specs.Requirement.{IsFirstFailing, NotEach, length_with_commas, IsMember, cut_at_commas, list_of, first_wrong, inexact_part, inexact_pieces}
-use Rattle.std.specs.Prelude.{eqb}
-use Rattle.std.specs.Option.{is_none, is_some}
-use Rattle.std.proofs.lemmas.Bool.{cases_Bool}
 use Rattle.version_rules.proofs.lemmas.Requirement.{requirement_of-Some, requirement_printed, every_spells}
-use Rattle.version_rules.specs.requirement.Range.{inexact_members, inexact_text, requirement_range}
 
 -- ---- pieces of texts
 
@@ -223,16 +217,7 @@ pub none_wrong : (start : ℕ) (pieces : List (List ℕ))
     → is_none (first_wrong start pieces) ≡ is_some (every (map requirement_of pieces))
 none_wrong start [] = refl
 none_wrong start (piece ∷ pieces) =
-    first (requirement_of piece) (none_wrong (start + length piece + 1) pieces)
-  where
-    first : (read : Option PlainRequirement)
-        → is_none (first_wrong (start + length piece + 1) pieces)
-        ≡ is_some (every (map requirement_of pieces))
-        → is_none (if is_some read then first_wrong (start + length piece + 1) pieces
-        else Some (start, start + length piece))
-        ≡ is_some (before_others read (every (map requirement_of pieces)))
-    first None others = refl
-    first (Some r) others = others ∙ more_parse r (every (map requirement_of pieces))
+    grind (arith, pieces, read, more_parse, none_wrong (start + length piece + 1) pieces)
 
 -- ---- A member of a list lies in its text
 
@@ -243,14 +228,7 @@ piece_within : (before : List (List ℕ)) (piece : List ℕ) (behind : List (Lis
 piece_within [] piece [] = omega arith
 piece_within [] piece (next ∷ behind) =
     omega (arith, length-append piece (comma ∷ join_with_byte comma (next ∷ behind)))
-piece_within (first ∷ []) piece behind =
-    let others = join_with_byte comma (piece ∷ behind) in
-    omega (
-      arith,
-      sum_by-cons (λ part. length part + 1) first [],
-      length-append first (comma ∷ others),
-      piece_within [] piece behind,
-    )
+piece_within (first ∷ []) piece behind = grind (arith, behind, sum_by-cons, first, length-append)
 piece_within (first ∷ second ∷ before) piece behind =
     let others = join_with_byte comma (second ∷ (before ++ piece ∷ behind)) in
     omega (

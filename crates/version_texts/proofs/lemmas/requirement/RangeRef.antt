@@ -1,27 +1,17 @@
 -- The bounds of a range, as it is narrowed member by member.
-use Rattle.std.proofs.Math.Bool.{and_assoc, and-true}
-use Rattle.std.proofs.Common.{◌≡◌, ◌↔◌, ◌∙◌, ◌++◌, ◌≤◌, Bool, true, false, if◌then◌else◌, ℕ, List, [], ◌∷◌, Option, Some, None, IfSome, IsTrue, length, take, drop, fold, refl, subst, sym, ap, arith}
-use Rattle.std.proofs.Math.Seq.{take-append_seam}
-use Rattle.std.proofs.lemmas.List.Elements.{All-cons, All-head, All-nil, All-tail}
-use Rattle.std.specs.List.{All}
-use Rattle.std.specs.Option.{option_map, unwrap_or}
-use Rattle.std.proofs.lemmas.Bool.{cases_Bool}
-use Rattle.std.proofs.lemmas.Cmp.{nat_list_cmp_total}
-use Rattle.std.specs.Ordering.{is_lt, ordering_reverse}
-use Rattle.std.specs.declared.cmp.Ordering.{Ordering}
+use Rattle.std.proofs.Math.{Bool.and_assoc, Bool.and-true, Seq.take-append_seam}
+use Rattle.std.proofs.lemmas.{Bool.cases_Bool, Cmp.nat_list_cmp_total, List.Elements.All-cons, List.Elements.All-head, List.Elements.All-nil, List.Elements.All-tail}
+use Rattle.std.specs.{List.All, Option.option_map, Option.unwrap_or, Ordering.is_lt, Ordering.ordering_reverse, declared.cmp.Ordering.Ordering}
 use Rattle.std.specs.declared.cmp.Ordering.TheVariants.{Less, Equal, Greater}
-use Rattle.version_order.specs.keys.Lists.{bytes_cmp}
-use Rattle.version_rules.proofs.lemmas.Range.{common_in, list_exact, list_in}
-use Rattle.version_rules.proofs.lemmas.Requirement.{Asked, others_decide}
-use Rattle.version_rules.specs.requirement.Matching.{Matches, MatchesAll}
-use Rattle.version_rules.specs.requirement.Requirements.{before_others, comma, requirements_of}
+use Rattle.version_order.specs.keys.{Lists.bytes_cmp, Sinks.put_at}
+use Rattle.version_rules.proofs.lemmas.{Range.common_in, Range.list_exact, Range.list_in, Requirement.Asked, Requirement.others_decide}
 use Rattle.version_rules.specs.requirement.Range.{IsIn, PlainRange, common, earlier_high, everything, later, range_of, requirement_range}
-use Rattle.version_rules.specs.requirement.Requirement.{PlainRequirement, requirement_of}
-use Rattle.version_rules.specs.grammar.Versioning.{PlainVersioning}
+use Rattle.version_rules.specs.{grammar.Versioning.PlainVersioning, requirement.Matching.Matches, requirement.Matching.MatchesAll, requirement.Requirement.PlainRequirement, requirement.Requirement.requirement_of}
+use Rattle.version_rules.specs.requirement.Requirements.{before_others, comma, requirements_of}
 use Rattle.version_order.proofs.lemmas.Sinks.{put_fits}
 use Rattle.version_texts.proofs.lemmas.scan.Spelled.{split-append}
 use Rattle.version_texts.specs.Requirement.{list_of}
-use Rattle.version_order.specs.keys.Sinks.{put_at}
+use Rattle.std.proofs.Common.{◌≡◌, ◌↔◌, ◌∙◌, ◌++◌, ◌≤◌, Bool, true, false, if◌then◌else◌, ℕ, List, [], ◌∷◌, Option, Some, None, IfSome, IsTrue, length, take, drop, fold, refl, subst, sym, ap, arith}
 
 -- bytes that fit are the first bytes of the buffer that they are written into
 pub written : (room bytes : List ℕ) → length bytes ≤ length room
@@ -43,12 +33,7 @@ module _ (test : List ℕ → List ℕ → Bool)
   choose_in_turn a b c = grind (arith, cases_Bool)
 
 less : (a b : List ℕ) → is_lt (bytes_cmp a b) ≡ true → bytes_cmp a b ≡ Less
-less a b = by (bytes_cmp a b)
-  where
-    by : (r : Ordering) → is_lt r ≡ true → r ≡ Less
-    by Less e = refl
-    by Equal e = cc e
-    by Greater e = cc e
+less a b = grind arith
 
 less_in_turn : (a b c : List ℕ) → is_lt (bytes_cmp a b) ≡ true → is_lt (bytes_cmp b c) ≡ true
     → is_lt (bytes_cmp a c) ≡ true
@@ -77,10 +62,7 @@ later_in_turn =
 high_in_turn : (a b c : Option (List ℕ))
     → earlier_high (earlier_high a b) c ≡ earlier_high a (earlier_high b c)
 high_in_turn None b c = refl
-high_in_turn (Some a) (Some b) (Some c) =
-    ap Some (choose_in_turn (λ a b. is_lt (bytes_cmp b a))
-    (λ a b c first second. less_in_turn c b a second first)
-    (λ a b c first second. not_less_in_turn c b a second first) a b c)
+high_in_turn (Some a) (Some b) (Some c) = grind (arith, choose_in_turn, less_in_turn, not_less_in_turn)
 high_in_turn a b c = refl
 
 -- of three ranges either two may be taken first
@@ -160,16 +142,7 @@ list_of-append [] ys = by (list_of ys)
     by : (o : Option (List PlainRequirement)) → o ≡ both (Some []) o
     by None = refl
     by (Some list) = refl
-list_of-append (piece ∷ xs) ys =
-    ap (before_others (requirement_of piece)) (list_of-append xs ys)
-    ∙ by (requirement_of piece) (list_of xs) (list_of ys)
-  where
-    by : (first : Option PlainRequirement) (a b : Option (List PlainRequirement))
-        → before_others first (both a b) ≡ both (before_others first a) b
-    by None a b = refl
-    by (Some r) None b = refl
-    by (Some r) (Some xs) None = refl
-    by (Some r) (Some xs) (Some ys) = refl
+list_of-append (piece ∷ xs) ys = grind (arith, list_of-append xs ys)
 
 -- the ranges of the halves of a text, which may not parse, give that of the text
 module _ (text front behind : List ℕ) (halved : text ≡ front ++ comma ∷ behind) where
@@ -178,36 +151,16 @@ module _ (text front behind : List ℕ) (halved : text ≡ front ++ comma ∷ be
 
   pub front_fails : None ≡ option_map range_of (requirements_of front)
       → None ≡ option_map range_of (requirements_of text)
-  front_fails e = rw read_both (by (requirements_of front) (requirements_of behind) e)
-    where
-      by : (a b : Option (List PlainRequirement)) → None ≡ option_map range_of a
-          → None ≡ option_map range_of (both a b)
-      by None b e = refl
-      by (Some xs) b e = cc e
+  front_fails e = grind (arith, read_both)
 
   pub behind_fails : None ≡ option_map range_of (requirements_of behind)
       → None ≡ option_map range_of (requirements_of text)
-  behind_fails e = rw read_both (by (requirements_of front) (requirements_of behind) e)
-    where
-      by : (a b : Option (List PlainRequirement)) → None ≡ option_map range_of b
-          → None ≡ option_map range_of (both a b)
-      by None b e = refl
-      by (Some xs) None e = refl
-      by (Some xs) (Some ys) e = cc e
+  behind_fails e = grind (arith, read_both)
 
   pub both_parse : (a b : PlainRange) → Some a ≡ option_map range_of (requirements_of front)
       → Some b ≡ option_map range_of (requirements_of behind)
       → Some (common a b) ≡ option_map range_of (requirements_of text)
-  both_parse a b e f = rw read_both (by (requirements_of front) (requirements_of behind) e f)
-    where
-      by : (s t : Option (List PlainRequirement)) → Some a ≡ option_map range_of s
-          → Some b ≡ option_map range_of t → Some (common a b) ≡ option_map range_of (both s t)
-      by None t e f = cc e
-      by (Some xs) None e f = cc f
-      by (Some xs) (Some ys) e f =
-          let first : a ≡ range_of xs = cc e in
-          let second : b ≡ range_of ys = cc f in
-          (λ i. Some (common (first i) (second i))) ∙ ap Some (sym (range_of-append xs ys))
+  both_parse a b e f = grind (arith, read_both, range_of-append)
 
 -- a version in the range of a list is in the range of each member
 pub in_each : (list : List PlainRequirement) (range : PlainRange) (v : PlainVersioning)
@@ -252,16 +205,11 @@ module _ (spelled : Option (List PlainRequirement)) (range : PlainRange) (v : Pl
 
   -- a version in the range is in the range of each member
   pub inside_each : IsIn range v → IfSome spelled (All (λ r. IsIn (requirement_range r) v))
-  inside_each inside =
-      rw held.spelled_is
-      (in_each held.list everything v (subst (λ q. IsIn q v) (sym held.range_is) inside)).1
+  inside_each inside = grind (arith, in_each)
 
   -- if the range is exact, each member matches what is in it
   pub exact_decides : IsTrue range.is_exact → IsIn range v → MatchesAll (unwrap_or spelled []) v
-  exact_decides exact inside =
-      rw held.spelled_is
-      (list_exact held.list v (subst (λ q. IsTrue q.is_exact) (sym held.range_is) exact)
-      (subst (λ q. IsIn q v) (sym held.range_is) inside))
+  exact_decides exact inside = grind (arith, list_exact)
 
   -- what is outside is matched by no list
   pub outside_decides : ¬ (IsIn range v) → ¬ (MatchesAll (unwrap_or spelled []) v)

@@ -1,36 +1,23 @@
 -- The sections of a messy version are the pieces of its text between its signs.
 use Rattle.std.proofs.Math.Bool.{and-false as and_false}
-use Rattle.std.proofs.Common.{◌≡◌, ◌∙◌, if◌then◌else◌, ℕ, true, false, List, [], ◌∷◌, ◌++◌, map, Some, None, refl, ap, append-nil, arith, ◌==◌, ◌&&◌, ◌+◌, ◌<◌, Bool, drop, length, Option, sym, inl, inr, subst, append_assoc}
-use Rattle.std.proofs.lemmas.Bool.Decides.{nat_tests}
-use Rattle.std.proofs.lemmas.List.Folds.{list_all-append}
-use Rattle.std.proofs.lemmas.List.Splits.{slice_split_at, slice_split_none}
-use Rattle.std.specs.List.{list_all, slice_split}
-use Rattle.std.specs.Str.Parse.{digits_value}
-use Rattle.version_order.specs.texts.Bytes.{dot, is_section_byte, colon}
-use Rattle.version_order.specs.texts.DigitRun.{is_digits}
+use Rattle.std.proofs.lemmas.Bool.{cases_Bool, ne_eqb, and_parts, eqb-true, or_cases}
+use Rattle.std.proofs.lemmas.{Bool.Decides.nat_tests, List.take_rest, List.Folds.list_all-append, List.Splits.slice_split_at, List.Splits.slice_split_none}
+use Rattle.std.specs.{Char.is_ascii_alphanumeric, Cmp.second_so, List.list_all, List.slice_split, Option.option_map, Option.is_some, Prelude.slice_range, Str.Parse.digits_value}
 use Rattle.version_order.specs.texts.Grammar.{SpellsDotted, SpellsEach, EndsRun, PlainSep, Colon, is_sep, sep_byte}
-use Rattle.version_rules.specs.key.PartKey.{section_parts}
-use Rattle.version_rules.proofs.lemmas.MChunk.{mchunk_printed, section_printed, byte_of_sep, mchunk_sound, spelled_run, spelled_some}
-use Rattle.version_order.proofs.lemmas.Front.{all_weaker, run_front-reads, cases_Option}
-use Rattle.version_rules.specs.key.Key.{section_epoch, key_behind_epoch, key_from_first, key_of_sections, mess_epoch, sections_tail}
+use Rattle.version_order.specs.texts.{Bytes.dot, Bytes.is_section_byte, Bytes.colon, Class.is_mark, Front.is_digits, Front.begins, Front.run_front, Front.is_run}
 use Rattle.version_rules.specs.grammar.Mess.{Further, Section, SpellsFurther, SpellsSection, PlainMess, SpellsMess, joined_section, mess_of}
-use Rattle.version_order.specs.texts.Class.{is_mark}
-use Rattle.version_texts.specs.declared.scan.shape.TailKind.TheVariants.{Sections, Nothing}
+use Rattle.version_rules.specs.key.Key.{section_epoch, key_behind_epoch, key_from_first, key_of_sections, mess_epoch, sections_tail}
+use Rattle.version_rules.specs.{grammar.MChunk.PlainMChunk, grammar.MChunk.SpellsMChunk, grammar.MChunk.chunk_before, grammar.MChunk.mchunk_front, key.PartKey.section_parts}
+use Rattle.version_rules.proofs.lemmas.MChunk.{mchunk_printed, section_printed, byte_of_sep, mchunk_sound, spelled_run, spelled_some}
+use Rattle.version_rules.proofs.lemmas.Mess.{mess_of-Some, mess_of-spells}
+use Rattle.version_order.proofs.lemmas.Front.{all_weaker, run_front-reads, cases_Option}
 use Rattle.version_texts.specs.Scan.{is_tail_byte, Fits, TailFits, behind_body, body_end, shape_at, tail_kind, is_messy}
-use Rattle.version_texts.specs.Key.{parts_of, sections_of, tail_of, tail_of_sections}
+use Rattle.version_texts.specs.{Key.parts_of, Key.sections_of, Key.tail_of, Key.tail_of_sections, declared.scan.shape.TailKind.TheVariants.Sections}
 use Rattle.version_texts.proofs.lemmas.scan.Shape.{IsCut, behind_body-is, cut_behind_epoch, cut_without_epoch, is_colon, IsCounted, IsEpoch, behind_taken, body_ordered, body_taken, epoch_taken, length_cut, no_epoch_taken, none_taken}
 use Rattle.version_texts.proofs.lemmas.scan.Spelled.{NonePass, all_pass, none_pass, section_bytes, section_parts-is, run_from, run_some, told_by_test, JoinedBy, both_pass, dotted_more, dotted_one, dotted_pass, split_is_joined, split_run}
-use Rattle.std.proofs.lemmas.Bool.{cases_Bool, ne_eqb, and_parts, eqb-true, or_cases}
-use Rattle.std.proofs.lemmas.List.{take_rest}
-use Rattle.std.specs.Cmp.{second_so}
-use Rattle.std.specs.Option.{option_map, is_some}
-use Rattle.std.specs.Prelude.{slice_range}
-use Rattle.version_order.specs.texts.Front.{begins, run_front, is_run}
-use Rattle.version_rules.specs.declared.kind.Kind.TheVariants as kind
-use Rattle.std.specs.Char.{is_ascii_alphanumeric}
-use Rattle.version_rules.specs.grammar.MChunk.{PlainMChunk, SpellsMChunk, chunk_before, mchunk_front}
-use Rattle.version_rules.proofs.lemmas.Mess.{mess_of-Some, mess_of-spells}
 use Rattle.version_texts.proofs.lemmas.scan.Section.{no_mark_in_run}
+use Rattle.std.proofs.Common.{◌≡◌, ◌∙◌, if◌then◌else◌, ℕ, true, false, List, [], ◌∷◌, ◌++◌, map, Some, None, refl, ap, append-nil, arith, ◌==◌, ◌&&◌, ◌+◌, ◌<◌, Bool, drop, length, Option, sym, inl, inr, subst, append_assoc}
+use Rattle.version_rules.specs.declared.kind.Kind.TheVariants as kind
 
 -- ---- signs
 
@@ -78,11 +65,7 @@ pub sections_are : (text rest : List ℕ) (chunks : Section) (more : List Furthe
     → sections_of (text ++ rest)
     ≡ section_parts chunks ∷ map (λ further. section_parts further.1) more
 sections_are text rest chunks [] s none =
-    let whole : text ++ rest ≡ text =
-    ap (λ (l : List ℕ). text ++ l) (no_further rest none) ∙ append-nil text in
-    ap sections_of whole
-    ∙ ap (map parts_of) (slice_split_none is_sep text (section_unsigned text chunks s))
-    ∙ λ i. section_parts-is text chunks s i ∷ []
+    grind (arith, rest, no_further, append-nil, slice_split_none, section_unsigned, chunks, section_parts-is)
 sections_are text rest chunks (f ∷ more) s others =
     let next = further_text-is rest f more others in
     ap (λ (l : List ℕ). sections_of (text ++ l)) next.2
@@ -208,9 +191,7 @@ messy_cut : (text first rest : List ℕ) (chunks : Section) (more : List Further
     → text ≡ first ++ rest → SpellsSection first chunks → SpellsEach SpellsFurther rest more
     → IsMessCut text chunks more
 messy_cut text first rest chunks [] whole s each =
-    without_epoch text first rest chunks [] whole s each
-    (no_epoch (is_digits first) rest (ap (begins is_colon) (no_further rest each))) (alone _ chunks)
-    refl
+    grind (arith, without_epoch, rest, chunks, no_epoch, is_colon, no_further, alone)
 messy_cut text first rest chunks ((Colon, section) ∷ more) whole s each =
     elim (cases_Bool (is_digits first)) [
       | inl digits ↦ behind_epoch text first rest chunks section more whole s each digits
@@ -220,10 +201,7 @@ messy_cut text first rest chunks ((Colon, section) ∷ more) whole s each =
           (rw (section_epoch-is first chunks s, other) refl)
     ]
 messy_cut text first rest chunks ((sign, section) ∷ more) whole s each =
-    let next = further_text-is rest (sign, section) more each in
-    without_epoch text first rest chunks ((sign, section) ∷ more) whole s each
-    (no_epoch (is_digits first) rest (ap (begins is_colon) next.2))
-    (apart _ chunks sign section more refl) (uncounted chunks sign section more refl)
+    grind (arith, further_text-is, rest, more, without_epoch, chunks, no_epoch, is_colon, apart, uncounted)
 
 -- a messy version is cut into its sections
 pub mess_cut : (text : List ℕ) (m : PlainMess) → SpellsMess text m → IsMessCut text m.first m.more
@@ -246,12 +224,7 @@ IsMessTail text more =
 mess_tail : (text epoch body rest : List ℕ) (more : List Further) → IsCut text epoch body rest
     → SpellsEach SpellsFurther rest more → IsMessTail text more
 mess_tail text epoch body rest [] cut each =
-    let none : rest ≡ [] = no_further rest each in
-    let behind : behind_body text ≡ [] = behind_body-is text epoch body rest cut ∙ none in
-    let count : length rest ≡ 0 = ap (λ (l : List ℕ). length l) none in
-    let end : body_end text ≡ length text = omega (arith, length_cut text epoch body rest cut) in
-    let kind_is : tail_kind kind.Complex text ≡ Nothing = rw behind refl in
-    (rw kind_is refl, rw kind_is end, rw (kind_is, ← end, none_taken text epoch body rest cut) refl)
+    grind (arith, rest, no_further, behind_body-is, epoch, body, cut, length_cut, none_taken)
 mess_tail text epoch body rest (further ∷ more) cut each =
     let next = further_text-is rest further more each in
     let tail = next.0 ++ next.1 in
@@ -413,9 +386,7 @@ pieces_spell : (text : List ℕ) (parts : List (List ℕ)) → JoinedBy is_mark 
     → list_all (is_run is_ascii_alphanumeric) parts ≡ true → Spelled text
 unfolding JoinedBy
 pieces_spell text [] j passes = absurd j
-pieces_spell text (first ∷ []) j passes =
-    let chunk = run_spells first (and_parts _ _ passes).0 in
-    subst Spelled (sym j) (one_chunk first chunk.0 chunk.1)
+pieces_spell text (first ∷ []) j passes = grind (arith, run_spells, and_parts, one_chunk)
 pieces_spell text (first ∷ next ∷ more) j passes =
     let both =
     and_parts (is_run is_ascii_alphanumeric first)

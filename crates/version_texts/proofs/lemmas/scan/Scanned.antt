@@ -1,28 +1,16 @@
 -- A messy text, behind its body.
 use Rattle.std.proofs.Math.Bool.{and-true}
-use Rattle.std.proofs.Common.{◌&&◌, ◌≡◌, ◌≢◌, ◌==◌, ◌+◌, ◌<◌, ◌≤◌, ◌∙◌, ℕ, zero, suc, true, false, List, [], ◌∷◌, drop, length, Some, None, refl, ap, arith, inl, inr, Bool, zero-add, sym}
 use Rattle.std.proofs.lemmas.Bool.{cases_Bool, cases_lt, eq-eqb, ne_eqb, eqb-true}
-use Rattle.std.proofs.lemmas.List.{length-drop, take-append-drop}
-use Rattle.std.proofs.lemmas.List.Sums.{prefix_len-le-length}
-use Rattle.std.specs.Char.{is_ascii_alphanumeric, is_ascii_digit}
-use Rattle.std.specs.Cmp.{first_so, second_so}
-use Rattle.std.specs.List.{list_all, prefix_len, join_with_byte, take_while}
-use Rattle.std.specs.Option.{option_map}
-use Rattle.version_order.proofs.lemmas.Bytes.{digits_alphanumeric}
-use Rattle.version_order.specs.texts.Bytes.{colon, dot, is_section_byte}
-use Rattle.version_order.specs.texts.DigitRun.{starts_with_digit, is_digits}
-use Rattle.version_order.specs.texts.Front.{begins, is_run}
+use Rattle.std.proofs.lemmas.{Bool.Decides.nat_tests, List.length-drop, List.take-append-drop, List.Splits.join_with_byte-slice_split, List.Splits.slice_split_none, List.Sums.prefix_len-le-length}
+use Rattle.std.specs.{Char.is_ascii_alphanumeric, Char.is_ascii_digit, Cmp.first_so, Cmp.second_so, List.list_all, List.prefix_len, List.join_with_byte, List.take_while, Option.option_map}
+use Rattle.version_order.proofs.lemmas.{Bytes.digits_alphanumeric, Front.begins-drop, Front.list_all-take_while, Runs.behind_mark, Runs.behind_run, Runs.larger_run, Runs.and-false}
+use Rattle.version_order.specs.texts.{Bytes.colon, Bytes.dot, Bytes.is_section_byte, Cuts.pieces, Front.starts_with_digit, Front.is_digits, Front.begins, Front.is_run}
 use Rattle.version_rules.specs.declared.kind.Kind.TheVariants.{Complex}
 use Rattle.version_texts.specs.Scan.{behind_body, body_end, body_start, digits_len, from_body, has_epoch, shape_at, are_marked_runs, body_of, is_general, is_messy, kind_in, section_end, section_pieces, epoch_is_numeral, has_three_numbers, is_chunk, is_numeral}
-use Rattle.version_order.specs.texts.Cuts.{pieces}
 use Rattle.version_texts.specs.declared.scan.shape.TailKind.TheVariants.{Nothing, Sections}
 use Rattle.version_texts.proofs.lemmas.scan.Section.{messy_empty, messy_next, empty_piece, end_last, end_next, pieces_last, pieces_next, run_some, chunk_digits, begun_some}
-use Rattle.version_order.proofs.lemmas.Runs.{behind_mark, behind_run, larger_run, and-false}
-use Rattle.std.proofs.lemmas.Bool.Decides.{nat_tests}
-use Rattle.std.proofs.lemmas.List.Splits.{join_with_byte-slice_split, slice_split_none}
-use Rattle.version_order.proofs.lemmas.Front.{begins-drop, list_all-take_while}
-use Rattle.version_texts.proofs.lemmas.scan.Spelled.{none_pass}
-use Rattle.version_texts.proofs.lemmas.scan.Shape.{has_epoch-append}
+use Rattle.version_texts.proofs.lemmas.scan.{Shape.has_epoch-append, Spelled.none_pass}
+use Rattle.std.proofs.Common.{◌&&◌, ◌≡◌, ◌≢◌, ◌==◌, ◌+◌, ◌<◌, ◌≤◌, ◌∙◌, ℕ, zero, suc, true, false, List, [], ◌∷◌, drop, length, Some, None, refl, ap, arith, inl, inr, Bool, zero-add, sym}
 
 -- a section that is messy is runs, and what follows it is marked runs
 messy_section : (n : ℕ) (text : List ℕ) (place : ℕ) → length text < place + n
@@ -30,15 +18,7 @@ messy_section : (n : ℕ) (text : List ℕ) (place : ℕ) → length text < plac
     ≡ (list_all (is_run is_ascii_alphanumeric) (section_pieces text place)
     && are_marked_runs (drop (section_end text place) text))
 messy_section zero text place enough =
-    elim (cases_lt 0 (prefix_len is_ascii_alphanumeric (drop place text))) [
-      | inl some ↦ absurd (omega (
-        arith,
-        prefix_len-le-length is_ascii_alphanumeric (drop place text),
-        length-drop place text,
-      ))
-      | inr none ↦
-          rw (empty_piece text place (omega arith)) (messy_empty (drop place text) (omega arith))
-    ]
+    grind (arith, cases_lt, prefix_len-le-length, length-drop, empty_piece, messy_empty)
 messy_section (suc n) text place enough =
     elim (cases_lt 0 (prefix_len is_ascii_alphanumeric (drop place text))) [
       | inl some ↦
@@ -94,10 +74,7 @@ messy_epoch text digit colons =
 
 pub messy_behind_epoch : (text : List ℕ) → is_messy text ≡ is_messy (from_body text)
 unfolding body_start
-messy_behind_epoch text = elim (cases_Bool (has_epoch text)) [
-  | inl epoch ↦ rw epoch (messy_epoch text (first_so _ _ epoch) (second_so _ _ epoch))
-  | inr none ↦ rw none refl
-]
+messy_behind_epoch text = grind (arith, cases_Bool, messy_epoch, first_so, second_so)
 
 -- ---- the shape of a text that is not general
 
@@ -126,10 +103,7 @@ module _ (text : List ℕ)
           tail_end = length text;
         })
         ≡ option_map (λ k. shape_at k text) (kind_in text)
-    ended whole =
-        let none : (length (behind_body text) == 0) ≡ true =
-        eq-eqb _ _ (omega (arith, length-drop (body_end text) text)) in
-        rw (complex_kind passes, none, body_is, end_is) refl
+    ended whole = grind (arith, eq-eqb, length-drop, complex_kind)
 
     pub goes_on : end ≢ length text
         → Some (record {
@@ -141,10 +115,7 @@ module _ (text : List ℕ)
           tail_end = length text;
         })
         ≡ option_map (λ k. shape_at k text) (kind_in text)
-    goes_on more =
-        let some : (length (behind_body text) == 0) ≡ false =
-        ne_eqb _ _ (omega (arith, length-drop (body_end text) text)) in
-        rw (complex_kind passes, some, body_is, end_is) refl
+    goes_on more = grind (arith, ne_eqb, length-drop, complex_kind)
 
 -- ---- what a text is by its first section
 
@@ -196,11 +167,7 @@ module _ (text : List ℕ) (epoch : has_epoch text ≡ true) where
   epoch_chunk = grind (arith, chunk_digits, run_len, begun_some, digit, all, epoch_piece, and-true)
 
   pub epoch_runs : list_all (is_run is_ascii_alphanumeric) (section_pieces text 0) ≡ true
-  epoch_runs = rw (
-    epoch_piece,
-    rw run_len at (run_some is_ascii_alphanumeric text (rw run_len (begun_some is_ascii_digit text digit))),
-  )
-      refl
+  epoch_runs = grind (arith, epoch_piece, run_len, run_some, begun_some, digit)
 
 no_dot_in_digits : (b : ℕ) → is_ascii_digit b ≡ true → (b == dot) ≡ false
 no_dot_in_digits b h = grind (arith, nat_tests)
@@ -298,10 +265,7 @@ bad_body text bad =
 pub bad_first : (text : List ℕ)
     → list_all (is_run is_ascii_alphanumeric) (section_pieces text 0) ≡ false
     → list_all (is_run is_ascii_alphanumeric) (pieces (body_of text)) ≡ false
-bad_first text bad = elim (cases_Bool (has_epoch text)) [
-  | inl epoch ↦ cc (sym bad ∙ epoch_runs text epoch)
-  | inr none ↦ rw (same_pieces text none) at bad
-]
+bad_first text bad = grind (arith, cases_Bool, epoch_runs, same_pieces)
 
 pub body_end-section : (text : List ℕ) → section_end text (body_start text) ≡ body_end text
 unfolding body_end

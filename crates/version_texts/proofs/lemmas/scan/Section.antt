@@ -1,21 +1,14 @@
 -- The pieces of a section, from a place of a text on.
-use Rattle.std.proofs.Common.{◌≡◌, ◌==◌, ◌&&◌, ◌+◌, ℕ, Bool, true, false, List, [], ◌∷◌, drop, refl, sym, ◌∙◌, arith, ◌≢◌, get_or, ◌<◌, length, ap, inl, inr}
+use Rattle.std.proofs.Common.{◌≡◌, ◌==◌, ◌&&◌, ◌+◌, ℕ, Bool, true, false, List, [], ◌∷◌, drop, refl, sym, ◌∙◌, arith, ◌≢◌, get_or, ◌<◌, length, inl, inr}
 use Rattle.std.proofs.lemmas.Bool.{cases_Bool, eq-eqb, eqb-true, ne_eqb, and_from, or_right}
-use Rattle.std.proofs.lemmas.Bool.Decides.{nat_tests}
-use Rattle.std.specs.Char.{is_ascii_alphanumeric, is_ascii_digit}
-use Rattle.std.specs.List.{list_all, prefix_len, take_while}
+use Rattle.std.proofs.lemmas.{Bool.Decides.nat_tests, List.drop_all, List.length-drop, List.Folds.length-prefix_len, List.Sums.prefix_len-le-length}
+use Rattle.std.specs.{Char.is_ascii_alphanumeric, Char.is_ascii_digit, Cmp.first_so, List.list_all, List.prefix_len, List.take_while}
+use Rattle.version_order.proofs.lemmas.Runs.{behind_mark, behind_run, larger_run, last_piece, next_piece, run_in_section, at_byte, begins_within, and-false, split_end, split_mark, split_other, run_is as is_run_of}
 use Rattle.version_order.proofs.lemmas.Front.{begins-drop, list_all-take_while}
 use Rattle.version_order.specs.texts.Bytes.{dot, is_section_byte, colon, hyphen, plus, is_metadata_byte}
-use Rattle.version_order.specs.texts.Front.{begins, is_run}
+use Rattle.version_order.specs.texts.{Class.byte_rank, Class.first_rank, Class.is_mark, Front.begins, Front.is_run, Front.is_digits, Front.starts_with_digit}
 use Rattle.version_texts.specs.Scan.{section_end, section_pieces, is_chunk, is_numeral, are_marked_runs, is_messy, is_metadata_tail}
-use Rattle.version_order.proofs.lemmas.Runs.{behind_mark, behind_run, larger_run, last_piece, next_piece, run_in_section, at_byte, begins_within, and-false, split_end, split_mark, split_other, run_is as is_run_of}
-use Rattle.version_order.specs.texts.Class.{byte_rank, first_rank, is_mark}
 use Rattle.std.proofs.Math.Bool.{or-false, and_assoc, and-true}
-use Rattle.std.proofs.lemmas.List.Folds.{length-prefix_len}
-use Rattle.std.specs.Cmp.{first_so}
-use Rattle.version_order.specs.texts.DigitRun.{is_digits, starts_with_digit}
-use Rattle.std.proofs.lemmas.List.{drop_all, length-drop}
-use Rattle.std.proofs.lemmas.List.Sums.{prefix_len-le-length}
 
 pub no_dot_in_run : (b : ℕ) → is_ascii_alphanumeric b ≡ true → (b == dot) ≡ false
 no_dot_in_run b h = grind (arith, nat_tests)
@@ -201,9 +194,7 @@ module _ (text : List ℕ) (place : ℕ) (inside : place < length text) where
 
     pub marked_next : end ≢ place + 1
         → are_marked_runs (drop place text) ≡ are_marked_runs (drop end text)
-    marked_next longer =
-        let behind = behind_run is_ascii_alphanumeric text (place + 1) end end_is in
-        from_mark ∙ messy_next (drop (place + 1) text) (omega arith) ∙ ap are_marked_runs behind
+    marked_next longer = grind (arith, behind_run, from_mark, messy_next)
 
     pub marked_empty : end ≡ place + 1 → are_marked_runs (drop place text) ≡ false
     marked_empty same = from_mark ∙ messy_empty (drop (place + 1) text) (omega arith)

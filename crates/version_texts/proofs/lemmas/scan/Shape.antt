@@ -1,36 +1,17 @@
 -- The pieces of a text by its shape, and that the shape of a version fits its text.
-use Rattle.version_rules.proofs.lemmas.Numeral.{numeral_printed}
+use Rattle.version_rules.proofs.lemmas.{Numeral.numeral_printed, SemVer.optional_begins, Versioning.strict_is_general}
 use Rattle.std.proofs.Math.Bool.{and-false as and_false}
-use Rattle.std.proofs.Common.{◌≡◌, ◌==◌, ◌&&◌, ◌+◌, ◌∙◌, ℕ, Bool, true, false, List, [], ◌∷◌, ◌++◌, drop, length, refl, sym, ap, arith, inl, inr, append_assoc, length-append, ◌-◌, ◌<◌, ◌≤◌, if◌then◌else◌, take, Option, Some, None, subst, append-nil}
-use Rattle.std.proofs.lemmas.Bool.{cases_Bool}
-use Rattle.std.proofs.lemmas.Bool.Decides.{nat_tests}
-use Rattle.std.proofs.lemmas.List.{drop_at, drop-drop, take_at}
-use Rattle.std.specs.Char.{is_ascii_digit}
-use Rattle.std.specs.Cmp.{first_so, second_so}
-use Rattle.std.specs.List.{list_all, prefix_len}
+use Rattle.std.proofs.lemmas.{Bool.cases_Bool, Bool.Decides.nat_tests, List.drop_at, List.drop-drop, List.take_at, List.Sums.prefix_len-le-length}
+use Rattle.std.specs.{Char.is_ascii_digit, Cmp.first_so, Cmp.second_so, List.list_all, List.prefix_len, Option.unwrap_or, Prelude.slice_range, Str.Parse.digits_value}
 use Rattle.version_order.specs.texts.Bytes.{colon, is_section_byte, hyphen, is_metadata_byte, plus}
-use Rattle.version_order.specs.texts.DigitRun.{is_digits}
-use Rattle.version_order.specs.texts.Front.{begins}
-use Rattle.version_order.specs.texts.Grammar.{EndsRun, SpellsOptional}
-use Rattle.version_order.proofs.lemmas.Front.{prefix_len-append, all_weaker}
-use Rattle.version_order.proofs.lemmas.Runs.{run_cons, run_none}
+use Rattle.version_order.specs.texts.{Front.is_digits, Front.begins, Grammar.EndsRun, Grammar.SpellsOptional}
+use Rattle.version_order.proofs.lemmas.{Front.prefix_len-append, Front.all_weaker, Runs.run_cons, Runs.run_none}
 use Rattle.version_texts.specs.Scan.{behind_body, body_end, body_start, digits_len, from_body, has_epoch, Fits, TailFits, is_tail_byte, shape_at, tail_in, is_not_plus}
-use Rattle.std.proofs.lemmas.List.Sums.{prefix_len-le-length}
-use Rattle.std.specs.Option.{unwrap_or}
-use Rattle.std.specs.Prelude.{slice_range}
-use Rattle.std.specs.Str.Parse.{digits_value}
-use Rattle.version_rules.specs.grammar.Chunk.{PlainChunk}
-use Rattle.version_rules.specs.grammar.Release.{SpellsMetadata, SpellsRelease}
-use Rattle.version_rules.specs.declared.kind.Kind.{Kind}
-use Rattle.version_rules.specs.grammar.Conversions.{version_of_semver}
-use Rattle.version_rules.specs.grammar.SemVer.{PlainSemVer, SpellsSemVer}
+use Rattle.version_texts.specs.declared.scan.shape.{Shape.Shape, TailKind.TailKind, TailKind.TheVariants.Nothing, TailKind.TheVariants.Release}
+use Rattle.version_rules.specs.{declared.kind.Kind.Kind, grammar.Body.SpellsMetadata, grammar.Body.SpellsRelease, grammar.Chunk.PlainChunk, grammar.SemVer.PlainSemVer, grammar.SemVer.SpellsSemVer}
 use Rattle.version_rules.specs.grammar.Version.{PlainVersion, SpellsEpoch, SpellsVersion, epoch_text}
-use Rattle.version_rules.proofs.lemmas.SemVer.{optional_begins}
-use Rattle.version_rules.proofs.lemmas.Versioning.{strict_is_general}
-use Rattle.version_texts.specs.declared.scan.shape.Shape.{Shape}
-use Rattle.version_texts.specs.declared.scan.shape.TailKind.{TailKind}
-use Rattle.version_texts.specs.declared.scan.shape.TailKind.TheVariants.{Nothing, PreRelease, Release}
 use Rattle.version_texts.proofs.lemmas.scan.Spelled.{digits_from, body_bytes, release_bytes}
+use Rattle.std.proofs.Common.{◌≡◌, ◌==◌, ◌&&◌, ◌+◌, ◌∙◌, ℕ, Bool, true, false, List, [], ◌∷◌, ◌++◌, drop, length, refl, sym, ap, arith, inl, inr, append_assoc, length-append, ◌-◌, ◌<◌, ◌≤◌, if◌then◌else◌, take, Option, Some, None, append-nil, rules}
 use Rattle.version_rules.specs.declared.kind.Kind.TheVariants as kind
 
 -- ---- where the body of a text lies, if the text is cut into an epoch, a body and a rest
@@ -120,16 +101,12 @@ cut_behind_epoch text digits body rest whole run bytes ends =
 module _ (text epoch body rest : List ℕ) (cut : IsCut text epoch body rest) where
   -- the text from the body on
   pub from_body-is : from_body text ≡ body ++ rest
-  from_body-is =
-      ap (λ (n : ℕ). drop n text) cut.starts ∙ ap (drop (length epoch)) cut.whole
-      ∙ drop_at epoch (body ++ rest) (length epoch) refl
+  from_body-is = grind (arith, drop_at)
 
   -- where the body ends
   pub body_end-is : body_end text ≡ length epoch + length body
   unfolding body_end
-  body_end-is =
-      rw (from_body-is, cut.starts, prefix_len-append is_section_byte body rest cut.bytes cut.ends)
-      refl
+  body_end-is = grind (arith, from_body-is, prefix_len-append)
 
   -- the text behind the body
   pub behind_body-is : behind_body text ≡ rest
@@ -194,12 +171,9 @@ epoch_cut : (text epoch body rest : List ℕ) (o : Option ℕ) → SpellsEpoch e
     → EndsRun is_section_byte rest → begins is_colon rest ≡ false → IsCut text epoch body rest
 unfolding SpellsEpoch
 epoch_cut text epoch body rest None s whole bytes ends no_colon =
-    rw s (cut_without_epoch text body rest (rw s at whole) bytes ends
-    (ap (λ t. is_digits body && t) no_colon ∙ and_false (is_digits body)))
+    grind (arith, cut_without_epoch, whole, bytes, ends, and_false)
 epoch_cut text epoch body rest (Some n) s whole bytes ends no_colon =
-    let behind : text ≡ s.0 ++ colon ∷ (body ++ rest) =
-    rw s.1 at whole ∙ append_assoc s.0 (colon ∷ []) (body ++ rest) in
-    rw s.1 (cut_behind_epoch text s.0 body rest behind (digits_from s.0 n s.2) bytes ends)
+    grind (arith, whole, append_assoc, cut_behind_epoch, digits_from, bytes, ends)
 
 module _ (text : List ℕ) (v : PlainVersion) (s : SpellsVersion text v) where
   pub no_meta : (test : ℕ → Bool) → test plus ≡ false → begins test s.meta ≡ false
@@ -213,10 +187,7 @@ module _ (text : List ℕ) (v : PlainVersion) (s : SpellsVersion text v) where
 
   -- a general version is cut behind its epoch and its body
   pub version_cut : IsCut text s.epoch s.body (s.release ++ s.meta)
-  version_cut =
-      epoch_cut text s.epoch s.body (s.release ++ s.meta) v.epoch s.epoch_is s.whole
-      (body_bytes s.body (v.chunks, v.last) s.body_is)
-      (no_tail is_section_byte refl refl) (no_tail is_colon refl refl)
+  version_cut = search (rules, epoch_cut, body_bytes, no_tail)
 
 -- ---- what follows the body of a general version
 
@@ -256,34 +227,14 @@ dashed : (text epoch body release meta : List ℕ) (o : Option (List PlainChunk)
     → IsCut text epoch body (release ++ meta) → SpellsOptional hyphen SpellsRelease release o
     → begins is_hyphen meta ≡ false → begins is_not_plus meta ≡ false → IsDashed text o
 unfolding SpellsOptional
-dashed text epoch body release meta None cut s no_hyphen no_byte =
-    let behind : behind_body text ≡ meta =
-    behind_body-is text epoch body (release ++ meta) cut ∙ ap (λ l. l ++ meta) s in
-    let none : prefix_len is_not_plus meta ≡ 0 =
-    prefix_len-append is_not_plus [] meta refl no_byte in
-    (rw behind no_hyphen, rw (behind, none) (omega arith))
+dashed text epoch body release meta None cut s no_hyphen no_byte = grind (arith, behind_body-is, prefix_len-append)
 dashed text epoch body release meta (Some chunks) cut s no_hyphen no_byte =
-    let tail = s.0 in
-    let whole : release ++ meta ≡ hyphen ∷ (tail ++ meta) = ap (λ l. l ++ meta) s.1 in
-    let here : IsCut text epoch body (hyphen ∷ (tail ++ meta)) =
-    subst (IsCut text epoch body) whole cut in
-    let behind : behind_body text ≡ hyphen ∷ (tail ++ meta) =
-    behind_body-is text epoch body (hyphen ∷ (tail ++ meta)) here in
-    let count : prefix_len is_not_plus (hyphen ∷ (tail ++ meta)) ≡ length (hyphen ∷ tail) =
-    prefix_len-append is_not_plus (hyphen ∷ tail) meta (release_not_plus tail chunks s.2) no_byte in
-    let end : dashed_end text ≡ body_end text + length (hyphen ∷ tail) =
-    ap (λ l. body_end text + prefix_len is_not_plus l) behind ∙ ap (λ n. body_end text + n) count in
-    let taken = tail_taken text epoch body hyphen tail meta (dashed_end text) here end in
-    (rw behind refl, omega (arith, end), rw taken s.2)
+    grind (arith, behind_body-is, prefix_len-append, release_not_plus, tail_taken)
 
 -- the tail ends in the text
 pub dashed_within : (text epoch body rest : List ℕ) → IsCut text epoch body rest
     → dashed_end text ≤ length text
-dashed_within text epoch body rest cut =
-    let behind = behind_body-is text epoch body rest cut in
-    let count : prefix_len is_not_plus (behind_body text) ≤ length rest =
-    rw behind (prefix_len-le-length is_not_plus rest) in
-    omega (arith, length_cut text epoch body rest cut)
+dashed_within text epoch body rest cut = grind (arith, behind_body-is, prefix_len-le-length, length_cut)
 
 -- the bytes of the epoch are digits, of its value; and the value of no epoch is 0
 abbrev pub IsEpoch : List ℕ → ℕ → Type 0
@@ -309,12 +260,8 @@ printed_epoch text (Some n) s =
 pub epoch_is : (text epoch body rest : List ℕ) (o : Option ℕ) → IsCut text epoch body rest
     → SpellsEpoch epoch o → IsEpoch text (unwrap_or o 0)
 unfolding SpellsEpoch
-epoch_is text epoch body rest None cut s =
-    rw (no_epoch_taken text body rest (subst (λ (l : List ℕ). IsCut text l body rest) s cut))
-    (refl, refl)
-epoch_is text epoch body rest (Some n) cut s =
-    rw (epoch_taken text s.0 body rest (subst (λ (l : List ℕ). IsCut text l body rest) s.1 cut))
-    (s.2.digits, s.2.value)
+epoch_is text epoch body rest None cut s = grind (arith, no_epoch_taken)
+epoch_is text epoch body rest (Some n) cut s = grind (arith, epoch_taken)
 
 module _ (text : List ℕ) (v : PlainVersion) (s : SpellsVersion text v) where
   pub version_dashed : IsDashed text v.release
@@ -369,6 +316,4 @@ general_fits =
 -- and so does that of a strict one
 pub strict_fits : (text : List ℕ) (v : PlainSemVer) → SpellsSemVer text v
     → Fits text (shape_at kind.Ideal text)
-strict_fits text v s =
-    version_fits kind.Ideal PreRelease (λ end tail_end less. less) (λ tail all. all) text
-    (version_of_semver v) (strict_is_general text v s)
+strict_fits text v s = search (rules, version_fits, strict_is_general)

@@ -1,37 +1,16 @@
 -- The pieces of spelled texts: at which bytes a text is split, and which tests numerals, chunks and what holds them pass.
-use Rattle.std.proofs.Common.{◌≡◌, ◌∙◌, ℕ, Bool, true, false, List, [], ◌∷◌, ◌++◌, map, refl, sym, ap, ◌<◌, length, arith, inl, inr, ◌≢◌, ◌==◌, ◌^◌, ◌≤◌, ◌&&◌, ◌||◌, not, get_or, nat_lt, take, Option, Some, None, subst}
-use Rattle.std.proofs.lemmas.List.{map-append, map-id}
-use Rattle.std.proofs.lemmas.List.Elements.{All-cons, All-nil}
-use Rattle.std.proofs.lemmas.List.Folds.{list_all-append}
-use Rattle.std.proofs.lemmas.List.Splits.{slice_split_at, slice_split_none, length-slice_split}
-use Rattle.std.specs.Char.{is_ascii_alphanumeric, is_ascii_digit}
-use Rattle.std.specs.Cmp.{first_so, second_so}
-use Rattle.std.specs.List.{All, list_all, onto_first, slice_split}
-use Rattle.version_rules.specs.grammar.Body.{PlainBody, SpellsBody}
-use Rattle.version_order.specs.texts.Bytes.{dot, is_identifier_byte, is_metadata_byte, is_section_byte}
-use Rattle.version_rules.specs.grammar.Chunk.{Alphanum, Numeric, PlainChunk, SpellsChunk, SpellsChunkOf, SpellsPart, chunk_text}
-use Rattle.version_order.specs.texts.Grammar.{SpellsDotted}
-use Rattle.version_rules.specs.grammar.Last.{last_text}
-use Rattle.version_rules.specs.grammar.MChunk.{PlainMChunk, SpellsMChunk, mchunk_text}
-use Rattle.version_rules.specs.key.PartKey.{chunk_parts, part_key, section_parts}
-use Rattle.version_rules.specs.grammar.Release.{SpellsRelease}
-use Rattle.version_rules.proofs.lemmas.Chunk.{digit_alphanumeric, part_printed}
-use Rattle.version_rules.proofs.lemmas.Last.{last_printed}
-use Rattle.version_rules.proofs.lemmas.MChunk.{mchunk_printed, spelled_run}
-use Rattle.version_order.proofs.lemmas.Front.{all_weaker}
-use Rattle.version_order.specs.texts.Cuts.{is_dot, pieces}
-use Rattle.version_texts.specs.Key.{chunk_of, chunks_of, parts_of}
-use Rattle.version_order.proofs.lemmas.Bytes.{digit_identifier, identifier_no_dot, alphanumeric_no_dot, alphanumeric_section}
+use Rattle.std.proofs.Common.{◌≡◌, ◌∙◌, ℕ, Bool, true, false, List, [], ◌∷◌, ◌++◌, map, refl, sym, ap, ◌<◌, length, arith, inl, inr, ◌≢◌, ◌==◌, ◌^◌, ◌≤◌, ◌||◌, not, get_or, nat_lt, take, Option, Some, None, subst}
 use Rattle.std.proofs.lemmas.Bool.{and_from, cases_Bool, eq-eqb, le-ltb, ne_eqb, eqb-false, and_parts, eqb-true, lt-ltb, ltb-true, not-true, or_cases, or_left, or_right}
+use Rattle.std.proofs.lemmas.{List.map-append, List.map-id, List.Elements.All-cons, List.Elements.All-nil, List.Folds.list_all-append, List.Splits.slice_split_at, List.Splits.slice_split_none, List.Splits.length-slice_split}
 use Rattle.std.proofs.lemmas.Str.Parse.{digits_value-take-le}
-use Rattle.std.specs.Str.Parse.{digits_value}
-use Rattle.version_rules.proofs.lemmas.Numeral.{nine_digits}
-use Rattle.version_order.specs.texts.DigitRun.{is_digits}
-use Rattle.version_order.proofs.lemmas.Runs.{and-false}
-use Rattle.version_texts.specs.Scan.{is_numeral, is_chunk}
-use Rattle.std.specs.Option.{is_some}
-use Rattle.version_order.specs.texts.Front.{begins, is_run}
-use Rattle.version_rules.specs.grammar.Numeral.{HasNoLeadingZero, SpellsNumeral}
+use Rattle.std.specs.{Char.is_ascii_alphanumeric, Char.is_ascii_digit, Cmp.first_so, Cmp.second_so, List.All, List.list_all, List.onto_first, List.slice_split, Option.is_some, Str.Parse.digits_value}
+use Rattle.version_rules.specs.grammar.Chunk.{Alphanum, Numeric, PlainChunk, SpellsChunk, SpellsChunkOf, SpellsPart, chunk_text, HasNoLeadingZero, SpellsNumeral}
+use Rattle.version_rules.specs.grammar.{Body.PlainBody, Body.SpellsBody, Body.SpellsRelease, Last.last_text, MChunk.PlainMChunk, MChunk.SpellsMChunk}
+use Rattle.version_rules.specs.key.PartKey.{chunk_parts, part_key, section_parts}
+use Rattle.version_order.specs.texts.{Bytes.dot, Bytes.is_identifier_byte, Bytes.is_metadata_byte, Bytes.is_section_byte, Cuts.is_dot, Cuts.pieces, Front.is_digits, Front.begins, Front.is_run, Grammar.SpellsDotted}
+use Rattle.version_rules.proofs.lemmas.{Chunk.digit_alphanumeric, Chunk.part_printed, Last.last_printed, MChunk.mchunk_printed, MChunk.spelled_run, Numeral.nine_digits}
+use Rattle.version_order.proofs.lemmas.{Bytes.digit_identifier, Bytes.identifier_no_dot, Bytes.alphanumeric_no_dot, Bytes.alphanumeric_section, Front.all_weaker, Runs.and-false}
+use Rattle.version_texts.specs.{Key.chunk_of, Key.chunks_of, Key.parts_of, Scan.is_numeral, Scan.is_chunk}
 
 -- ---- the pieces of a text between its dots are the texts of the elements of a list that it spells
 
@@ -113,9 +92,7 @@ release_chunks text chunks s =
 -- a release has only the bytes of metadata
 pub release_bytes : (text : List ℕ) (chunks : List PlainChunk) → SpellsRelease text chunks
     → list_all is_metadata_byte text ≡ true
-release_bytes = dotted_bytes SpellsChunk is_metadata_byte refl (λ text x s.
-    all_weaker is_identifier_byte is_metadata_byte identifier_metadata text
-    (chunk_bytes is_identifier_byte digit_identifier text x s))
+release_bytes = grind (arith, dotted_bytes, all_weaker, identifier_metadata, chunk_bytes, digit_identifier)
 
 -- ---- bodies
 
@@ -151,19 +128,14 @@ body_parts text body s =
 -- a body has only letters, digits and dots
 pub body_bytes : (text : List ℕ) (body : PlainBody) → SpellsBody text body
     → list_all is_section_byte text ≡ true
-body_bytes text body s =
-    dotted_bytes SpellsPart is_section_byte refl (λ t x h. run_section t (part_bytes t x h)) text
-    (body.0 ++ s.part ∷ []) s.parts_are
+body_bytes text body s = grind (arith, dotted_bytes, run_section, part_bytes)
 
 -- ---- messy sections
 
 -- the parts of a section: those of its chunks
 pub section_parts-is : (text : List ℕ) (chunks : List PlainMChunk)
     → SpellsDotted SpellsMChunk text chunks → parts_of text ≡ section_parts chunks
-section_parts-is =
-    pieces_give SpellsMChunk part_key (λ x. part_key (mchunk_text x))
-    (λ t x h. run_no_dot t (spelled_run t x h))
-    (λ t x h. ap part_key (sym (mchunk_printed t x h)))
+section_parts-is = grind (arith, pieces_give, run_no_dot, spelled_run, mchunk_printed)
 
 -- a section has only letters, digits and dots
 pub section_bytes : (text : List ℕ) (chunks : List PlainMChunk)
@@ -200,11 +172,7 @@ extend_piece cut b text (first ∷ next ∷ more) j =
 pub split_is_joined : (cut : ℕ → Bool) (text : List ℕ) → JoinedBy cut text (slice_split cut text)
 unfolding JoinedBy
 split_is_joined cut [] = refl
-split_is_joined cut (b ∷ text) = elim (cases_Bool (cut b)) [
-  | inl here ↦
-      rw here (begin_piece cut b text (slice_split cut text) here (split_is_joined cut text))
-  | inr other ↦ rw other (extend_piece cut b text (slice_split cut text) (split_is_joined cut text))
-]
+split_is_joined cut (b ∷ text) = grind (arith, cases_Bool, begin_piece, extend_piece, split_is_joined cut text)
 
 onto_first-append : (b : ℕ) (parts more : List (List ℕ)) → 0 < length parts
     → onto_first b (parts ++ more) ≡ onto_first b parts ++ more
@@ -215,13 +183,8 @@ onto_first-append b (part ∷ parts) more some = refl
 pub split-append : (cut : ℕ → Bool) (a : List ℕ) (mark : ℕ) (b : List ℕ) → cut mark ≡ true
     → slice_split cut (a ++ mark ∷ b) ≡ slice_split cut a ++ slice_split cut b
 split-append cut [] mark b h = rw h refl
-split-append cut (c ∷ a) mark b h = elim (cases_Bool (cut c)) [
-  | inl here ↦ rw here (ap (λ (l : List (List ℕ)). [] ∷ l) (split-append cut a mark b h))
-  | inr other ↦
-      let some : 0 < length (slice_split cut a) = omega (arith, length-slice_split cut a) in
-      let joined = onto_first-append c (slice_split cut a) (slice_split cut b) some in
-      rw other (ap (onto_first c) (split-append cut a mark b h) ∙ joined)
-]
+split-append cut (c ∷ a) mark b h =
+    grind (arith, cases_Bool, length-slice_split, onto_first-append, split-append cut a mark b h)
 
 -- if the pieces of each of the two pass a test, those of both do
 pub both_pass : (cut : ℕ → Bool) (test : List ℕ → Bool) (a : List ℕ) (mark : ℕ) (b : List ℕ)
@@ -285,31 +248,19 @@ too_large digits i large = grind (arith, digits_value-take-le, le-ltb)
 pub one_digit : (digits : List ℕ) → is_digits digits ≡ true → length digits ≡ 1
     → true ≡ is_numeral digits
 unfolding is_numeral
-one_digit digits is one =
-    let fits = nine_digits digits (all_digits digits is) (omega arith) in
-    let same : (length digits == 1) ≡ true = eq-eqb _ _ one in
-    rw (is, same, ← fits) refl
+one_digit digits is one = grind (arith, nine_digits, all_digits, eq-eqb)
 
 pub leading_zero : (digits : List ℕ) → length digits ≢ 1 → 0 < length digits
     → get_or digits 0 0 ≡ 48 → false ≡ is_numeral digits
 unfolding is_numeral
 leading_zero [] long some zero = absurd (omega arith)
-leading_zero (d ∷ digits) long some zero =
-    let apart : (length (d ∷ digits) == 1) ≡ false = ne_eqb _ _ long in
-    let same : (d == 48) ≡ true = eq-eqb _ _ zero in
-    let second : (length (d ∷ digits) == 1 || not (d == 48)) ≡ false = rw (apart, same) refl in
-    let begun : (is_digits (d ∷ digits) && (length (d ∷ digits) == 1 || not (d == 48))) ≡ false =
-    and-false (is_digits (d ∷ digits)) _ second in
-    rw begun refl
+leading_zero (d ∷ digits) long some zero = grind (arith, ne_eqb, eq-eqb, and-false)
 
 pub no_leading_zero : (digits : List ℕ) → is_digits digits ≡ true → length digits ≢ 1
     → get_or digits 0 0 ≢ 48 → is_numeral digits ≡ nat_lt (digits_value 10 digits) (2 ^ 32)
 unfolding is_numeral
 no_leading_zero [] is long other = cc is
-no_leading_zero (d ∷ digits) is long other =
-    let apart : (length (d ∷ digits) == 1) ≡ false = ne_eqb _ _ long in
-    let different : (d == 48) ≡ false = ne_eqb _ _ other in
-    rw (is, apart, different) refl
+no_leading_zero (d ∷ digits) is long other = grind (arith, ne_eqb)
 
 pub no_numeral : (text : List ℕ) → is_digits text ≡ false → is_numeral text ≡ false
 unfolding is_numeral
@@ -341,12 +292,7 @@ canonical_from : (text : List ℕ) → is_digits text ≡ true
     → (length text == 1 || not (begins (λ b. b == 48) text)) ≡ true → HasNoLeadingZero text
 canonical_from [] digits h = cc digits
 canonical_from (d ∷ []) digits h = tt
-canonical_from (d ∷ e ∷ text) digits h = elim (or_cases _ _ h) [
-  | inl one ↦
-      let count : length (d ∷ e ∷ text) ≡ 1 = eqb-true _ _ one in
-      absurd (omega arith)
-  | inr other ↦ not-true _ other
-]
+canonical_from (d ∷ e ∷ text) digits h = grind (arith, or_cases, eqb-true, not-true)
 
 pub digits_from : (text : List ℕ) (n : ℕ) → SpellsNumeral text n → is_digits text ≡ true
 digits_from [] n s = absurd s.canonical
@@ -354,25 +300,12 @@ digits_from (b ∷ text) n s = and_from _ _ (first_so _ _ s.digits) s.digits
 
 pub numeral_passes : (text : List ℕ) (n : ℕ) → SpellsNumeral text n → is_numeral text ≡ true
 unfolding is_numeral
-numeral_passes text n s =
-    let fits : nat_lt (digits_value 10 text) (2 ^ 32) ≡ true = lt-ltb _ _ (rw s.value s.fits) in
-    and_from _ _ (and_from _ _ (digits_from text n s) (canonical_test text s.canonical)) fits
+numeral_passes text n s = grind (arith, nat_lt, lt-ltb, and_from, digits_from, canonical_test)
 
 pub numeral_spells : (text : List ℕ) → is_numeral text ≡ true
     → SpellsNumeral text (digits_value 10 text)
 unfolding is_numeral
-numeral_spells text passes =
-    let both =
-    and_parts (is_digits text && (length text == 1 || not (begins (λ b. b == 48) text)))
-    (nat_lt (digits_value 10 text) (2 ^ 32)) passes in
-    let run =
-    and_parts (is_digits text) (length text == 1 || not (begins (λ b. b == 48) text)) both.0 in
-    record {
-      digits = second_so _ _ run.0;
-      canonical = canonical_from text run.0 run.1;
-      value = refl;
-      fits = ltb-true _ _ both.1;
-    }
+numeral_spells text passes = grind (arith, and_parts, nat_lt, second_so, canonical_from, ltb-true)
 
 -- ---- chunks
 

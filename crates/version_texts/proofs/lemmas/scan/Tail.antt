@@ -1,24 +1,16 @@
 -- What follows the body of a strict or general version is a release and metadata exactly if it
 -- passes the test.
-use Rattle.version_texts.proofs.lemmas.scan.Shape.{metadata_not_plus}
-use Rattle.std.proofs.Common.{◌≡◌, ◌==◌, ◌∙◌, ℕ, true, false, List, [], ◌∷◌, ◌++◌, drop, Option, Some, None, refl, sym, ap, arith, inl, inr, ◌+◌, length, not, one-add, IfSome}
-use Rattle.std.proofs.lemmas.Bool.{and_from, and_parts, cases_Bool, eqb-true}
-use Rattle.std.proofs.lemmas.Bool.Decides.{nat_tests}
-use Rattle.std.proofs.lemmas.List.{drop_at, take-append-drop, take_at, drop-drop}
-use Rattle.std.specs.Cmp.{first_so, second_so}
-use Rattle.std.specs.List.{list_all, prefix_len, take_while}
-use Rattle.version_order.specs.texts.Bytes.{hyphen, is_identifier_byte, is_metadata_byte, plus, dot}
-use Rattle.version_rules.specs.grammar.Chunk.{PlainChunk}
-use Rattle.version_order.specs.texts.Front.{begins, is_run}
-use Rattle.version_order.specs.texts.Grammar.{SpellsOptional}
-use Rattle.version_rules.specs.grammar.Release.{SpellsMetadata, SpellsRelease}
-use Rattle.version_order.proofs.lemmas.Front.{prefix_len-append, all_weaker}
-use Rattle.version_order.specs.texts.Cuts.{pieces}
-use Rattle.version_texts.specs.Scan.{is_chunk, is_metadata_tail, is_not_plus, is_tail, is_released}
 use Rattle.version_texts.proofs.lemmas.scan.Spelled.{dotted_passes, dotted_spells, run_from, run_some, release_bytes}
-use Rattle.version_order.proofs.lemmas.Bytes.{digit_identifier, identifier_no_dot}
-use Rattle.version_texts.proofs.lemmas.scan.Section.{fails_first}
+use Rattle.version_texts.proofs.lemmas.scan.{Section.fails_first, Shape.metadata_not_plus}
+use Rattle.std.proofs.lemmas.{Bool.and_from, Bool.and_parts, Bool.cases_Bool, Bool.eqb-true, Bool.Decides.nat_tests, List.drop_at, List.take-append-drop, List.take_at, List.drop-drop}
+use Rattle.std.specs.{Cmp.first_so, Cmp.second_so, List.list_all, List.prefix_len, List.take_while}
+use Rattle.version_order.specs.texts.Bytes.{hyphen, is_identifier_byte, is_metadata_byte, plus, dot}
+use Rattle.version_order.specs.texts.{Cuts.pieces, Front.begins, Front.is_run, Grammar.SpellsOptional}
+use Rattle.version_rules.specs.grammar.{Body.SpellsMetadata, Body.SpellsRelease, Chunk.PlainChunk}
 use Rattle.version_order.proofs.lemmas.Runs.{and-false, behind_mark, behind_run, larger_run, last_piece, next_piece, other_piece}
+use Rattle.version_order.proofs.lemmas.{Bytes.digit_identifier, Bytes.identifier_no_dot, Front.prefix_len-append, Front.all_weaker}
+use Rattle.version_texts.specs.Scan.{is_chunk, is_metadata_tail, is_not_plus, is_tail, is_released}
+use Rattle.std.proofs.Common.{◌≡◌, ◌==◌, ◌∙◌, ℕ, true, false, List, [], ◌∷◌, ◌++◌, drop, Option, Some, None, refl, sym, ap, arith, inl, inr, ◌+◌, length, not, one-add, IfSome, rules}
 
 -- ---- what passes is spelled
 
@@ -151,10 +143,7 @@ module _ (text : List ℕ) where
   bad_piece : (rest : List ℕ) → drop (prefix_len is_identifier_byte text) text ≡ rest
       → is_chunk is_identifier_byte (take_while is_identifier_byte text) ≡ false
       → list_all (is_chunk is_identifier_byte) (pieces (take_while is_not_plus text)) ≡ false
-  bad_piece [] e bad =
-      fails_first (is_chunk is_identifier_byte) _ _ _
-      (last_piece is_identifier_byte is_not_plus no_plus (λ b. b == dot) identifier_no_dot text
-      (rw e refl)) bad
+  bad_piece [] e bad = grind (arith, fails_first, last_piece, no_plus, identifier_no_dot)
   bad_piece (c ∷ rest) e bad = elim (cases_Bool (c == dot)) [
     | inl dots ↦ fails_first (is_chunk is_identifier_byte) _ _ _
         (next_piece is_identifier_byte is_not_plus no_plus
@@ -248,9 +237,7 @@ module _ (text : List ℕ) (place end : ℕ)
   pub from_next : is_chunk is_identifier_byte (take_while is_identifier_byte (drop place text))
       ≡ true → begins (λ b. b == dot) (drop end text) ≡ true
       → is_released (drop place text) ≡ is_released (drop (end + 1) text)
-  from_next good dots =
-      released_next (drop place text) good (drop (end + 1) text)
-      (behind ∙ behind_mark dot text end dots)
+  from_next good dots = search (rules, released_next, behind, behind_mark)
 
   pub from_last : is_chunk is_identifier_byte (take_while is_identifier_byte (drop place text))
       ≡ true → begins (λ b. b == dot) (drop end text) ≡ false

@@ -1,43 +1,19 @@
 -- The kind of a text by its pieces is the kind of the version that it parses as.
-use Rattle.std.proofs.Common.{◌≡◌, ◌+◌, Bool, ◌∙◌, ℕ, true, false, List, [], ◌∷◌, ◌++◌, length, take, length-append, Option, Some, None, refl, sym, ap, subst, arith, inl, inr, append_assoc, ◌==◌, ◌&&◌, ◌||◌, not, if◌then◌else◌}
+use Rattle.std.proofs.Common.{◌≡◌, ◌+◌, Bool, ◌∙◌, ℕ, true, false, List, [], ◌∷◌, ◌++◌, length, take, length-append, Option, Some, None, refl, sym, ap, subst, arith, inl, inr, append_assoc, ◌==◌, ◌&&◌, if◌then◌else◌, rules}
 use Rattle.std.proofs.lemmas.Bool.{and_from, and_parts, cases_Bool, eq-eqb, eqb-true, or_cases, or_left, or_right, not-true}
-use Rattle.std.proofs.lemmas.List.{drop-drop, take-append-drop, take_at}
-use Rattle.std.proofs.lemmas.List.Folds.{length-prefix_len}
-use Rattle.std.specs.Char.{is_ascii_alphanumeric, is_ascii_digit}
-use Rattle.std.specs.Cmp.{second_so, first_so}
-use Rattle.std.specs.List.{list_all, prefix_len, take_while}
-use Rattle.std.specs.Option.{is_some, option_map, option_or}
-use Rattle.std.specs.Str.Parse.{digits_value}
-use Rattle.version_rules.specs.grammar.Body.{PlainBody, SpellsBody}
-use Rattle.version_order.specs.texts.Bytes.{colon, is_section_byte, dot}
-use Rattle.version_rules.specs.grammar.Chunk.{PlainChunk, SpellsPart, Numeric, Alphanum}
-use Rattle.version_order.specs.texts.Grammar.{SpellsDotted}
-use Rattle.version_rules.specs.grammar.Last.{last_of, IsLastOf}
-use Rattle.version_order.specs.keys.Lists.{split_last}
-use Rattle.version_rules.proofs.lemmas.Body.{split_last-whole}
-use Rattle.version_rules.proofs.lemmas.Chunk.{digit_alphanumeric}
-use Rattle.version_order.proofs.lemmas.Front.{cases_Option, prefix_len-append}
-use Rattle.version_rules.proofs.lemmas.Last.{last_of-is}
-use Rattle.version_rules.specs.grammar.Version.{PlainVersion, SpellsEpoch, SpellsVersion, version_of}
-use Rattle.version_rules.proofs.lemmas.Version.{version_of-Some, version_of-spells}
-use Rattle.version_texts.specs.Scan.{behind_body, body_end, body_start, digits_len, from_body, has_epoch, shape_at, shape_of, body_of, epoch_is_numeral, is_chunk, is_general, is_numeral, is_tail, has_three_numbers, is_messy, kind_in}
-use Rattle.version_order.specs.texts.Cuts.{pieces, is_dot}
-use Rattle.version_texts.proofs.lemmas.scan.Spelled.{dotted_passes, dotted_spells, numeral_passes, numeral_spells, told_by_test, digits_from, JoinedBy, split-append, split_is_joined, split_run}
-use Rattle.version_order.proofs.lemmas.Bytes.{alphanumeric_no_dot, digit_no_dot}
-use Rattle.version_texts.proofs.lemmas.scan.Shape.{IsCut, behind_body-is, from_body-is, version_cut}
-use Rattle.version_order.proofs.lemmas.Runs.{behind_mark}
-use Rattle.version_texts.proofs.lemmas.scan.Tail.{tail_passes, tail_spells}
-use Rattle.version_order.specs.texts.DigitRun.{is_digits, starts_with_digit}
-use Rattle.version_rules.specs.grammar.Numeral.{SpellsNumeral}
-use Rattle.version_rules.specs.grammar.Conversions.{version_of_semver}
-use Rattle.version_rules.specs.grammar.SemVer.{PlainSemVer, SpellsSemVer, semver_of}
-use Rattle.version_rules.proofs.lemmas.SemVer.{semver_of-Some, semver_of-spells}
-use Rattle.version_rules.proofs.lemmas.Versioning.{strict_is_general}
-use Rattle.version_order.specs.texts.Front.{is_run}
-use Rattle.version_rules.specs.grammar.Last as last
+use Rattle.std.proofs.lemmas.{List.drop-drop, List.take-append-drop, List.take_at, List.Folds.length-prefix_len}
+use Rattle.std.specs.{Char.is_ascii_alphanumeric, Char.is_ascii_digit, Cmp.second_so, Cmp.first_so, List.list_all, List.prefix_len, List.take_while, Option.is_some, Option.option_map, Option.option_or, Str.Parse.digits_value}
+use Rattle.version_rules.specs.grammar.Chunk.{PlainChunk, SpellsPart, Numeric, Alphanum, SpellsNumeral}
 use Rattle.version_rules.specs.grammar.Versioning.{versioning_kind, PlainVersioning, Ideal, General, Complex, versioning_of}
-use Rattle.version_rules.specs.grammar.Mess.{PlainMess, mess_of}
-use Rattle.version_texts.proofs.lemmas.scan.Complex.{mess_kind}
+use Rattle.version_rules.specs.grammar.{Body.PlainBody, Body.SpellsBody, Conversions.version_of_semver, Last.last_of, Last.IsLastOf, Mess.PlainMess, Mess.mess_of, SemVer.PlainSemVer, SemVer.SpellsSemVer, SemVer.semver_of}
+use Rattle.version_rules.specs.grammar.Version.{PlainVersion, SpellsEpoch, SpellsVersion, version_of}
+use Rattle.version_order.specs.{keys.Lists.split_last, texts.Bytes.colon, texts.Bytes.is_section_byte, texts.Bytes.dot, texts.Cuts.pieces, texts.Cuts.is_dot, texts.Front.is_digits, texts.Grammar.SpellsDotted}
+use Rattle.version_rules.proofs.lemmas.{Body.split_last-whole, Chunk.digit_alphanumeric, Last.last_of-is, SemVer.semver_of-Some, SemVer.semver_of-spells, Version.version_of-Some, Version.version_of-spells, Versioning.strict_is_general}
+use Rattle.version_order.proofs.lemmas.{Bytes.alphanumeric_no_dot, Bytes.digit_no_dot, Front.cases_Option, Front.prefix_len-append, Runs.behind_mark}
+use Rattle.version_texts.specs.Scan.{behind_body, body_end, body_start, digits_len, from_body, has_epoch, shape_at, shape_of, body_of, epoch_is_numeral, is_chunk, is_general, is_numeral, is_tail, has_three_numbers, is_messy, kind_in}
+use Rattle.version_texts.proofs.lemmas.scan.Spelled.{dotted_passes, dotted_spells, numeral_passes, numeral_spells, told_by_test, digits_from, JoinedBy, split-append, split_is_joined, split_run}
+use Rattle.version_texts.proofs.lemmas.scan.{Complex.mess_kind, Shape.IsCut, Shape.behind_body-is, Shape.from_body-is, Shape.version_cut, Tail.tail_passes, Tail.tail_spells}
+use Rattle.version_rules.specs.grammar.Last as last
 use Rattle.version_rules.specs.declared.kind.Kind.TheVariants as kind
 
 -- ---- A text spells a general version exactly if its pieces pass the tests of one
@@ -175,9 +151,7 @@ body_of-is text epoch body rest cut = grind (arith, from_body-is, prefix_len-app
 epoch_passes : (text epoch body rest : List ℕ) (o : Option ℕ) → IsCut text epoch body rest
     → SpellsEpoch epoch o → epoch_is_numeral text ≡ true
 unfolding SpellsEpoch
-epoch_passes text epoch body rest None cut s =
-    let start : body_start text ≡ 0 = cut.starts ∙ ap (λ (l : List ℕ). length l) s in
-    or_left _ _ (eq-eqb (body_start text) 0 start)
+epoch_passes text epoch body rest None cut s = grind (arith, or_left, eq-eqb)
 epoch_passes text epoch body rest (Some n) cut s =
     let whole : text ≡ s.0 ++ colon ∷ (body ++ rest) =
     cut.whole ∙ ap (λ (l : List ℕ). l ++ (body ++ rest)) s.1
@@ -219,9 +193,7 @@ numeral_alone text n s = split_run is_ascii_digit is_dot digit_no_dot text s.dig
 
 numeral_before : (first others : List ℕ) (n : ℕ) → SpellsNumeral first n
     → pieces (first ++ dot ∷ others) ≡ first ∷ pieces others
-numeral_before first others n s =
-    split-append is_dot first dot others refl
-    ∙ ap (λ (l : List (List ℕ)). l ++ pieces others) (numeral_alone first n s)
+numeral_before first others n s = search (rules, split-append, numeral_alone)
 
 -- the pieces of a text are three runs of digits
 abbrev AreThree : List ℕ → Type 0
@@ -283,18 +255,7 @@ record SpellsThree (text : List ℕ) : Type 0 where
 -- a chunk of digits is a numeral
 digits_spell : (text : List ℕ) → is_chunk is_ascii_alphanumeric text ≡ true → is_digits text ≡ true
     → SpellsNumeral text (digits_value 10 text)
-digits_spell text passes digits =
-    let told =
-    second_so (is_run is_ascii_alphanumeric text)
-    (is_numeral text || not (list_all is_ascii_digit text)) passes in
-    elim (or_cases (is_numeral text) (not (list_all is_ascii_digit text)) told) [
-      | inl numeral ↦ numeral_spells text numeral
-      | inr other ↦
-          cc (
-            not-true _ other,
-            second_so (starts_with_digit text) (list_all is_ascii_digit text) digits,
-          )
-    ]
+digits_spell text passes digits = grind (arith, second_so, or_cases, numeral_spells, not-true)
 
 -- the pieces are chunks, and runs of digits
 abbrev AllNumerals : List (List ℕ) → Type 0
@@ -303,10 +264,7 @@ AllNumerals parts =
 
 numerals : (part : List ℕ) (parts : List (List ℕ)) → AllNumerals (part ∷ parts)
     → SpellsNumeral part (digits_value 10 part) × AllNumerals parts
-numerals part parts all = (
-  digits_spell part (first_so _ _ all.0) (first_so _ _ all.1),
-  (second_so (is_chunk is_ascii_alphanumeric part) _ all.0, second_so (is_digits part) _ all.1),
-)
+numerals part parts all = grind (arith, digits_spell, first_so, second_so)
 
 at_dot : (text first others : List ℕ) (mark : ℕ) → is_dot mark ≡ true
     → text ≡ first ++ mark ∷ others → text ≡ first ++ dot ∷ others

@@ -1,42 +1,23 @@
 -- Where the fields of a version lie in its text, by its shape.
-use Rattle.std.proofs.Common.{◌≡◌, ◌==◌, ◌+◌, ◌-◌, ◌≤◌, ◌∙◌, if◌then◌else◌, ℕ, Bool, true, false, List, [], ◌∷◌, ◌++◌, drop, length, take, Option, Some, None, refl, sym, ap, subst, arith, append-nil, length-append, ◌&&◌, append_assoc}
-use Rattle.std.proofs.lemmas.Bool.{ne_eqb}
-use Rattle.std.proofs.lemmas.Bool.Decides.{nat_tests}
-use Rattle.std.proofs.lemmas.List.{length-drop, length-take-le, drop_at, take_at}
-use Rattle.std.specs.Fmt.{decimal}
-use Rattle.std.specs.List.{list_all, prefix_len}
-use Rattle.std.specs.Option.{option_map, is_none}
-use Rattle.std.specs.Prelude.{nat_lt}
-use Rattle.std.specs.Str.Parse.{digits_value}
-use Rattle.version_order.specs.texts.Bytes.{colon, hyphen, plus}
-use Rattle.version_rules.specs.grammar.Chunk.{PlainChunk}
-use Rattle.version_order.specs.texts.Front.{begins}
-use Rattle.version_order.specs.texts.Grammar.{SpellsOptional}
-use Rattle.version_rules.specs.grammar.Release.{SpellsMetadata, SpellsRelease, release_text}
-use Rattle.version_rules.proofs.lemmas.Chunk.{release_printed}
-use Rattle.version_rules.proofs.lemmas.Numeral.{numeral_printed}
-use Rattle.version_order.proofs.lemmas.Front.{prefix_len-append}
-use Rattle.version_rules.specs.grammar.Conversions.{version_of_semver}
-use Rattle.version_rules.specs.key.Key.{versioning_epoch}
-use Rattle.version_rules.specs.grammar.Versioning.{versioning_kind, PlainVersioning, Ideal, General, Complex, SpellsVersioning}
-use Rattle.version_rules.specs.grammar.Mess.{PlainMess, SpellsMess}
-use Rattle.version_rules.specs.grammar.SemVer.{PlainSemVer, SpellsSemVer}
+use Rattle.std.proofs.Common.{◌≡◌, ◌==◌, ◌+◌, ◌-◌, ◌≤◌, ◌∙◌, if◌then◌else◌, ℕ, Bool, true, false, List, [], ◌∷◌, ◌++◌, drop, length, take, Option, Some, None, refl, sym, ap, arith, append-nil, length-append, ◌&&◌, append_assoc}
+use Rattle.std.proofs.lemmas.{Bool.ne_eqb, Bool.Decides.nat_tests, List.length-drop, List.length-take-le, List.drop_at, List.take_at}
+use Rattle.std.specs.{Fmt.decimal, List.list_all, List.prefix_len, Option.option_map, Option.is_none, Prelude.nat_lt, Str.Parse.digits_value}
+use Rattle.version_order.specs.texts.{Bytes.hyphen, Bytes.plus, Front.begins, Grammar.SpellsOptional}
 use Rattle.version_rules.specs.grammar.Version.{PlainVersion, SpellsEpoch, SpellsVersion, version_text, epoch_text}
-use Rattle.version_rules.proofs.lemmas.Versioning.{version_of_semver_printed, strict_is_general}
-use Rattle.version_rules.proofs.lemmas.Version.{version_printed}
-use Rattle.version_texts.specs.declared.scan.shape.Shape.{Shape}
-use Rattle.version_texts.specs.declared.scan.shape.TailKind.{TailKind}
-use Rattle.version_texts.specs.VersioningRef.{bare_semver, bare_version, body_alone, field_span, numbers_alone, span_behind, text_before, epoch_and_parts, version_in}
+use Rattle.version_rules.specs.grammar.Versioning.{versioning_kind, PlainVersioning, Ideal, General, Complex, SpellsVersioning}
+use Rattle.version_rules.specs.grammar.{Body.SpellsMetadata, Body.SpellsRelease, Body.release_text, Body.body_text, Chunk.PlainChunk, Conversions.version_of_semver, Mess.PlainMess, Mess.SpellsMess, SemVer.PlainSemVer, SemVer.SpellsSemVer}
+use Rattle.version_rules.specs.key.Key.{versioning_epoch}
+use Rattle.version_rules.proofs.lemmas.{Body.body_printed, Chunk.release_printed, Numeral.numeral_printed, Version.version_printed, Versioning.version_of_semver_printed, Versioning.strict_is_general}
+use Rattle.version_order.proofs.lemmas.Front.{prefix_len-append}
 use Rattle.version_texts.specs.Scan.{behind_body, body_end, body_start, shape_at, shape_of, TailFits, is_not_plus}
+use Rattle.version_texts.specs.VersioningRef.{bare_semver, bare_version, body_alone, field_span, numbers_alone, span_behind, epoch_and_parts, version_in}
+use Rattle.version_texts.specs.{Mixed.is_bare, declared.scan.shape.Shape.Shape, declared.scan.shape.TailKind.TailKind}
+use Rattle.version_texts.proofs.lemmas.scan.Shape.{IsCut, behind_body-is, body_end-is, IsCounted, IsDashed, dashed_end, dashed_within, epoch_taken, is_hyphen, length_cut, no_meta, release_not_plus, version_cut, version_dashed, printed_epoch}
 use Rattle.version_texts.proofs.lemmas.versioning_ref.VersioningRef.{is_prerelease_tail, spelled, spells-is, kind-is, shape_fits}
 use Rattle.version_texts.proofs.lemmas.scan.Complex.{mess_cut}
-use Rattle.version_texts.proofs.lemmas.scan.Shape.{IsCut, behind_body-is, body_end-is, IsCounted, IsDashed, dashed_end, dashed_within, epoch_taken, is_hyphen, length_cut, no_meta, release_not_plus, version_cut, version_dashed, printed_epoch}
 use Rattle.version_rules.specs.declared.kind.Kind.TheVariants as kind
 use Rattle.version_texts.specs.declared.versioning_ref.field.Field.TheVariants as field
 use Rattle.version_texts.specs.declared.scan.shape.TailKind.TheVariants as tail
-use Rattle.version_texts.specs.Mixed.{is_bare}
-use Rattle.version_rules.specs.grammar.Body.{body_text}
-use Rattle.version_rules.proofs.lemmas.Body.{body_printed}
 
 -- whether a tail is a release
 abbrev pub is_release_tail : TailKind → Bool
@@ -62,22 +43,7 @@ module _ (text epoch body rest : List ℕ) (cut : IsCut text epoch body rest) wh
   pub counted : (digits : Option (List ℕ)) (n : Option ℕ) → IsCounted epoch digits n
       → (option_map (span_behind []) digits ≡ epoch_place text) × (n ≡ epoch_value text)
   counted None None s = rw (cut.starts, s) (refl, refl)
-  counted (Some digits) (Some n) s =
-      let starts : body_start text ≡ length digits + 1 =
-      omega (
-        arith,
-        cut.starts,
-        ap (λ (l : List ℕ). length l) s.0,
-        length-append digits (colon ∷ []),
-      ) in
-      let some : (length digits + 1 == 0) ≡ false = ne_eqb (length digits + 1) 0 (omega arith) in
-      let taken : take (body_start text - 1) text ≡ digits =
-      epoch_taken text digits body rest (subst (λ (l : List ℕ). IsCut text l body rest) s.0 cut) in
-      let value : digits_value 10 (take (body_start text - 1) text) ≡ n =
-      ap (digits_value 10) taken ∙ s.1 in (
-        rw (starts, some) (ap (λ n. Some (0, n)) (omega arith)),
-        rw (ap (λ n. n == 0) starts ∙ some) (ap (λ n. Some n) (sym value)),
-      )
+  counted (Some digits) (Some n) s = grind (arith, length-append, ne_eqb, epoch_taken, cut)
   counted digits n s = absurd s
 
 -- a spelled epoch counts
@@ -107,11 +73,7 @@ placed : (text before : List ℕ) (o : Option (List PlainChunk)) → IsDashed te
     → option_map (span_behind before) (option_map release_text o) ≡ dashed_place text
 placed text before None d starts within = rw d.0 refl
 placed text before (Some chunks) d starts within =
-    let printed = release_printed _ chunks d.2 in
-    let count = length-take-le (dashed_end text - (body_end text + 1))
-    (drop (body_end text + 1) text)
-    (omega (arith, within, length-drop (body_end text + 1) text)) in
-    rw (d.0, starts, printed, count) (ap (λ n. Some (body_end text + 1, n)) (omega (arith, d.1)))
+    grind (arith, release_printed, length-take-le, dashed_end, within, length-drop)
 
 -- where metadata lies, by where the tail ends
 abbrev pub metadata_place : List ℕ → Option (ℕ × ℕ)
@@ -123,16 +85,8 @@ metadata_placed : (text before meta : List ℕ) (o : Option (List ℕ))
     → length text ≡ dashed_end text + length meta
     → option_map (span_behind before) o ≡ metadata_place text
 unfolding SpellsOptional
-metadata_placed text before meta None s starts whole =
-    let none : nat_lt (dashed_end text) (length text) ≡ false =
-    grind (arith, nat_tests, whole, s) in
-    rw none refl
-metadata_placed text before meta (Some m) s starts whole =
-    let count : length meta ≡ length (plus ∷ m) =
-    ap (λ (l : List ℕ). length l) (s.1 ∙ ap (λ (l : List ℕ). plus ∷ l) s.2.0) in
-    let some : nat_lt (dashed_end text) (length text) ≡ true =
-    grind (arith, nat_tests, whole, count) in
-    rw (some, starts) (ap (λ n. Some (dashed_end text + 1, n)) (omega (arith, whole, count)))
+metadata_placed text before meta None s starts whole = grind (arith, dashed_end, nat_tests)
+metadata_placed text before meta (Some m) s starts whole = grind (arith, dashed_end, nat_tests)
 
 module _ (text : List ℕ) (v : PlainVersion) (s : SpellsVersion text v) where
   -- the text up to the body's end, and up to the tail's, spells what is left without the rest
@@ -327,18 +281,12 @@ neither before other_before one other =
 
 pub bare_strict : (v : PlainVersioning) → versioning_kind v ≡ kind.Ideal
     → (is_none (field_span field.PreRelease v) && is_none (field_span field.Metadata v)) ≡ is_bare v
-bare_strict (Ideal v) is =
-    neither (text_before field.PreRelease (Ideal v)) (text_before field.Metadata (Ideal v))
-    (option_map release_text v.pre_rel) v.meta
-    ∙ ap (λ b. b && is_none v.meta) (none_mapped release_text v.pre_rel)
+bare_strict (Ideal v) is = grind (arith, neither, none_mapped)
 bare_strict v is = cc is
 
 pub bare_general : (v : PlainVersioning) → versioning_kind v ≡ kind.General
     → (is_none (field_span field.Release v) && is_none (field_span field.Metadata v)) ≡ is_bare v
-bare_general (General v) is =
-    neither (text_before field.Release (General v)) (text_before field.Metadata (General v))
-    (option_map release_text v.release) v.meta
-    ∙ ap (λ b. b && is_none v.meta) (none_mapped release_text v.release)
+bare_general (General v) is = grind (arith, neither, none_mapped)
 bare_general v is = cc is
 
 pub messy_not_bare : (v : PlainVersioning) → versioning_kind v ≡ kind.Complex → false ≡ is_bare v

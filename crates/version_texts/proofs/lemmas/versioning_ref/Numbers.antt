@@ -1,38 +1,22 @@
 -- The number at a place of a version is read off its text by its shape.
 use Rattle.version_texts.proofs.lemmas.order.Lasts.{letters_start, other_numbered, post_numbered, rc_numbered, run_cut}
-use Rattle.std.proofs.Common.{◌≡◌, ◌==◌, ◌∙◌, ◌^◌, if◌then◌else◌, ℕ, zero, suc, true, false, List, [], ◌∷◌, ◌++◌, drop, length, map, nat_lt, Option, Some, None, refl, sym, ap, arith, append-nil}
+use Rattle.version_texts.proofs.lemmas.scan.Spelled.{NonePass, chunk_bytes, none_pass, pieces_give, digits_from, numeral_passes}
+use Rattle.version_texts.proofs.lemmas.{scan.Section.digits_not, scan.Shape.body_taken, scan.Shape.version_cut, versioning_ref.Section.number_of_mess}
+use Rattle.version_texts.proofs.lemmas.versioning_ref.VersioningRef.{kind-is, spelled, spells-is}
 use Rattle.std.proofs.Math.Dec.{eqb-suc-suc, eqb-suc-zero, eqb-zero-suc}
-use Rattle.std.proofs.lemmas.Bool.{lt-ltb, ne_eqb}
-use Rattle.std.proofs.lemmas.List.{drop-map}
-use Rattle.std.specs.Char.{is_ascii_digit}
-use Rattle.std.specs.List.{slice_get, take_while}
-use Rattle.std.specs.Option.{option_and_then}
-use Rattle.std.specs.Str.Parse.{digits_value}
-use Rattle.version_rules.specs.grammar.Body.{PlainBody, SpellsBody}
-use Rattle.version_rules.specs.grammar.Chunk.{PlainChunk, SpellsPart, number_of}
+use Rattle.std.proofs.lemmas.{Bool.lt-ltb, Bool.ne_eqb, List.drop-map}
+use Rattle.std.specs.{Char.is_ascii_digit, List.slice_get, List.take_while, Option.option_and_then, Str.Parse.digits_value}
 use Rattle.version_rules.specs.grammar.Last.{Alphanum, IsLastOf, Numeric, PlainLast, Post, Rc, first_number, last_of}
-use Rattle.version_rules.specs.grammar.MChunk.{value_of_digits}
-use Rattle.version_rules.specs.grammar.Numeral.{SpellsNumeral}
-use Rattle.version_rules.proofs.lemmas.Chunk.{digit_alphanumeric}
-use Rattle.version_rules.proofs.lemmas.Last.{last_of-is, last_of-only}
+use Rattle.version_rules.specs.grammar.Versioning.{versioning_kind, PlainVersioning, Ideal, General, Complex, SpellsVersioning, semver_nth, versioning_nth}
+use Rattle.version_rules.specs.{declared.kind.Kind.Kind, grammar.Body.PlainBody, grammar.Body.SpellsBody, grammar.Chunk.PlainChunk, grammar.Chunk.SpellsPart, grammar.Chunk.number_of, grammar.Chunk.SpellsNumeral}
+use Rattle.version_rules.specs.grammar.{Conversions.version_of_semver, MChunk.value_of_digits, SemVer.PlainSemVer, SemVer.SpellsSemVer, Version.PlainVersion, Version.SpellsVersion, Version.version_nth}
+use Rattle.version_rules.proofs.lemmas.{Chunk.digit_alphanumeric, Last.last_of-is, Last.last_of-only, Versioning.strict_is_general}
 use Rattle.version_order.proofs.lemmas.Bytes.{alphanumeric_no_dot}
 use Rattle.version_texts.specs.VersioningRef.{body_number, last_number, numeral_value, chunk_number, section_in, version_in}
-use Rattle.version_order.specs.texts.DigitRun.{starts_with_digit}
-use Rattle.version_order.specs.texts.Cuts.{is_dot, pieces}
-use Rattle.version_texts.specs.Scan.{body_in, shape_at, shape_of}
-use Rattle.version_texts.proofs.lemmas.scan.Spelled.{NonePass, chunk_bytes, none_pass, pieces_give, digits_from, numeral_passes}
-use Rattle.version_texts.proofs.lemmas.scan.Section.{digits_not}
+use Rattle.version_texts.specs.{Scan.body_in, Scan.shape_at, Scan.shape_of, declared.scan.shape.Shape.Shape}
+use Rattle.version_order.specs.texts.{Cuts.is_dot, Cuts.pieces, Front.starts_with_digit}
+use Rattle.std.proofs.Common.{◌≡◌, ◌==◌, ◌∙◌, ◌^◌, if◌then◌else◌, ℕ, zero, suc, true, false, List, [], ◌∷◌, ◌++◌, drop, length, map, nat_lt, Option, Some, None, refl, sym, ap, arith, append-nil}
 use Rattle.version_rules.specs.grammar.Chunk as chunk
-use Rattle.version_rules.specs.declared.kind.Kind.{Kind}
-use Rattle.version_rules.specs.grammar.Conversions.{version_of_semver}
-use Rattle.version_rules.specs.grammar.Versioning.{versioning_kind, PlainVersioning, Ideal, General, Complex, SpellsVersioning, semver_nth, versioning_nth}
-use Rattle.version_rules.specs.grammar.SemVer.{PlainSemVer, SpellsSemVer}
-use Rattle.version_rules.specs.grammar.Version.{PlainVersion, SpellsVersion, version_nth}
-use Rattle.version_rules.proofs.lemmas.Versioning.{strict_is_general}
-use Rattle.version_texts.specs.declared.scan.shape.Shape.{Shape}
-use Rattle.version_texts.proofs.lemmas.versioning_ref.Section.{number_of_mess}
-use Rattle.version_texts.proofs.lemmas.scan.Shape.{body_taken, version_cut}
-use Rattle.version_texts.proofs.lemmas.versioning_ref.VersioningRef.{kind-is, spelled, spells-is}
 use Rattle.version_rules.specs.declared.kind.Kind.TheVariants as kind
 
 -- ---- the number at a place of a body is that of its chunk, or the first number of its last part

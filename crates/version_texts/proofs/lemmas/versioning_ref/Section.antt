@@ -1,28 +1,20 @@
 -- The number at a place of a messy version is that of the chunk at this place of its first section
 -- that no colon follows.
 use Rattle.std.proofs.Common.{◌≡◌, ◌∙◌, ℕ, zero, suc, Bool, true, false, not, List, [], ◌∷◌, ◌++◌, drop, length, map, Option, refl, sym, ap, inl, inr, arith, append-nil, ◌==◌, ◌+◌, ◌-◌, ◌<◌, ◌≤◌}
-use Rattle.std.proofs.lemmas.Bool.Decides.{nat_tests}
-use Rattle.std.proofs.lemmas.List.{drop_at, take_at, drop-drop}
-use Rattle.std.proofs.lemmas.List.Splits.{slice_split_at, slice_split_none}
-use Rattle.std.specs.List.{before_first, prefix_len, slice_get, slice_split}
-use Rattle.std.specs.Option.{option_and_then}
-use Rattle.version_order.specs.texts.Bytes.{colon, is_section_byte}
-use Rattle.version_order.specs.texts.Front.{begins}
-use Rattle.version_order.specs.texts.Grammar.{SpellsEach, PlainSep, Colon, Hyphen, Plus, Tilde, Underscore, is_sep, sep_byte}
-use Rattle.version_rules.specs.grammar.MChunk.{PlainMChunk, SpellsMChunk, digits_number, value_of_digits, value_of_revision, variant_of}
-use Rattle.version_order.proofs.lemmas.Front.{cases_Option, begins-drop, list_all-take_while, prefix_len-append, all_weaker}
-use Rattle.version_rules.proofs.lemmas.MChunk.{spelled_run, spelled_variant}
-use Rattle.version_rules.specs.grammar.Mess.{Further, PlainMess, Section, SpellsFurther, SpellsMess, SpellsSection, behind_colons, nth_number}
-use Rattle.version_texts.specs.VersioningRef.{chunk_number, is_other_sign, last_piece, section_in, body_number, last_number}
+use Rattle.std.proofs.lemmas.{Bool.Decides.nat_tests, List.drop_at, List.take_at, List.drop-drop, List.Splits.slice_split_at, List.Splits.slice_split_none}
+use Rattle.std.specs.{List.before_first, List.prefix_len, List.slice_get, List.slice_split, Option.option_and_then}
 use Rattle.version_order.specs.texts.Cuts.{from_first, is_dot, pieces, behind_piece, first_piece, further_pieces}
-use Rattle.version_order.proofs.lemmas.Runs.{not_false, run_and_more}
-use Rattle.version_texts.proofs.lemmas.order.Piece.{piece_ends, piece_grows, pieces_are}
-use Rattle.version_texts.proofs.lemmas.scan.Spelled.{NonePass, none_pass, pieces_give, section_bytes}
-use Rattle.version_order.proofs.lemmas.Bytes.{alphanumeric_no_dot}
-use Rattle.version_texts.proofs.lemmas.scan.Shape.{is_colon}
-use Rattle.version_texts.proofs.lemmas.scan.Complex.{further_text-is, no_further, section_no_sep, sign_bytes}
-use Rattle.std.proofs.Math.Dec.{eqb-suc-zero}
-use Rattle.std.proofs.Math.Seq.{drop-nil}
+use Rattle.version_order.specs.texts.Grammar.{SpellsEach, PlainSep, Colon, Hyphen, Plus, Tilde, Underscore, is_sep, sep_byte}
+use Rattle.version_order.specs.texts.{Bytes.colon, Bytes.is_section_byte, Front.begins}
+use Rattle.version_rules.specs.grammar.MChunk.{PlainMChunk, SpellsMChunk, digits_number, value_of_digits, value_of_revision, variant_of}
+use Rattle.version_rules.specs.grammar.Mess.{Further, PlainMess, Section, SpellsFurther, SpellsMess, SpellsSection, behind_colons, nth_number}
+use Rattle.version_order.proofs.lemmas.Front.{cases_Option, begins-drop, list_all-take_while, prefix_len-append, all_weaker}
+use Rattle.version_order.proofs.lemmas.{Bytes.alphanumeric_no_dot, Runs.not_false, Runs.run_and_more}
+use Rattle.version_rules.proofs.lemmas.MChunk.{spelled_run, spelled_variant}
+use Rattle.version_texts.specs.VersioningRef.{chunk_number, is_other_sign, last_piece, section_in, body_number, last_number}
+use Rattle.version_texts.proofs.lemmas.{order.Piece.piece_ends, order.Piece.piece_grows, order.Piece.pieces_are, scan.Complex.further_text-is, scan.Complex.no_further, scan.Complex.section_no_sep, scan.Complex.sign_bytes}
+use Rattle.version_texts.proofs.lemmas.scan.{Shape.is_colon, Spelled.NonePass, Spelled.none_pass, Spelled.pieces_give, Spelled.section_bytes}
+use Rattle.std.proofs.Math.{Dec.eqb-suc-zero, Seq.drop-nil}
 
 -- ---- the chunks of a section
 

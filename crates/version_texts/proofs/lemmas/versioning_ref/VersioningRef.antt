@@ -1,53 +1,24 @@
 -- What the text and the shape of a borrowed version say of the version that it is.
-use Rattle.std.proofs.Common.{◌≡◌, ◌++◌, ℕ, List, append_assoc, sym, ◌∙◌, [], ◌∷◌, Option, Some, None, refl, ap, arith, if◌then◌else◌, ◌==◌, Bool, true, false, length, inl, inr, ◌⊎◌, ◌+◌, suc, take, nat_eq, one-add, length-append}
-use Rattle.version_order.specs.keys.NumberBytes.{number_bytes}
-use Rattle.version_rules.specs.key.PartKey.{parts_bytes, chunk_parts, part_key}
-use Rattle.version_rules.specs.key.Key.{key_tie_cmp, Key, key_of, key_of_mess, key_of_semver, key_of_version, strict_body, precedence, key_bytes}
-use Rattle.version_rules.specs.key.Tail.{tail_bytes, Tail}
-use Rattle.version_texts.specs.Key.{front_bytes, chunks_of, parts_of, tail_of, text_key}
-use Rattle.std.specs.Option.{option_map_or, is_some, option_map}
-use Rattle.version_rules.specs.grammar.Chunk.{PlainChunk}
-use Rattle.version_rules.specs.grammar.Last.{last_text}
-use Rattle.version_rules.proofs.lemmas.Key.{plain_number, precedence_of_semvers}
-use Rattle.version_rules.specs.declared.kind.Kind.{Kind}
-use Rattle.version_rules.specs.grammar.Conversions.{version_of_semver}
+use Rattle.std.proofs.Common.{◌≡◌, ◌++◌, ℕ, List, append_assoc, sym, ◌∙◌, [], ◌∷◌, Option, Some, None, refl, ap, arith, if◌then◌else◌, ◌==◌, Bool, true, false, length, ◌⊎◌, ◌+◌, suc, take, nat_eq, one-add, length-append, rules}
+use Rattle.version_order.specs.{keys.Codes.number_bytes, texts.Bytes.dot, texts.Cuts.is_dot, texts.Front.begins}
 use Rattle.version_rules.specs.grammar.Versioning.{versioning_kind, PlainVersioning, Ideal, General, Complex, SpellsVersioning, versioning_of, is_prerelease, versioning_plain_cmp, versioning_text}
-use Rattle.version_rules.specs.grammar.Mess.{PlainMess, SpellsMess}
-use Rattle.version_rules.specs.grammar.SemVer.{PlainSemVer, SpellsSemVer}
-use Rattle.version_rules.specs.grammar.Version.{PlainVersion, SpellsVersion}
-use Rattle.version_rules.proofs.lemmas.Versioning.{versioning_of-spells, versioning_ascii, versioning_printed, strict_is_general}
-use Rattle.version_texts.specs.declared.scan.shape.TailKind.{TailKind}
-use Rattle.version_texts.specs.declared.scan.shape.TailKind.TheVariants.{PreRelease, Release, Nothing, Sections}
+use Rattle.version_rules.specs.key.Key.{key_tie_cmp, Key, key_of, key_of_mess, key_of_semver, key_of_version, strict_body, precedence, key_bytes, tail_bytes, Tail}
+use Rattle.version_rules.specs.{declared.kind.Kind.Kind, grammar.Chunk.PlainChunk, grammar.Conversions.version_of_semver, grammar.Last.last_text, grammar.Mess.PlainMess, grammar.Mess.SpellsMess}
+use Rattle.version_rules.specs.{grammar.SemVer.PlainSemVer, grammar.SemVer.SpellsSemVer, grammar.Version.PlainVersion, grammar.Version.SpellsVersion, key.PartKey.parts_bytes, key.PartKey.chunk_parts, key.PartKey.part_key}
+use Rattle.version_rules.specs.requirement.{Matching.Matches, Matching.MatchesCaret, Matching.MatchesTilde, Requirement.PlainRequirement, Requirements.Keeps, SemVerMatch.Numbers, SemVerMatch.numbers}
+use Rattle.version_texts.specs.Key.{front_bytes, chunks_of, parts_of, tail_of, text_key}
 use Rattle.version_texts.specs.Scan.{Fits, body_in, shape_at, tail_in, behind_body, shape_of, tail_kind}
-use Rattle.version_texts.proofs.lemmas.scan.Complex.{mess_cut, mess_fits, mess_tail-is}
-use Rattle.version_texts.proofs.lemmas.scan.Spelled.{body_parts, release_chunks, section_parts-is}
-use Rattle.version_texts.proofs.lemmas.scan.Shape.{IsDashed, body_taken, dashed_shape, general_fits, strict_fits, version_cut, version_dashed, version_epoch, is_hyphen}
-use Rattle.version_rules.specs.declared.kind.Kind.TheVariants as kind
-use Rattle.version_rules.specs.key.Tail as tail
-use Rattle.std.proofs.lemmas.Str.{IsUtf8-from_ascii}
-use Rattle.std.specs.Cmp.{first_so, second_so}
-use Rattle.std.specs.Str.{IsUtf8}
+use Rattle.version_texts.specs.{Requirement.IsFront, VersioningRef.version_in, VersioningRef.major_text, declared.scan.shape.Shape.Shape, declared.scan.shape.TailKind.TailKind}
+use Rattle.version_texts.specs.declared.scan.shape.TailKind.TheVariants.{PreRelease, Release, Nothing, Sections}
+use Rattle.std.specs.{Char.is_ascii_digit, Cmp.first_so, Cmp.second_so, Cmp.Lexicographic.other_text, Fmt.decimal, List.list_all, List.position_or_len, List.starts_with, Option.option_map_or, Option.is_some, Str.IsUtf8}
 use Rattle.std.specs.declared.cmp.Ordering.TheVariants.{Equal}
-use Rattle.version_order.specs.texts.Front.{begins}
-use Rattle.version_order.proofs.lemmas.Front.{cases_Option}
-use Rattle.version_texts.specs.declared.scan.shape.Shape.{Shape}
-use Rattle.version_texts.specs.VersioningRef.{version_in, major_text}
-use Rattle.std.proofs.lemmas.Bool.{cases_Bool, eqb-true}
-use Rattle.std.proofs.lemmas.List.{take_at}
-use Rattle.std.proofs.lemmas.List.Elements.{All-head}
-use Rattle.std.specs.Char.{is_ascii_digit}
-use Rattle.std.specs.Cmp.Lexicographic.{other_text}
-use Rattle.std.specs.Fmt.{decimal}
-use Rattle.std.specs.List.{list_all, position_or_len, starts_with}
-use Rattle.version_order.specs.texts.Bytes.{dot}
-use Rattle.version_rules.proofs.lemmas.Numeral.{numeral_printed}
-use Rattle.version_rules.specs.requirement.Matching.{Matches, MatchesCaret, MatchesTilde}
-use Rattle.version_rules.specs.requirement.Requirement.{PlainRequirement}
-use Rattle.version_rules.specs.requirement.Requirements.{Keeps}
-use Rattle.version_rules.specs.requirement.SemVerMatch.{Numbers, numbers}
-use Rattle.version_order.proofs.lemmas.Bytes.{digit_no_dot}
-use Rattle.version_order.specs.texts.Cuts.{is_dot}
-use Rattle.version_texts.specs.Requirement.{IsFront}
+use Rattle.version_rules.proofs.lemmas.{Key.plain_number, Key.precedence_of_semvers, Numeral.numeral_printed, Versioning.versioning_of-spells, Versioning.versioning_ascii, Versioning.versioning_printed, Versioning.strict_is_general}
+use Rattle.version_texts.proofs.lemmas.scan.Shape.{IsDashed, body_taken, dashed_shape, general_fits, strict_fits, version_cut, version_dashed, version_epoch, is_hyphen}
+use Rattle.version_texts.proofs.lemmas.scan.{Complex.mess_cut, Complex.mess_fits, Complex.mess_tail-is, Spelled.body_parts, Spelled.release_chunks, Spelled.section_parts-is}
+use Rattle.std.proofs.lemmas.{Bool.cases_Bool, Bool.eqb-true, List.take_at, List.Elements.All-head, Str.IsUtf8-from_ascii}
+use Rattle.version_order.proofs.lemmas.{Bytes.digit_no_dot, Front.cases_Option}
+use Rattle.version_rules.specs.declared.kind.Kind.TheVariants as kind
+use Rattle.version_rules.specs.key.Key as tail
 use Rattle.version_rules.specs.declared.op.Op.TheVariants as op
 use Rattle.version_rules.specs.requirement.SemVerMatch as strict
 
@@ -149,13 +120,7 @@ pub spelled : (text : List ℕ) (s : Shape) → shape_of text ≡ Some s
     → (versioning_of text ≡ Some (version_in text))
     × (s ≡ shape_at (versioning_kind (version_in text)) text)
 unfolding version_in
-spelled text s e = elim (cases_Option (versioning_of text)) [
-  | inl none ↦ cc (ap (option_map (λ v. shape_at (versioning_kind v) text)) none)
-  | inr some ↦
-      let here : Some (shape_at (versioning_kind some.0) text) ≡ Some s =
-      sym (ap (option_map (λ v. shape_at (versioning_kind v) text)) some.1) ∙ e in
-      rw some.1 (refl, cc here)
-]
+spelled text s e = grind (arith, cases_Option)
 
 -- the version that it spells, by the grammars
 pub spells-is : (text : List ℕ) (s : Shape) → shape_of text ≡ Some s
@@ -218,9 +183,7 @@ either_other false t u e f = sym f
 
 tail_prerelease : (text : List ℕ) (v : PlainVersioning) → SpellsVersioning text v
     → is_prerelease v ≡ is_prerelease_tail (tail_kind (versioning_kind v) text)
-tail_prerelease text (Ideal v) s =
-    dashed_prerelease text v.pre_rel
-    (version_dashed text (version_of_semver v) (strict_is_general text v s))
+tail_prerelease text (Ideal v) s = search (rules, dashed_prerelease, version_dashed, strict_is_general)
 tail_prerelease text (General v) s =
     either_other (begins is_hyphen (behind_body text)) Release Nothing refl refl
 tail_prerelease text (Complex m) s =
@@ -330,9 +293,7 @@ front_begins r w v text some asks e match = grind (arith, tilde_begins, caret_be
 
 -- a list keeps no text that does not begin as its first member asks
 unbegun : (front text : List ℕ) → starts_with nat_eq text front ≡ false → ¬ (Begins front text)
-unbegun front text differ begun =
-    other_text front (take (length front) text) (sym differ)
-    (sym (ap (take (length front)) begun.1 ∙ take_at front begun.0 (length front) refl))
+unbegun front text differ begun = grind (arith, other_text, take_at)
 
 pub not_kept : (r : PlainRequirement) (more : List PlainRequirement) (front text : List ℕ)
     → IsFront r front → starts_with nat_eq text front ≡ false

@@ -1,6 +1,5 @@
 use Rattle.std.proofs.Common.{◌∙◌, sym}
-use Rattle.version_texts.proofs.lemmas.scan.Scanned.{bad_body}
-use Rattle.version_texts.proofs.lemmas.scan.TextKind.{shape_law}
+use Rattle.version_texts.proofs.lemmas.scan.{Scanned.bad_body, TextKind.shape_law}
 use Rattle.version_texts.proofs.scan.scan.Goals as goal
 
 pub returns-in_err-body : goal.returns-in_err-body

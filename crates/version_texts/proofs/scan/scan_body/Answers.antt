@@ -1,13 +1,10 @@
 use Rattle.std.proofs.Common.{◌≡◌, ◌==◌, ◌&&◌, ◌+◌, ◌∙◌, ℕ, Bool, List, true, drop, length, refl, sym, ap, arith}
 use Rattle.std.proofs.lemmas.Grind.{common_steps}
-use Rattle.std.specs.Char.{is_ascii_alphanumeric}
-use Rattle.std.specs.List.{list_all}
-use Rattle.version_order.specs.texts.DigitRun.{is_digits}
-use Rattle.version_order.specs.texts.Class.{first_rank}
+use Rattle.std.specs.{Char.is_ascii_alphanumeric, List.list_all}
+use Rattle.version_order.specs.texts.{Class.first_rank, Front.is_digits, Front.is_run}
 use Rattle.version_texts.specs.Scan.{body_start, has_epoch, is_chunk, section_end, section_pieces}
-use Rattle.version_order.specs.texts.Front.{is_run}
-use Rattle.version_texts.proofs.lemmas.scan.Section.{next_colon}
 use Rattle.version_texts.proofs.lemmas.scan.Scanned.{bad_first, behind_colon, body_end-section, epoch_chunk, epoch_end, first_chunks, first_end, first_numbers, first_runs, no_epoch, not_three, numeral_epoch, one_by_dots, section_is_epoch, three_by_dots}
+use Rattle.version_texts.proofs.lemmas.scan.Section.{next_colon}
 use Rattle.version_texts.proofs.scan.scan_body.Goals as goal
 
 -- whether a text has an epoch, as its first section tells
@@ -16,9 +13,7 @@ epoch_told : (text : List ℕ) (dots : ℕ) {next end : ℕ} {digits told : Bool
     → digits ≡ list_all is_digits (section_pieces text 0)
     → end ≡ section_end text 0 → next ≡ first_rank (drop end text)
     → (((dots == 0) && digits) && (next == 5)) ≡ told → has_epoch text ≡ told
-epoch_told text dots dots_are digits_are end_is next_is told =
-    sym (section_is_epoch text)
-    ∙ rw (← one_by_dots dots _ dots_are, ← digits_are, ← end_is, ← next_colon, ← next_is) told
+epoch_told text dots dots_are digits_are end_is next_is told = grind (arith, section_is_epoch, one_by_dots, next_colon)
 
 abbrev all_runs : List ℕ → ℕ → Bool
 all_runs text place = list_all (is_run is_ascii_alphanumeric) (section_pieces text place)
@@ -34,12 +29,7 @@ returns-in_err-first-clause-runs c =
     rw c.from_residual.ensures (sym (bad_first c.args.text.now (sym c.in_err-first.ensures.runs)))
 
 pub returns-in_err-section-clause-runs : goal.returns-in_err-section-clause-runs
-returns-in_err-section-clause-runs c =
-    let text = c.args.text.now in
-    let first = c.in_ok-first.ensures in
-    let epoch = epoch_told text _ first.dots first.digits first.end first.next c.if-epoch.true in
-    rw c.from_residual-in_err-section.ensures
-    (c.in_err-section.ensures.runs ∙ ap (all_runs text) (begins_behind text _ first.end epoch))
+returns-in_err-section-clause-runs c = grind (arith, epoch_told, begins_behind)
 
 pub returns-then-epoch : goal.returns-then-epoch
 returns-then-epoch c =

@@ -1,23 +1,15 @@
 use Rattle.std.proofs.Common.{◌==◌, ◌∙◌, drop, sym, arith}
-use Rattle.version_order.specs.texts.Bytes.{dot, is_identifier_byte}
-use Rattle.version_texts.proofs.lemmas.scan.Section.{is_dot, no_dot, chunk_empty}
+use Rattle.version_order.specs.texts.Bytes.{dot}
 use Rattle.version_texts.proofs.lemmas.scan.Tail.{bad_chunk, from_last, from_next, place_last, place_next}
+use Rattle.version_texts.proofs.lemmas.scan.Section.{is_dot, no_dot, chunk_empty}
 use Rattle.version_order.proofs.lemmas.Runs.{not_false, not_true, begins_within}
 use Rattle.version_texts.proofs.scan.scan_release.Goals as goal
 
 pub returns-in_err-run-clause-whole : goal.returns-in_err-run-clause-whole
-returns-in_err-run-clause-whole c =
-    rw c.from_residual.ensures
-    (sym (c.chunks.invariant.same
-    ∙ bad_chunk (drop c.chunks.place c.args.text.now)
-    (chunk_empty is_identifier_byte
-    (drop c.chunks.place c.args.text.now) c.in_err-run.ensures.none)))
+returns-in_err-run-clause-whole c = grind (arith, bad_chunk, chunk_empty)
 
 pub returns-then-not-run-clause-whole : goal.returns-then-not-run-clause-whole
-returns-then-not-run-clause-whole c =
-    sym (c.chunks.invariant.same
-    ∙ bad_chunk (drop c.chunks.place c.args.text.now)
-    (sym c.in_ok-run.ensures.chunk ∙ not_true _ c.if-not-run.true))
+returns-then-not-run-clause-whole c = grind (arith, bad_chunk, not_true)
 
 pub chunks-preserved : goal.chunks-preserved
 chunks-preserved c =

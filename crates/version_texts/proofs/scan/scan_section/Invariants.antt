@@ -1,9 +1,7 @@
 use Rattle.std.proofs.Common.{◌≡◌, ◌+◌, ◌-◌, ◌≤◌, ◌&&◌, length}
-use Rattle.std.specs.Char.{is_ascii_alphanumeric}
-use Rattle.std.specs.List.{list_all}
-use Rattle.version_order.specs.texts.DigitRun.{is_digits}
+use Rattle.std.specs.{Char.is_ascii_alphanumeric, List.list_all}
+use Rattle.version_order.specs.texts.Front.{is_digits, is_run}
 use Rattle.version_texts.specs.Scan.{is_chunk, section_end, section_pieces}
-use Rattle.version_order.specs.texts.Front.{is_run}
 use Rattle.version_texts.proofs.scan.scan_section.Given as goal
 
 -- the runs so far, and the pieces from the place on, are the pieces

@@ -1,8 +1,7 @@
 //! Lists of parts, by their texts, and whether `^` matches those of strict versions.
 
 ghost use Rattle.std.specs.Prelude.{◌≡◌, ◌∷◌, ◌↔◌, IsTrue};
-ghost use Rattle.version_rules.specs.key.Key.{strict_body};
-ghost use Rattle.version_rules.specs.requirement.SemVerMatch.{MatchesCaret, Numbers};
+ghost use Rattle.version_rules.specs.{key.Key.strict_body, requirement.SemVerMatch.MatchesCaret, requirement.SemVerMatch.Numbers};
 ghost use Rattle.version_texts.specs.Key.{first_part, more_parts};
 
 use crate::order::delimiters::Delimiters;

@@ -1,4 +1,4 @@
-use Rattle.version_words.proofs.lemmas.Grammar.{next-command, with-command}
+use Rattle.version_words.proofs.lemmas.Words.{next-command, with-command}
 use Rattle.version_words.proofs.grammar.program.Goals as goal
 
 pub loop-name-preserved : goal.loop-name-preserved

@@ -1,7 +1,7 @@
 use Rattle.std.proofs.Common.{◌≡◌, drop, map}
 use Rattle.clap.specs.Words.{app_of}
 use Rattle.version_words.specs.Grammar.{program_app, shape_of_command, HasNoGlobal}
-use Rattle.version_words.proofs.lemmas.Grammar.{with_subcommands}
+use Rattle.version_words.proofs.lemmas.Words.{with_subcommands}
 use Rattle.version_words.proofs.grammar.program.Given as goal
 
 -- with the commands that are left it is the whole program

@@ -3,7 +3,7 @@ use Rattle.std.proofs.Math.ListN.{drop_of_length-le}
 use Rattle.std.proofs.lemmas.List.{at_drop_more}
 use Rattle.clap.specs.Words.{app_of}
 use Rattle.version_words.specs.Grammar.{rule_of_row, with_rules}
-use Rattle.version_words.proofs.lemmas.Grammar.{with-argument, with-none, with-one-more}
+use Rattle.version_words.proofs.lemmas.Words.{with-argument, with-none, with-one-more}
 use Rattle.version_words.proofs.grammar.with_arguments.Goals as goal
 
 pub loop-row-init : goal.loop-row-init

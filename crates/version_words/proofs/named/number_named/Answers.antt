@@ -1,10 +1,8 @@
 use Rattle.std.proofs.Common.{◌≡◌, ◌<◌, ◌^◌, ℕ, true, false, Option, Some, None, SomeIff, List, [], ◌∷◌, length, nat_lt, rules, arith, refl}
 use Rattle.std.proofs.lemmas.Str.Parse.{parse_digits}
-use Rattle.std.specs.Char.{is_ascii_digit}
-use Rattle.std.specs.List.{list_all}
-use Rattle.std.specs.Str.Parse.{digits_value}
+use Rattle.std.specs.{Char.is_ascii_digit, List.list_all, Str.Parse.digits_value}
 use Rattle.version_rules.proofs.lemmas.Numeral.{digits_model, some_if_ok}
-use Rattle.version_order.specs.texts.DigitRun.{is_digits}
+use Rattle.version_order.specs.texts.Front.{is_digits}
 use Rattle.version_words.specs.Named.{number_named}
 use Rattle.version_words.proofs.named.number_named.Goals as goal
 

@@ -1,5 +1,5 @@
 use Rattle.std.proofs.Common.{◌∙◌, ℕ, List, Bor}
-use Rattle.version_words.proofs.lemmas.Named.{by_texts}
+use Rattle.version_words.proofs.lemmas.Words.{by_texts}
 use Rattle.version_words.proofs.named.value_named.Goals as goal
 
 pub returns : goal.returns

@@ -1,8 +1,6 @@
 use Rattle.std.proofs.Common.{◌≡◌, ◌∙◌, None, Some, option_map, rules, ap, sym}
 use Rattle.clap.specs.Words.{subcommand_rows_of}
-use Rattle.version_words.specs.Named.{verb_named}
-use Rattle.version_words.specs.Rows.{rows_in}
-use Rattle.version_words.specs.Words.{command_in}
+use Rattle.version_words.specs.{Named.verb_named, Rows.rows_in, Words.command_in}
 use Rattle.version_words.proofs.rows.command_in.Goals as goal
 
 pub returns-in_err-verb_named : goal.returns-in_err-verb_named

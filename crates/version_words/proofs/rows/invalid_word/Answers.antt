@@ -1,9 +1,8 @@
 use Rattle.std.proofs.Common.{◌≡◌, None, Some, rules}
 use Rattle.clap.specs.Words.{first_of}
-use Rattle.version_words.specs.Rows.{invalid_word, rows_in}
+use Rattle.version_words.specs.{Rows.invalid_word, Rows.rows_in, declared.table.TheConstants.INVALID}
 use Rattle.version_words.proofs.lemmas.Words.{word_wrong}
 use Rattle.version_words.proofs.rows.invalid_word.Goals as goal
-use Rattle.version_words.specs.declared.table.TheConstants.{INVALID}
 
 pub returns-in_default-invalid_named-clause-faults : goal.returns-in_default-invalid_named-clause-faults
 returns-in_default-invalid_named-clause-faults c =

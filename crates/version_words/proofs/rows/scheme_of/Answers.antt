@@ -1,10 +1,9 @@
 use Rattle.std.proofs.Common.{◌≡◌, None, Some, ap, rules, sym, ◌∙◌}
 use Rattle.clap.specs.Words.{first_of}
 use Rattle.version_schemes.specs.Scheme.{scheme_named}
-use Rattle.version_words.specs.Rows.{rows_in, scheme_of}
+use Rattle.version_words.specs.{Rows.rows_in, Rows.scheme_of, declared.table.TheConstants.SCHEME}
 use Rattle.version_words.proofs.lemmas.Words.{word_wrong}
 use Rattle.version_words.proofs.rows.scheme_of.Goals as goal
-use Rattle.version_words.specs.declared.table.TheConstants.{SCHEME}
 
 pub returns-in-None-clause-faults : goal.returns-in-None-clause-faults
 returns-in-None-clause-faults c =

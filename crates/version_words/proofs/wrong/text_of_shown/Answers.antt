@@ -1,6 +1,6 @@
 use Rattle.std.proofs.Common.{◌++◌, codes, string_bytes}
 use Rattle.std.proofs.lemmas.Result.{IfOk-weaker}
-use Rattle.version_words.proofs.lemmas.Wrong.{holds_quoted}
+use Rattle.version_words.proofs.lemmas.Words.{holds_quoted}
 use Rattle.version_words.proofs.wrong.text_of_shown.Goals as goal
 
 pub returns-in-Some : goal.returns-in-Some

@@ -1,5 +1,5 @@
 use Rattle.std.proofs.Common.{ℕ, List, ◌++◌, codes, string_bytes, ap, subst, IfOk, ◌∙◌}
-use Rattle.version_answers.specs.message.Quote.{quoted}
+use Rattle.version_answers.specs.Message.{quoted}
 use Rattle.version_words.specs.Wrong.{Holds}
 use Rattle.version_words.proofs.wrong.text_of_value.Goals as goal
 

@@ -1,4 +1,4 @@
-use Rattle.version_words.proofs.lemmas.Wrong.{fault_quotes}
+use Rattle.version_words.proofs.lemmas.Words.{fault_quotes}
 use Rattle.version_words.proofs.wrong.wrong_name.Goals as goal
 
 pub returns : goal.returns

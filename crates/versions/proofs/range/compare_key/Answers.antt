@@ -1,6 +1,5 @@
 use Rattle.std.proofs.Common.{◌∙◌, refl, ap}
-use Rattle.std.proofs.lemmas.Iterator.{YieldsList-from_slice}
-use Rattle.std.proofs.lemmas.Iterator.Consumers.{YieldsList-from_copied, YieldsList-from_first}
+use Rattle.std.proofs.lemmas.{Iterator.YieldsList-from_slice, Iterator.Consumers.YieldsList-from_copied, Iterator.Consumers.YieldsList-from_first}
 use Rattle.version_order.specs.keys.Lists.{bytes_cmp}
 use Rattle.versions.proofs.range.compare_key.Goals as goal
 

@@ -1,11 +1,9 @@
 use Rattle.std.proofs.Common.{◌≡◌, ◌<◌, ◌++◌, ◌∷◌, ℕ, List, length, arith, lit<, sym, Some}
 use Rattle.std.proofs.lemmas.Str.{IsCharBoundary-after_ascii, IsUtf8-drop}
 use Rattle.std.specs.Str.{IsUtf8}
-use Rattle.version_rules.specs.declared.op.Op.{Op}
 use Rattle.version_rules.specs.declared.op.Op.TheVariants.{Exact, Greater, GreaterEq, Less, LessEq, Tilde, Caret, Wildcard}
-use Rattle.version_rules.specs.requirement.Requirement.{op_front, op_text}
-use Rattle.version_rules.proofs.lemmas.Op.{op_front-Some}
-use Rattle.version_rules.proofs.lemmas.Grammar.{is_read}
+use Rattle.version_rules.specs.{declared.op.Op.Op, requirement.Requirement.op_front, requirement.Requirement.op_text}
+use Rattle.version_rules.proofs.lemmas.{Grammar.is_read, Numeral.op_front-Some}
 use Rattle.versions.proofs.requirement.split_op.Goals as goal
 
 -- what follows a byte of ASCII is a text

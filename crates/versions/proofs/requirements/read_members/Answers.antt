@@ -1,10 +1,7 @@
 use Rattle.std.proofs.Common.{◌≡◌, ◌∙◌, Some, None, lit<, map, sym, ap}
-use Rattle.std.proofs.lemmas.Iterator.Consumers.{YieldsList-end, YieldsList-turn}
-use Rattle.std.proofs.lemmas.Iterator.Splits.{YieldsList-from_str_split}
-use Rattle.std.proofs.lemmas.List.{map-append}
+use Rattle.std.proofs.lemmas.{Iterator.Consumers.YieldsList-end, Iterator.Consumers.YieldsList-turn, Iterator.Splits.YieldsList-from_str_split, List.map-append}
 use Rattle.versions.specs.Requirements.{plain_requirement}
-use Rattle.version_rules.specs.requirement.Requirement.{requirement_of}
-use Rattle.version_rules.specs.requirement.Requirements.{every}
+use Rattle.version_rules.specs.requirement.{Requirement.requirement_of, Requirements.every}
 use Rattle.version_rules.proofs.lemmas.Requirement.{every_push, requirements_of-stops}
 use Rattle.versions.proofs.requirements.read_members.Goals as goal
 

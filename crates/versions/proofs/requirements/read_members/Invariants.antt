@@ -1,7 +1,6 @@
 use Rattle.std.proofs.Common.{◌≡◌, Some, map}
 use Rattle.versions.specs.Requirements.{plain_requirement}
-use Rattle.version_rules.specs.requirement.Requirement.{requirement_of}
-use Rattle.version_rules.specs.requirement.Requirements.{every}
+use Rattle.version_rules.specs.requirement.{Requirement.requirement_of, Requirements.every}
 use Rattle.versions.proofs.requirements.read_members.Given as goal
 
 -- the members so far are what their texts parse as

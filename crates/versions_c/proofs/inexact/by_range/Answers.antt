@@ -1,5 +1,5 @@
 use Rattle.version_texts.specs.VersioningRef.{plain_versioning_ref}
-use Rattle.versions_c.proofs.lemmas.ByRange.{by_members}
+use Rattle.versions_c.proofs.lemmas.Matching.{by_members}
 use Rattle.versions_c.specs.Ranges.{range_with}
 use Rattle.versions_c.proofs.inexact.by_range.Goals as goal
 

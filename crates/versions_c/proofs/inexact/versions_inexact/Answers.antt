@@ -2,7 +2,7 @@ use Rattle.std.proofs.Common.{◌∙◌, arith, length, sym, rules}
 use Rattle.std.specs.Option.{is_some}
 use Rattle.version_rules.proofs.lemmas.Inexact.{inexact_decide, inexact_none, inexact_parse}
 use Rattle.version_rules.specs.requirement.Requirements.{requirements_of}
-use Rattle.versions_c.proofs.lemmas.Inexact.{no_wrong, status_if, told, within, written}
+use Rattle.versions_c.proofs.lemmas.Matching.{no_wrong, status_if, told, within, written}
 use Rattle.versions_c.proofs.inexact.versions_inexact.Goals as goal
 
 pub returns-then-members_len-members : goal.returns-then-members_len-members

@@ -1,6 +1,6 @@
 use Rattle.std.proofs.Common.{◌∙◌, ap}
 use Rattle.version_texts.specs.VersioningRef.{plain_versioning_ref}
-use Rattle.versions_c.proofs.lemmas.ByRange.{told_of}
+use Rattle.versions_c.proofs.lemmas.Matching.{told_of}
 use Rattle.versions_c.specs.Matching.{match_code}
 use Rattle.versions_c.proofs.inexact.versions_match_in_range.Goals as goal
 

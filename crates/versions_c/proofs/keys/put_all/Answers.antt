@@ -1,15 +1,11 @@
 use Rattle.std.proofs.Common.{◌≡◌, ◌∙◌, ◌+◌, ◌<◌, ℕ, List, ap, sym, refl, length, arith}
 use Rattle.std.proofs.lemmas.List.{length-set}
 use Rattle.std.specs.Option.{option_map_or}
-use Rattle.version_texts.specs.Mixed.{mixed}
-use Rattle.version_texts.specs.VersioningRef.{plain_versioning_ref}
+use Rattle.version_texts.specs.{Mixed.mixed, VersioningRef.plain_versioning_ref}
 use Rattle.version_order.specs.keys.Sinks.{put_nothing}
-use Rattle.versions_c.specs.Keys.{keys_before, spelled_key}
-use Rattle.versions_c.specs.Offsets.{text_at}
-use Rattle.version_rules.specs.grammar.Versioning.{versioning_kind, versioning_of}
-use Rattle.version_rules.specs.declared.kind.Kind.TheVariants.{Ideal}
-use Rattle.versions_c.proofs.lemmas.Keys.{key_of_read}
-use Rattle.versions_c.proofs.lemmas.Keys.Putting.{ArePut, first_told, next_marked, next_told, no_more_key, one_more_key}
+use Rattle.versions_c.specs.{Keys.keys_before, Keys.spelled_key, Written.text_at}
+use Rattle.version_rules.specs.{declared.kind.Kind.TheVariants.Ideal, grammar.Versioning.versioning_kind, grammar.Versioning.versioning_of}
+use Rattle.versions_c.proofs.lemmas.Keys.{key_of_read, ArePut, first_told, next_marked, next_told, no_more_key, one_more_key}
 use Rattle.versions_c.proofs.keys.put_all.Goals.{else-place-places, in-Some, in_default, then-place-places}
 use Rattle.versions_c.proofs.keys.put_all.Goals as goal
 

@@ -1,7 +1,6 @@
 use Rattle.std.proofs.Common.{◌≡◌, ◌<◌, ◌≤◌, ℕ, length, slice_index}
-use Rattle.versions_c.specs.Keys.{keys_before, saturated_signed, spelled_key}
-use Rattle.versions_c.specs.Sorting.{IsMarked}
-use Rattle.versions_c.proofs.lemmas.Keys.Putting.{ArePut}
+use Rattle.versions_c.specs.{Keys.keys_before, Keys.saturated_signed, Keys.spelled_key, Sorting.IsMarked}
+use Rattle.versions_c.proofs.lemmas.Keys.{ArePut}
 use Rattle.versions_c.proofs.keys.put_all.Given as goal
 
 abbrev pub invariant-loop-place : goal.invariant-loop-place

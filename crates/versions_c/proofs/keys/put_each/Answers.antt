@@ -1,10 +1,8 @@
 use Rattle.std.proofs.Common.{◌+◌, arith, refl, subst, sym}
 use Rattle.std.proofs.lemmas.List.{length-set}
 use Rattle.version_order.specs.keys.Sinks.{put_nothing}
-use Rattle.versions_c.proofs.lemmas.Keys.Putting.{ArePut, first_told, next_told}
-use Rattle.versions_c.proofs.lemmas.Schemes.{read_put}
-use Rattle.versions_c.specs.Keys.{keys_before}
-use Rattle.versions_c.specs.Schemes.{key_by}
+use Rattle.versions_c.proofs.lemmas.{Keys.ArePut, Keys.first_told, Keys.next_told, Schemes.read_put}
+use Rattle.versions_c.specs.{Keys.keys_before, Schemes.key_by}
 use Rattle.versions_c.proofs.keys.put_each.Goals as goal
 
 pub loop-place-init : goal.loop-place-init

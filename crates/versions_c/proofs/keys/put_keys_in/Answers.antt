@@ -2,8 +2,7 @@ use Rattle.std.proofs.Common.{rules as facts, ◌≡◌, ◌∙◌, ◌-◌, ◌
 use Rattle.std.proofs.lemmas.Bool.Decides.{nat_tests}
 use Rattle.version_schemes.specs.Scheme.{rules}
 use Rattle.version_order.proofs.lemmas.Sinks.{put_fits}
-use Rattle.versions_c.specs.Keys.{keys_before}
-use Rattle.versions_c.specs.Schemes.{key_by}
+use Rattle.versions_c.specs.{Keys.keys_before, Schemes.key_by}
 use Rattle.versions_c.proofs.keys.put_keys_in.Goals as goal
 
 pub returns-then-put_each_in-room-clause-keys : goal.returns-then-put_each_in-room-clause-keys

@@ -1,9 +1,7 @@
 use Rattle.std.proofs.Common.{ap, arith}
-use Rattle.version_texts.specs.Mixed.{mixed}
-use Rattle.version_texts.specs.VersioningRef.{plain_versioning_ref}
+use Rattle.version_texts.specs.{Mixed.mixed, VersioningRef.plain_versioning_ref}
 use Rattle.versions_c.specs.Keys.{spelled_key}
-use Rattle.versions_c.proofs.lemmas.Keys.{key_of_read}
-use Rattle.versions_c.proofs.lemmas.Keys.Putting.{fitting_key}
+use Rattle.versions_c.proofs.lemmas.Keys.{key_of_read, fitting_key}
 use Rattle.versions_c.proofs.keys.versions_parse.Goals as goal
 
 pub returns-clause-key : goal.returns-clause-key

@@ -1,4 +1,4 @@
-use Rattle.versions_c.proofs.lemmas.Sorting.OneOrder.{one_order}
+use Rattle.versions_c.proofs.lemmas.Sorting.{one_order}
 use Rattle.versions_c.proofs.laws.sorting.Goals as goal
 
 pub returns : goal.returns

@@ -1,8 +1,7 @@
 use Rattle.std.proofs.Common.{◌≡◌, ◌-◌, arith, length}
 use Rattle.version_tasks.specs.Newest.{IsWanted}
 use Rattle.versions_c.proofs.lemmas.Newest.{newest_alike}
-use Rattle.versions_c.specs.Newest.{asked_at}
-use Rattle.versions_c.specs.Offsets.{text_at}
+use Rattle.versions_c.specs.{Newest.asked_at, Written.text_at}
 use Rattle.versions_c.proofs.newest.versions_newest.Goals as goal
 
 pub returns-in_default-newest_place-clause-some : goal.returns-in_default-newest_place-clause-some

@@ -1,8 +1,7 @@
 use Rattle.std.proofs.Common.{List, Option, ℕ, subst, ◌<◌, ◌≤◌, ◌^◌, arith, length}
-use Rattle.version_tasks.specs.NextPre.{plain_next_pre, IsOfPreForm}
-use Rattle.version_tasks.specs.Next.{IsLeastAfter}
+use Rattle.version_tasks.specs.{Next.IsLeastAfter, NextPre.plain_next_pre, NextPre.IsOfPreForm}
 use Rattle.version_texts.specs.VersioningRef.{plain_versioning_ref}
-use Rattle.versions_c.specs.Next.{given_word}
+use Rattle.versions_c.specs.Newest.{given_word}
 use Rattle.versions_c.proofs.lemmas.Written.{next_written}
 use Rattle.versions_c.proofs.next.versions_next_pre.Goals as goal
 

@@ -1,6 +1,6 @@
 use Rattle.std.proofs.Common.{◌<◌, ℕ, slice_index}
 use Rattle.std.specs.Fn.{FnReturnsAt}
-use Rattle.versions_c.specs.Offsets.{text_at}
+use Rattle.versions_c.specs.Written.{text_at}
 use Rattle.versions_c.proofs.offsets.answer_each.Given as goal
 
 abbrev pub invariant-loop-place : goal.invariant-loop-place

@@ -1,7 +1,6 @@
 use Rattle.std.proofs.Common.{rules, of_z, to_z, w32, ◌≡◌, ◌∙◌, ap, subst}
 use Rattle.std.specs.Option.{IfSome}
-use Rattle.version_order.specs.keys.Codes.{Writes}
-use Rattle.version_order.specs.keys.Lists.{bytes_cmp}
+use Rattle.version_order.specs.keys.{Codes.Writes, Lists.bytes_cmp}
 use Rattle.version_order.proofs.lemmas.Codes.{order_by_keys}
 use Rattle.versions_c.specs.Order.{order_code}
 use Rattle.versions_c.proofs.order.compare.Goals as goal

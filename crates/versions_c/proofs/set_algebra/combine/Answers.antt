@@ -1,9 +1,6 @@
 use Rattle.std.proofs.Common.{rules, of_z, to_z, ◌≡◌, ◌∙◌, List, ap, arith, false, length, subst, w32, ℕ}
-use Rattle.version_sets.specs.Form.{form_bytes}
-use Rattle.version_sets.specs.Pile.{merged}
-use Rattle.version_sets.specs.Set.{by_rule}
-use Rattle.version_sets.proofs.lemmas.Ends.{are_merged}
-use Rattle.version_sets.proofs.lemmas.Pile.{no_longer, nothing_alone}
+use Rattle.version_sets.specs.{Form.form_bytes, Pile.merged, Set.by_rule}
+use Rattle.version_sets.proofs.lemmas.{Ends.are_merged, Pile.no_longer, Pile.nothing_alone}
 use Rattle.versions_c.specs.Written.{IsWritten}
 use Rattle.versions_c.proofs.set_algebra.combine.Goals as goal
 

@@ -1,7 +1,6 @@
 use Rattle.std.proofs.Common.{◌≡◌, ◌∙◌, ◌+◌, ◌-◌, ◌*◌, ◌∷◌, ◌++◌, List, Option, None, Some, ap, arith, drop, length, length-append, pos, refl, subst, suc, sym, take, ℕ}
 use Rattle.std.proofs.Math.Seq.{drop-append-add}
-use Rattle.std.specs.List.{slice_range}
-use Rattle.std.specs.Option.{IfSome, option_map, unwrap_or}
+use Rattle.std.specs.{List.slice_range, Option.IfSome, Option.option_map, Option.unwrap_or}
 use Rattle.version_sets.specs.Form.{between, number, IsSpan, interval_at}
 use Rattle.version_sets.proofs.lemmas.Form.{between_is, number_length}
 use Rattle.versions_c.specs.Sets.{IsInterval, interval_status}

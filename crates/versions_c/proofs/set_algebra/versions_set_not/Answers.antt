@@ -1,12 +1,6 @@
 use Rattle.std.proofs.Common.{rules, of_z, to_z, ◌≡◌, ◌∙◌, ◌∷◌, [], List, ap, arith, false, length, refl, true, subst, w32, ℕ}
-use Rattle.version_sets.specs.Form.{has, form_bytes}
-use Rattle.version_sets.specs.Pile.{merged}
-use Rattle.version_sets.specs.Set.{by_rule}
-use Rattle.version_sets.specs.declared.merge.Rule.TheVariants.{FirstAlone}
-use Rattle.version_sets.proofs.lemmas.Comparison.{one_rises}
-use Rattle.version_sets.proofs.lemmas.Ends.{are_merged}
-use Rattle.version_sets.proofs.lemmas.Form.{form_length}
-use Rattle.version_sets.proofs.lemmas.Pile.{no_longer}
+use Rattle.version_sets.specs.{Form.has, Form.form_bytes, Pile.merged, Set.by_rule, declared.merge.Rule.TheVariants.FirstAlone}
+use Rattle.version_sets.proofs.lemmas.{Comparison.one_rises, Ends.are_merged, Form.form_length, Pile.no_longer}
 use Rattle.versions_c.specs.Written.{IsWritten}
 use Rattle.versions_c.proofs.set_algebra.versions_set_not.Goals as goal
 

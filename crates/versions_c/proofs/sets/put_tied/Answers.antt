@@ -1,10 +1,7 @@
 use Rattle.std.proofs.Common.{◌<◌, ◌^◌, ap, arith, length, subst}
 use Rattle.std.specs.Option.{IfSome}
-use Rattle.version_sets.specs.Comparison.{ends_with}
-use Rattle.version_sets.specs.Form.{form_bytes}
-use Rattle.version_sets.specs.declared.read.comparison.Comparison.TheVariants.{Equal}
-use Rattle.versions_c.specs.Written.{IsWritten}
-use Rattle.versions_c.specs.declared.status.TheConstants.{NO_ROOM, OK}
+use Rattle.version_sets.specs.{Comparison.ends_with, Form.form_bytes, declared.read.comparison.Comparison.TheVariants.Equal}
+use Rattle.versions_c.specs.{Written.IsWritten, declared.status.TheConstants.NO_ROOM, declared.status.TheConstants.OK}
 use Rattle.versions_c.proofs.lemmas.Written.{fitting, too_long}
 use Rattle.versions_c.proofs.sets.put_tied.Goals as goal
 

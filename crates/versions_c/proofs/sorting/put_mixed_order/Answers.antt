@@ -1,9 +1,7 @@
 use Rattle.std.proofs.Common.{◌<◌, ◌≤◌, ◌∙◌, ℕ, [], ap, arith, length, sym}
 use Rattle.std.specs.Option.{unwrap_or}
-use Rattle.versions_c.specs.Keys.{keys_before, spelled_key}
-use Rattle.versions_c.specs.Offsets.{AreOffsets, text_at}
-use Rattle.versions_c.proofs.lemmas.Schemes.{key_is_spelled}
-use Rattle.versions_c.proofs.lemmas.Sorting.{are_key_offsets, in_order, key_lies}
+use Rattle.versions_c.specs.{Keys.keys_before, Keys.spelled_key, Written.AreOffsets, Written.text_at}
+use Rattle.versions_c.proofs.lemmas.{Schemes.key_is_spelled, Sorting.are_key_offsets, Sorting.in_order, Sorting.key_lies}
 use Rattle.versions_c.proofs.sorting.put_mixed_order.Goals as goal
 
 pub invariant_of-keys : goal.invariant_of-keys

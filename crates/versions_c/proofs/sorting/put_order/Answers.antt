@@ -2,17 +2,10 @@ use Rattle.std.proofs.Common.{rules as facts, ◌≡◌, ◌∙◌, ◌-◌, ◌
 use Rattle.std.proofs.lemmas.Bool.Decides.{nat_tests}
 use Rattle.std.specs.Option.{option_map}
 use Rattle.version_schemes.proofs.lemmas.Table.{keys_some}
-use Rattle.version_schemes.specs.Scheme.{rules as rules_of}
-use Rattle.version_schemes.specs.declared.scheme.Scheme.TheVariants.{Mixed}
+use Rattle.version_schemes.specs.{Scheme.rules as rules_of, declared.scheme.Scheme.TheVariants.Mixed}
 use Rattle.version_order.specs.Keyed.{PlainKeyed}
-use Rattle.versions_c.proofs.lemmas.Sorting.{are_key_offsets, key_lies}
-use Rattle.versions_c.proofs.lemmas.Sorting.ByKeys.{by_keys_alone, in_key_order}
-use Rattle.versions_c.specs.Keys.{all_keys, keys_before, AreKeyOffsets}
-use Rattle.versions_c.specs.Offsets.{AreOffsets}
-use Rattle.versions_c.specs.Schemes.{key_by}
-use Rattle.versions_c.specs.Sorting.{AreSorted}
-use Rattle.versions_c.specs.Written.{room_status}
-use Rattle.versions_c.specs.declared.status.TheConstants.{OK}
+use Rattle.versions_c.proofs.lemmas.Sorting.{are_key_offsets, key_lies, by_keys_alone, in_key_order}
+use Rattle.versions_c.specs.{Keys.all_keys, Keys.keys_before, Keys.AreKeyOffsets, Schemes.key_by, Sorting.AreSorted, Written.AreOffsets, Written.room_status, declared.status.TheConstants.OK}
 use Rattle.versions_c.proofs.sorting.put_order.Goals as goal
 
 some_key : (read : Option PlainKeyed) → IfSome read (λ v. ¬ (v.key ≡ []))

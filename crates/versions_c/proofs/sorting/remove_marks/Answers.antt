@@ -1,6 +1,5 @@
 use Rattle.std.proofs.Common.{◌∙◌, ◌<◌, ℕ, length, get_or, map, sym, arith}
-use Rattle.std.proofs.lemmas.List.{get_or-map, length-map}
-use Rattle.std.proofs.lemmas.List.FromFn.{fill_by_all}
+use Rattle.std.proofs.lemmas.{List.get_or-map, List.length-map, List.FromFn.fill_by_all}
 use Rattle.version_texts.specs.Order.{marked_number}
 use Rattle.versions_c.proofs.sorting.remove_marks.Goals as goal
 

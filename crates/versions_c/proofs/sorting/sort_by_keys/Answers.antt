@@ -1,6 +1,6 @@
 use Rattle.std.proofs.Common.{rules}
 use Rattle.std.proofs.lemmas.Fn.{always_returns_same}
-use Rattle.versions_c.proofs.lemmas.Sorting.ByKeys.{lying_ranks}
+use Rattle.versions_c.proofs.lemmas.Sorting.{lying_ranks}
 use Rattle.versions_c.proofs.sorting.sort_by_keys.Goals as goal
 
 pub returns-clause-sorted : goal.returns-clause-sorted

@@ -1,4 +1,4 @@
-use Rattle.versions_c.proofs.lemmas.Tags.{start_found}
+use Rattle.versions_c.proofs.lemmas.Newest.{start_found}
 use Rattle.versions_c.proofs.tags.start_at.Goals as goal
 
 pub returns-in-Some : goal.returns-in-Some

@@ -1,5 +1,5 @@
 use Rattle.std.proofs.Common.{◌<◌, ℕ, slice_index}
-use Rattle.versions_c.specs.Tags.{IsStart}
+use Rattle.versions_c.specs.Newest.{IsStart}
 use Rattle.versions_c.proofs.tags.versions_in_tags.Given as goal
 
 abbrev pub invariant-loop-place : goal.invariant-loop-place

@@ -1,10 +1,7 @@
 use Rattle.std.proofs.Common.{List, Option, Some, None, IsSomeAnd, inl, refl}
-use Rattle.version_rules.specs.requirement.Range.{range_of}
-use Rattle.version_rules.specs.requirement.Requirement.{PlainRequirement}
-use Rattle.version_rules.specs.requirement.Requirements.{requirements_of}
+use Rattle.version_rules.specs.requirement.{Range.range_of, Requirement.PlainRequirement, Requirements.requirements_of}
 use Rattle.version_texts.specs.Range.{IsEmpty}
-use Rattle.versions_c.specs.Why.{IsConflictStatus}
-use Rattle.versions_c.specs.declared.status.TheConstants.{OK}
+use Rattle.versions_c.specs.{Matching.IsConflictStatus, declared.status.TheConstants.OK}
 use Rattle.versions_c.proofs.why.versions_conflict.Goals as goal
 
 -- the status for a list whose range is empty

@@ -1,5 +1,5 @@
 use Rattle.std.proofs.Common.{◌∙◌, refl, sym}
-use Rattle.version_order.proofs.lemmas.Plain.{behind}
+use Rattle.version_order.proofs.lemmas.Cuts.{behind}
 use Rattle.scheme_deb.proofs.lemmas.Plain.{revision_all, upstream_all}
 use Rattle.scheme_deb.proofs.version.Deb.read_plain.Goals as goal
 

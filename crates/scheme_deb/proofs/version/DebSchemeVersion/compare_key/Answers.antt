@@ -1,7 +1,6 @@
-use Rattle.std.proofs.Common.{◌∙◌, [], ℕ, List, ap, append-nil}
+use Rattle.std.proofs.Common.{[], ◌∙◌, ℕ, List, ap, append-nil}
 use Rattle.version_order.specs.keys.Lists.{bytes_cmp}
-use Rattle.scheme_deb.specs.Deb.{plain_deb}
-use Rattle.scheme_deb.specs.Order.{deb_bytes}
+use Rattle.scheme_deb.specs.{Deb.plain_deb, Order.deb_bytes}
 use Rattle.scheme_deb.proofs.version.DebSchemeVersion.compare_key.Goals as goal
 
 pub returns : goal.returns

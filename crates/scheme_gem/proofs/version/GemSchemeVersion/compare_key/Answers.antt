@@ -1,7 +1,6 @@
 use Rattle.std.proofs.Common.{◌∙◌, [], ℕ, List, ap, append-nil}
 use Rattle.version_order.specs.keys.Lists.{bytes_cmp}
-use Rattle.scheme_gem.specs.Rules.{plain_gem}
-use Rattle.scheme_gem.specs.Order.{gem_bytes}
+use Rattle.scheme_gem.specs.{Order.gem_bytes, Rules.plain_gem}
 use Rattle.scheme_gem.proofs.version.GemSchemeVersion.compare_key.Goals as goal
 
 pub returns : goal.returns

@@ -1,8 +1,6 @@
 use Rattle.version_order.proofs.lemmas.Costs.{ends_cost}
 use Rattle.scheme_gem.proofs.lemmas.Costs.{gem_cost}
-use Rattle.scheme_gem.specs.Order.{gem_bytes}
-use Rattle.scheme_gem.specs.Rules.{gem_facts}
-use Rattle.scheme_gem.specs.Texts.{gem_of}
+use Rattle.scheme_gem.specs.{Order.gem_bytes, Rules.gem_facts, Texts.gem_of}
 use Rattle.scheme_gem.proofs.version.GemSchemeVersion.facts.Goals as goal
 
 pub returns-clause-within : goal.returns-clause-within

@@ -1,7 +1,6 @@
-use Rattle.std.proofs.Common.{◌∙◌, [], ℕ, List, ap, append-nil}
+use Rattle.std.proofs.Common.{[], ◌∙◌, ℕ, List, ap, append-nil}
 use Rattle.version_order.specs.keys.Lists.{bytes_cmp}
-use Rattle.scheme_pypi.specs.Order.{pypi_bytes}
-use Rattle.scheme_pypi.specs.Pypi.{plain_pypi}
+use Rattle.scheme_pypi.specs.{Order.pypi_bytes, Pypi.plain_pypi}
 use Rattle.scheme_pypi.proofs.version.PypiSchemeVersion.compare_key.Goals as goal
 
 pub returns : goal.returns

@@ -1,7 +1,6 @@
 use Rattle.std.proofs.Common.{arith, false, refl}
 use Rattle.version_order.proofs.lemmas.Bytes.{table_at}
-use Rattle.scheme_rpm.specs.Texts.{is_of_rpm}
-use Rattle.scheme_rpm.specs.declared.sets.TheConstants.{OF_RPM}
+use Rattle.scheme_rpm.specs.{Texts.is_of_rpm, declared.sets.TheConstants.OF_RPM}
 use Rattle.scheme_rpm.proofs.sets.OfRpmByteSet.has.Goals as goal
 
 pub returns : goal.returns

@@ -1,7 +1,6 @@
 use Rattle.std.proofs.Common.{◌∙◌, [], ℕ, List, ap, append-nil}
 use Rattle.version_order.specs.keys.Lists.{bytes_cmp}
-use Rattle.scheme_rpm.specs.Rpm.{plain_rpm}
-use Rattle.scheme_rpm.specs.Order.{rpm_bytes}
+use Rattle.scheme_rpm.specs.{Order.rpm_bytes, Rpm.plain_rpm}
 use Rattle.scheme_rpm.proofs.version.RpmSchemeVersion.compare_key.Goals as goal
 
 pub returns : goal.returns

@@ -1,8 +1,7 @@
 use Rattle.std.proofs.Common.{◌∙◌, refl}
 use Rattle.std.proofs.lemmas.Result.{err_from_is_err_and}
-use Rattle.version_order.specs.texts.DigitRun.{behind_digits}
-use Rattle.scheme_semver.proofs.lemmas.Numbers.{last_number, next_number, whole}
-use Rattle.scheme_semver.proofs.lemmas.Walks.{next_cut, tail_cut, tail_ends}
+use Rattle.version_order.specs.texts.Front.{behind_digits}
+use Rattle.scheme_semver.proofs.lemmas.{Numbers.last_number, Numbers.next_number, Numbers.whole, Walks.next_cut, Walks.tail_cut, Walks.tail_ends}
 use Rattle.scheme_semver.proofs.version.SemVer.read_parts.Goals as goal
 
 pub returns-in_err-minor : goal.returns-in_err-minor

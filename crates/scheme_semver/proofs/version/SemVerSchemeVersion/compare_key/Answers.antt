@@ -1,7 +1,6 @@
 use Rattle.std.proofs.Common.{◌∙◌, [], ℕ, List, ap, append-nil}
 use Rattle.version_order.specs.keys.Lists.{bytes_cmp}
-use Rattle.scheme_semver.specs.Rules.{plain_semver}
-use Rattle.scheme_semver.specs.Order.{semver_bytes}
+use Rattle.scheme_semver.specs.{Order.semver_bytes, Rules.plain_semver}
 use Rattle.scheme_semver.proofs.version.SemVerSchemeVersion.compare_key.Goals as goal
 
 pub returns : goal.returns

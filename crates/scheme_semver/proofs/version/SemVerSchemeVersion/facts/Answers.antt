@@ -1,8 +1,6 @@
 use Rattle.version_order.proofs.lemmas.Costs.{ends_cost}
 use Rattle.scheme_semver.proofs.lemmas.Costs.{semver_cost}
-use Rattle.scheme_semver.specs.Order.{semver_bytes}
-use Rattle.scheme_semver.specs.Rules.{semver_facts}
-use Rattle.scheme_semver.specs.Texts.{semver_of}
+use Rattle.scheme_semver.specs.{Order.semver_bytes, Rules.semver_facts, Texts.semver_of}
 use Rattle.scheme_semver.proofs.version.SemVerSchemeVersion.facts.Goals as goal
 
 pub returns-clause-within : goal.returns-clause-within

@@ -1,7 +1,6 @@
 use Rattle.std.proofs.Common.{◌∷◌, [], ap, refl}
 use Rattle.version_order.proofs.lemmas.Sinks.{next_fits, owes_all, owes_rest, owes_same}
-use Rattle.scheme_semver.specs.Order.{pre_release_bytes}
-use Rattle.scheme_semver.specs.Texts.{identifiers_of}
+use Rattle.scheme_semver.specs.{Order.pre_release_bytes, Texts.identifiers_of}
 use Rattle.scheme_semver.proofs.version.SemVerSchemeVersion.put_key.Goals as goal
 
 pub put_number-requires-2 : goal.put_number-requires-2

@@ -1,8 +1,6 @@
 -- What is written, with what is left of the escape, is all of the escape.
 use Rattle.std.proofs.Common.{◌≡◌, ℕ, List, ◌++◌, encode_utf8_all}
-use Rattle.std.specs.Char.Escape.{escape_default}
-use Rattle.std.specs.Char.Iter.{escape_rest}
-use Rattle.std.specs.Fmt.{HasWritten, IsPlainFormatter}
+use Rattle.std.specs.{Char.Escape.escape_default, Char.Iter.escape_rest, Fmt.HasWritten, Fmt.IsPlainFormatter}
 use Rattle.version_answers.proofs.message.quote.write_quoted.Given as goal
 
 abbrev pub invariant-loop-escaped : goal.invariant-loop-escaped

@@ -1,5 +1,5 @@
 use Rattle.std.proofs.Common.{◌≡◌, ◌+◌, ◌-◌, ◌≤◌, drop, length}
-use Rattle.version_answers.specs.message.Remark.{digit_place}
+use Rattle.version_answers.specs.Message.{digit_place}
 use Rattle.version_answers.proofs.message.remark.digit_place.Given as goal
 
 -- no byte so far is a digit

@@ -1,10 +1,8 @@
 use Rattle.std.proofs.Common.{◌∙◌, ap, List, ℕ, ◌++◌, codes, Option}
-use Rattle.serde_json.specs.Data.{string}
-use Rattle.serde_json.specs.Written.{compact_text}
+use Rattle.serde_json.specs.{Data.string, Written.compact_text}
 use Rattle.serde_json.proofs.OnLiterals.{serde_json_on_literals}
-use Rattle.version_answers.proofs.lemmas.Pieces.{then}
-use Rattle.version_answers.specs.one.Json.{number_or_null, text_or_null}
-use Rattle.version_answers.specs.one.Show.{kind_name, stability_name}
+use Rattle.version_answers.proofs.lemmas.One.{then}
+use Rattle.version_answers.specs.One.{number_or_null, text_or_null, kind_name, stability_name}
 use Rattle.version_answers.proofs.one.json.add_object.Goals as goal
 
 pub returns : goal.returns

@@ -1,6 +1,5 @@
 use Rattle.std.proofs.Common.{◌≡◌, ◌∙◌, true, List, ℕ, Option, None, Some, is_some, IfSome, subst, sym}
-use Rattle.version_tasks.specs.NextPre.{IsNextPre, plain_next_pre}
-use Rattle.version_tasks.specs.Next.{plain_next}
+use Rattle.version_tasks.specs.{Next.plain_next, NextPre.IsNextPre, NextPre.plain_next_pre}
 use Rattle.version_texts.specs.VersioningRef.{plain_versioning_ref}
 use Rattle.version_answers.proofs.one.next.has_next.Goals as goal
 

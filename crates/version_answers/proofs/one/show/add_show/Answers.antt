@@ -1,7 +1,7 @@
 use Rattle.std.proofs.Common.{◌∙◌, ap, List, ℕ, [], ◌∷◌, ◌++◌, codes, option_map, Option, Some}
 use Rattle.std.specs.Fmt.{decimal}
-use Rattle.version_answers.proofs.lemmas.Pieces.{last, then}
-use Rattle.version_answers.specs.one.Show.{field_line, kind_name, stability_name}
+use Rattle.version_answers.proofs.lemmas.One.{last, then}
+use Rattle.version_answers.specs.One.{field_line, kind_name, stability_name}
 use Rattle.version_answers.proofs.one.show.add_show.Goals as goal
 
 pub returns : goal.returns

@@ -1,9 +1,8 @@
 use Rattle.std.proofs.Common.{◌-◌, drop, subst, sym, take, arith}
 use Rattle.std.proofs.lemmas.Str.{IsAscii-drop, IsAscii-take, IsUtf8-from_ascii}
 use Rattle.std.specs.Str.{IsAscii}
-use Rattle.version_rules.proofs.lemmas.Grammar.{is_read, same_bytes}
-use Rattle.version_rules.proofs.lemmas.Versioning.{versioning_ascii, versioning_of-spells}
-use Rattle.version_answers.proofs.lemmas.Fields.{field_taken}
+use Rattle.version_rules.proofs.lemmas.{Grammar.is_read, Grammar.same_bytes, Versioning.versioning_ascii, Versioning.versioning_of-spells}
+use Rattle.version_answers.proofs.lemmas.One.{field_taken}
 use Rattle.version_texts.specs.VersioningRef.{plain_versioning_ref}
 use Rattle.version_answers.proofs.one.show.field_of.Goals as goal
 

@@ -1,7 +1,6 @@
 use Rattle.std.proofs.Common.{refl}
-use Rattle.version_answers.proofs.lemmas.Sets.{all_left}
-use Rattle.version_schemes.specs.Scheme.{rules}
-use Rattle.version_schemes.specs.any.AnyVersion.{plain_any}
+use Rattle.version_answers.proofs.lemmas.One.{all_left}
+use Rattle.version_schemes.specs.{Scheme.rules, any.AnyVersion.plain_any}
 use Rattle.version_answers.proofs.one.why.add_members.Goals as goal
 
 pub loop-found-init : goal.loop-found-init

@@ -1,10 +1,7 @@
 use Rattle.std.proofs.Common.{◌≡◌, ◌++◌, List, Some, codes}
-use Rattle.version_answers.specs.Sets.{set_of}
-use Rattle.version_answers.specs.one.Why.{members_text}
-use Rattle.version_sets.specs.Excluding.{AreLeft, leave_out, steps_left}
-use Rattle.version_sets.specs.Reading.{Member}
-use Rattle.version_schemes.specs.Scheme.{rules}
-use Rattle.version_schemes.specs.any.AnyVersion.{plain_any}
+use Rattle.version_answers.specs.{One.members_text, Sets.set_of}
+use Rattle.version_sets.specs.{Excluding.AreLeft, Excluding.leave_out, Excluding.steps_left, Reading.Member}
+use Rattle.version_schemes.specs.{Scheme.rules, any.AnyVersion.plain_any}
 use Rattle.version_answers.proofs.one.why.add_members.Given as goal
 
 -- what is written, and what is still to come, are the members of all alternatives

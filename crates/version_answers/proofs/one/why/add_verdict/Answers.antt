@@ -1,10 +1,9 @@
 use Rattle.std.proofs.Common.{◌≡◌, ◌∙◌, ◌++◌, ℕ, List, ap, codes, false, rules, sym, true}
 use Rattle.std.proofs.lemmas.Result.{on_ok_weaker}
-use Rattle.version_answers.proofs.lemmas.Sets.{said_outside, said_within, same_keys}
+use Rattle.version_answers.proofs.lemmas.One.{said_outside, said_within, same_keys}
 use Rattle.std.specs.Result.{OnOk}
-use Rattle.version_answers.specs.one.Why.{members_text}
-use Rattle.version_sets.specs.Excluding.{leave_out}
-use Rattle.version_sets.specs.Form.{has}
+use Rattle.version_answers.specs.One.{members_text}
+use Rattle.version_sets.specs.{Excluding.leave_out, Form.has}
 use Rattle.version_schemes.specs.any.AnyVersion.{plain_any}
 use Rattle.version_answers.proofs.one.why.add_verdict.Goals as goal
 

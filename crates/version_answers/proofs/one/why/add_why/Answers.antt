@@ -1,6 +1,6 @@
 use Rattle.std.proofs.Common.{◌≡◌, ◌++◌, refl, rules}
-use Rattle.version_answers.proofs.lemmas.Sets.{has_alternatives, in_turn}
-use Rattle.version_answers.specs.one.Why.{why_text}
+use Rattle.version_answers.proofs.lemmas.One.{has_alternatives, in_turn}
+use Rattle.version_answers.specs.One.{why_text}
 use Rattle.version_schemes.specs.any.AnyVersion.{plain_any}
 use Rattle.version_answers.proofs.one.why.add_why.Goals as goal
 

@@ -1,5 +1,5 @@
 use Rattle.std.proofs.Common.{◌≡◌, ◌∙◌, Some, ap, arith, length, rules, sym}
-use Rattle.version_answers.proofs.lemmas.Sets.{are_held, keys_are, written_back}
+use Rattle.version_answers.proofs.lemmas.One.{are_held, keys_are, written_back}
 use Rattle.version_answers.specs.Sets.{reading_of}
 use Rattle.version_schemes.specs.Scheme.{scheme_number}
 use Rattle.version_sets.specs.Reading.{Right}

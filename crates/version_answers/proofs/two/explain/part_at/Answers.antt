@@ -1,7 +1,7 @@
 use Rattle.std.proofs.Common.{◌≡◌, ◌==◌, ◌∙◌, rules, ap, map, ℕ, Bool, List, [], ◌∷◌}
 use Rattle.std.proofs.lemmas.List.{map-id}
 use Rattle.std.specs.List.{slice_get, slice_split}
-use Rattle.version_answers.specs.two.Explain.{parts_text}
+use Rattle.version_answers.specs.Two.{parts_text}
 use Rattle.version_lines.proofs.lemmas.Column.{or-false}
 use Rattle.version_lines.specs.Column.{is_among}
 use Rattle.version_order.specs.texts.Bytes.{dot}

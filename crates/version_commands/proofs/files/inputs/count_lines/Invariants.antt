@@ -1,7 +1,6 @@
 -- The lines that are left are numbered behind those that were counted.
 use Rattle.std.proofs.Common.{◌≡◌, ◌+◌, ℕ, List, None, length}
-use Rattle.version_lines.specs.Inputs.{lines_left, numbered}
-use Rattle.version_lines.specs.Lines.{lines_of}
+use Rattle.version_lines.specs.{Inputs.lines_left, Inputs.numbered, Lines.lines_of}
 use Rattle.version_commands.proofs.files.inputs.count_lines.Given as goal
 
 abbrev pub invariant-loop-line : goal.invariant-loop-line

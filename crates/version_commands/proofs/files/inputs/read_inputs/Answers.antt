@@ -1,7 +1,6 @@
 use Rattle.std.proofs.Common.{◌≡◌, ◌++◌, [], ◌∷◌, List, None, codes, map, refl, rules, ap, arith, ◌∙◌}
-use Rattle.std.proofs.lemmas.List.{nil_from_length}
-use Rattle.std.proofs.lemmas.Result.{IfErr-weaker}
-use Rattle.version_commands.specs.faults.Fault.{ComesOfReadingOne}
+use Rattle.std.proofs.lemmas.{List.nil_from_length, Result.IfErr-weaker}
+use Rattle.version_commands.specs.Fault.{ComesOfReadingOne}
 use Rattle.version_commands.proofs.lemmas.Faults.{reading-at}
 use Rattle.version_lines.specs.Inputs.{plain_input, PlainInput}
 use Rattle.version_commands.proofs.files.inputs.read_inputs.Goals as goal

@@ -3,8 +3,7 @@
 use Rattle.std.proofs.Common.{◌≡◌, ℕ, false, List, map, take}
 use Rattle.std.specs.List.{list_any}
 use Rattle.version_commands.specs.Files.{inputs_named, reads_standard, AreInputs}
-use Rattle.version_lines.specs.Inputs.{plain_input}
-use Rattle.version_lines.specs.Lines.{ends_quoted}
+use Rattle.version_lines.specs.{Inputs.plain_input, Lines.ends_quoted}
 use Rattle.version_commands.proofs.files.inputs.read_named.Given as goal
 
 abbrev pub invariant-loop-name : goal.invariant-loop-name

@@ -1,10 +1,9 @@
 -- No word before the rest is had otherwise.
 use Rattle.std.proofs.Common.{◌≡◌, drop}
 use Rattle.std.specs.List.{list_any}
-use Rattle.version_commands.specs.lines.Choice.{is_of}
-use Rattle.version_commands.specs.Hints.{is_kept_otherwise}
-use Rattle.version_commands.proofs.hints.of_words.any_had_otherwise.Given as goal
+use Rattle.version_commands.specs.{Hints.is_kept_otherwise, lines.Choice.is_of}
 use Rattle.version_sets.specs.Form.{has}
+use Rattle.version_commands.proofs.hints.of_words.any_had_otherwise.Given as goal
 
 abbrev pub invariant-loop-word : goal.invariant-loop-word
 invariant-loop-word l =

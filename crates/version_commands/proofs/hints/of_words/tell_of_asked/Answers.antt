@@ -1,14 +1,10 @@
 use Rattle.std.proofs.Common.{◌≡◌, ◌∙◌, Bor, true, List, ℕ, ap, rules, subst}
 use Rattle.std.specs.List.{list_any}
 use Rattle.version_commands.proofs.lemmas.Hints.{if-tags, tags-of-each}
-use Rattle.version_commands.specs.lines.Choice.{is_of}
-use Rattle.version_commands.specs.words.Each.{spelling_of}
-use Rattle.version_answers.specs.Tags.{is_bare}
-use Rattle.version_commands.specs.Hints.{is_kept_otherwise}
-use Rattle.version_commands.specs.declared.options.Question.{Question}
-use Rattle.version_answers.specs.declared.spelling.Spelling.{Spelling}
-use Rattle.version_commands.proofs.hints.of_words.tell_of_asked.Goals as goal
+use Rattle.version_commands.specs.{Each.spelling_of, Hints.is_kept_otherwise, declared.options.Question.Question, lines.Choice.is_of}
+use Rattle.version_answers.specs.{Tags.is_bare, declared.spelling.Spelling.Spelling}
 use Rattle.version_sets.specs.Form.{has}
+use Rattle.version_commands.proofs.hints.of_words.tell_of_asked.Goals as goal
 
 pub tell_of_set-requires : goal.tell_of_set-requires
 tell_of_set-requires g c =

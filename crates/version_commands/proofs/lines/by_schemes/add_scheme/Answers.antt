@@ -1,9 +1,7 @@
 use Rattle.std.proofs.Common.{◌≡◌, ◌++◌, List, [], map, drop, rules, sym, ap, ◌∙◌, arith, append-nil, Bor, ℕ}
 use Rattle.std.proofs.Math.ListN.{drop_of_length-le}
-use Rattle.version_commands.specs.lines.Arranged.{arranged}
-use Rattle.version_commands.specs.lines.BySchemes.{arranged_as}
-use Rattle.version_commands.specs.lines.Place.{group_text, reads_of}
-use Rattle.version_lines.specs.KeyedLines.{lines_in}
+use Rattle.version_commands.specs.lines.{Arranged.arranged, Arranged.arranged_as, Picked.group_text, Picked.reads_of}
+use Rattle.version_lines.specs.Entry.{lines_in}
 use Rattle.version_commands.proofs.lines.by_schemes.add_scheme.Goals as goal
 
 pub returns : goal.returns

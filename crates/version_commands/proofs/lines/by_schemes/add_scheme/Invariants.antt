@@ -1,6 +1,6 @@
 -- With the lines that are left, those of the scheme are added.
 use Rattle.std.proofs.Common.{◌≡◌, ◌++◌, drop, length, map}
-use Rattle.version_lines.specs.KeyedLines.{lines_in}
+use Rattle.version_lines.specs.Entry.{lines_in}
 use Rattle.version_commands.proofs.lines.by_schemes.add_scheme.Given as goal
 
 abbrev pub invariant-loop-number : goal.invariant-loop-number

@@ -1,7 +1,7 @@
 -- With the lines of the schemes that are left, all lines are arranged.
 use Rattle.std.proofs.Common.{◌≡◌, ◌++◌, drop, map}
 use Rattle.std.specs.List.{flat_map}
-use Rattle.version_commands.specs.lines.BySchemes.{arranged_as, arranged_by_schemes}
+use Rattle.version_commands.specs.lines.Arranged.{arranged_as, arranged_by_schemes}
 use Rattle.version_commands.proofs.lines.by_schemes.arrange_by_schemes.Given as goal
 
 abbrev pub invariant-loop-scheme : goal.invariant-loop-scheme

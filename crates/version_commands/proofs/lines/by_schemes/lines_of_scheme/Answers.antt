@@ -1,12 +1,12 @@
 use Rattle.std.proofs.Common.{◌≡◌, ◌<◌, List, [], Some, None, true, length, map, get_or, refl, rules, sym, ap, ◌∙◌, arith, Bor, ℕ}
 use Rattle.std.proofs.lemmas.List.{get_or-map, length-map}
 use Rattle.std.specs.Option.{option_map}
-use Rattle.version_commands.specs.lines.BySchemes.{version_as}
-use Rattle.version_commands.proofs.lemmas.lines.BySchemes.{as-read, line-added, line-left}
-use Rattle.version_commands.proofs.lines.by_schemes.lines_of_scheme.Goals as goal
+use Rattle.version_commands.specs.lines.Arranged.{version_as}
+use Rattle.version_commands.proofs.lemmas.lines.Ordered.{as-read, line-added, line-left}
 use Rattle.version_commands.proofs.lines.by_schemes.lines_of_scheme.Goals.{in-Some+in_ok-add, in_default}
-use Rattle.version_lines.specs.KeyedLines.{lines_in}
+use Rattle.version_lines.specs.Entry.{lines_in}
 use Rattle.version_schemes.specs.any.AnyVersion.{plain_any}
+use Rattle.version_commands.proofs.lines.by_schemes.lines_of_scheme.Goals as goal
 
 pub loop-line-preserved : goal.loop-line-preserved
 loop-line-preserved c =

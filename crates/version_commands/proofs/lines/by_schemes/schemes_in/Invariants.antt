@@ -1,6 +1,6 @@
 -- With the lines that are left, the schemes are those of all lines.
 use Rattle.std.proofs.Common.{◌≡◌, [], drop, map}
-use Rattle.version_commands.specs.lines.BySchemes.{schemes_after}
+use Rattle.version_commands.specs.lines.Arranged.{schemes_after}
 use Rattle.version_commands.proofs.lines.by_schemes.schemes_in.Given as goal
 
 abbrev pub invariant-loop-line : goal.invariant-loop-line

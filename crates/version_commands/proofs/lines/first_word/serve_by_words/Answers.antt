@@ -1,14 +1,9 @@
-use Rattle.std.proofs.Common.{◌≡◌, ◌∷◌, ℕ, false, Bor, List, [], map, ap, inl, inr, refl, IfNone, IfSome, subst, ◌∙◌, sym}
-use Rattle.std.specs.List.{list_any}
-use Rattle.std.specs.Option.{option_map_or}
-use Rattle.version_commands.specs.faults.Cause.{ComesOfArranging}
+use Rattle.std.proofs.Common.{◌≡◌, ◌∷◌, ℕ, false, Bor, List, [], map, ap, inl, inr, refl, IfNone, IfSome, subst, ◌∙◌, sym, rules}
+use Rattle.std.specs.{List.list_any, Option.option_map_or}
 use Rattle.version_commands.specs.Files.{AltersAtMost, Leaves, is_standard, names_read, reads_standard}
-use Rattle.version_commands.specs.Hints.{IsOfRun}
-use Rattle.version_commands.specs.lines.FirstWord.{without_set, Finding, HoldsByWords, IsFirstFile, StaysWord}
-use Rattle.version_commands.specs.lines.Ordered.{bad_file, IsOrdered}
-use Rattle.version_commands.specs.declared.options.LineOptions.{LineOptions}
-use Rattle.version_commands.proofs.lemmas.Faults.{ends-weaker}
-use Rattle.version_commands.proofs.lemmas.Hints.{comes-of-first}
+use Rattle.version_commands.specs.lines.Choice.{without_set, Finding, HoldsByWords, IsFirstFile, StaysWord}
+use Rattle.version_commands.specs.{Cause.ComesOfArranging, Hints.IsOfRun, declared.options.LineOptions.LineOptions, lines.Ordered.bad_file, lines.Ordered.IsOrdered}
+use Rattle.version_commands.proofs.lemmas.{Faults.ends-weaker, Hints.comes-of-first}
 use Rattle.version_commands.proofs.lines.first_word.serve_by_words.Goals as goal
 
 -- what holds with the first word as a file
@@ -22,8 +17,13 @@ as-file finds Holds options made names given word first made_is given_is holds =
       (subst (λ (o : LineOptions). Holds o given) made_is holds),
 )
 
-pub returns-in_ok-names-in-Some-clause-served : goal.returns-in_ok-names-in-Some-clause-served
-returns-in_ok-names-in-Some-clause-served g c =
+-- where no name is that of standard input, it isn't read, though none is named
+none_standard : (names : List (List ℕ)) → reads_standard (names_read names) ≡ false → list_any is_standard names ≡ false
+none_standard [] e = refl
+none_standard (name ∷ names) e = e
+
+pub returns-in_ok-names-in-Some : goal.returns-in_ok-names-in-Some
+returns-in_ok-names-in-Some g c =
     let finds = g.F.Files.finds c.args.files.now in
     let options = c.args.options.now in
     let made = c.without_set-options.result in
@@ -39,17 +39,25 @@ returns-in_ok-names-in-Some-clause-served g c =
     let old = g.R.Source.remaining c.args.reader.now in
     let new = g.R.Source.remaining c.serve_lines.new.reader in
     let leaves = Leaves g.F.Files.puts c.args.files.now c.serve_lines.new.files in
+    let others = none_standard (map (λ name. name.now) c.args.names.now) in
     record {
-      ends = ends-weaker _ _ _ _ _ _ c.serve_lines.result
-          (λ output ordered. as-file finds (λ with files. IsOrdered with files reads old new leaves output) options made names given
-          c.in-Some.name first made_is given_is ordered)
-          (λ fault comes. comes-of-first finds options names reads fails old Refuses fault
-          (as-file finds (λ with files. ComesOfArranging with files reads fails old Refuses fault) options made names given
-          c.in-Some.name first made_is given_is comes))
-          served.ends;
-      files_are = subst (λ (o : LineOptions). AltersAtMost g.F.Files.alters (bad_file o) c.args.files.now c.serve_lines.new.files)
-          made_is served.files_are;
-      kept = served.kept;
+      served = record {
+        ends = ends-weaker _ _ _ _ _ _ c.serve_lines.result
+            (λ output ordered. as-file finds (λ with files. IsOrdered with files reads old new leaves output) options made names given
+            c.in-Some.name first made_is given_is ordered)
+            (λ fault comes. comes-of-first finds options names reads fails old Refuses fault
+            (as-file finds (λ with files. ComesOfArranging with files reads fails old Refuses fault) options made names given
+            c.in-Some.name first made_is given_is comes))
+            served.ends;
+        files_are = subst (λ (o : LineOptions). AltersAtMost g.F.Files.alters (bad_file o) c.args.files.now c.serve_lines.new.files)
+            made_is served.files_are;
+        kept = served.kept;
+      };
+      unread = λ unread may.
+          let word : is_standard c.in-Some.name.now ≡ false =
+          sym (ap (λ found. option_map_or (λ word. is_standard word.now) found false) first.word_is) ∙ may in
+          c.serve_lines.ensures.unread (rw (given_is, word) (others unread));
+      early = search rules;
     }
 
 pub returns-in-None-clause-served : goal.returns-in-None-clause-served
@@ -84,18 +92,3 @@ serve_lines-requires-in-None g c =
     let finds = g.F.Files.finds c.args.files.now in
     let stays = subst (λ found. IfNone found (StaysWord finds c.args.options.now)) c.in-None.is c.in_ok-name.ensures.word in
     record { hints = λ hint so. c.requires.hints hint (inl (stays, so)) }
-
--- where no name is that of standard input, it isn't read, though none is named
-none_standard : (names : List (List ℕ)) → reads_standard (names_read names) ≡ false → list_any is_standard names ≡ false
-none_standard [] e = refl
-none_standard (name ∷ names) e = e
-
-pub returns-in_ok-names-in-Some-clause-unread : goal.returns-in_ok-names-in-Some-clause-unread
-returns-in_ok-names-in-Some-clause-unread g c unread may =
-    let first = subst (λ found. IfSome found (IsFirstFile (g.F.Files.finds c.args.files.now) c.args.options.now)) c.in-Some.is
-    c.in_ok-name.ensures.file in
-    let word : is_standard c.in-Some.name.now ≡ false =
-    sym (ap (λ found. option_map_or (λ word. is_standard word.now) found false) first.word_is) ∙ may in
-    let others = none_standard (map (λ name. name.now) c.args.names.now) unread in
-    let given_is = ap (map (λ (name : Bor (List ℕ)). name.now)) c.as_slice.ensures.value ∙ c.in_ok-names-in-Some.ensures in
-    c.serve_lines.ensures.unread (rw (given_is, word) others)

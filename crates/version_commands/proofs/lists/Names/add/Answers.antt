@@ -1,8 +1,8 @@
 use Rattle.std.proofs.Common.{◌∙◌, sym}
 use Rattle.std.proofs.lemmas.Map.Text.{btree_map_updates_str}
 use Rattle.version_commands.proofs.lemmas.Lists.{names_added, names_kept}
-use Rattle.version_commands.proofs.lists.Names.add.Goals as goal
 use Rattle.version_schemes.specs.any.AnyVersion.{plain_any}
+use Rattle.version_commands.proofs.lists.Names.add.Goals as goal
 
 pub returns-then-contains_key : goal.returns-then-contains_key
 returns-then-contains_key c =

@@ -1,8 +1,7 @@
 use Rattle.std.proofs.Common.{◌≡◌, Bool, ◌≢◌, ◌<◌, ◌≤◌, ◌++◌, ◌+◌, ◌-◌, refl, ◌∷◌, [], ℕ, List, Bor, Some, true, false, not, length, map, get_or, take, inr, rules, sym, subst, ap, ◌∙◌, arith}
 use borrow.Author.Tests.{ltb-true}
-use Rattle.std.proofs.lemmas.List.{take_all}
-use Rattle.std.proofs.lemmas.Result.{IfErr-weaker, IfOk-weaker}
-use Rattle.version_commands.specs.words.Each.{HasSet, HaveAnswered, is_version, version_asked, versions_among}
+use Rattle.std.proofs.lemmas.{List.take_all, Result.IfErr-weaker, Result.IfOk-weaker}
+use Rattle.version_commands.specs.Each.{HasSet, HaveAnswered, is_version, version_asked, versions_among}
 use Rattle.version_commands.specs.declared.options.Question.{Question}
 use Rattle.version_schemes.specs.any.AnyVersion.{plain_any}
 use Rattle.version_commands.proofs.lemmas.Each.{among-next, among-still, asking-answering, last-apart, none-is, ok-asked, some-is, still-held, word-texts}
@@ -65,25 +64,8 @@ returns-in-len1-up-clause-faults g c = λ fails old.
       rw (← c.requires.words) (last-apart words d some),
     )
 
-pub returns-clause-answers : goal.returns-clause-answers
-returns-clause-answers g c =
-    let (list, have, apart) = c.loop-word.invariant in
-    let words = c.args.words.now in
-    let all : take c.loop-word.word-index words ≡ words =
-    take_all c.loop-word.word-index words (search rules) in
-    IfOk-weaker c.finish.result _ _ (λ answered adds. adds _ _ (rw all at have))
-    c.finish.ensures.answers
-
-pub returns-clause-others : goal.returns-clause-others
-returns-clause-others g c =
-    let (list, have, apart) = c.loop-word.invariant in
-    let words = c.args.words.now in
-    let all : take c.loop-word.word-index words ≡ words =
-    take_all c.loop-word.word-index words (search rules) in
-    IfOk-weaker c.finish.result _ _ (λ answered same. rw same (rw all at apart)) c.finish.ensures.others
-
-pub returns-clause-asked : goal.returns-clause-asked
-returns-clause-asked g c =
+pub returns : goal.returns
+returns g c =
     let (list, have, apart) = c.loop-word.invariant in
     let words = c.args.words.now in
     let all : take c.loop-word.word-index words ≡ words =
@@ -94,17 +76,14 @@ returns-clause-asked g c =
       | in_default-via-in-len1-up+else-len-words w ↦
           λ same. w.if-len-words.false (first_of (search (rules, same), omega (arith, same, c.loop-word.others.ok.0)))
     ] in
-    ok-asked c.finish.result _
-    (inr (some-is c.args.question c.args.options.now words c.loop-word.others.items c.requires.words (rw all at apart) fewer))
-
-pub returns-clause-faults : goal.returns-clause-faults
-returns-clause-faults g c = λ fails old.
-    let (list, have, apart) = c.loop-word.invariant in
-    let words = c.args.words.now in
-    let all : take c.loop-word.word-index words ≡ words =
-    take_all c.loop-word.word-index words (search rules) in
-    IfErr-weaker c.finish.result _ _
-    (λ fault comes. asking-answering c.args.question c.args.options.now fails old old _
-    (word-texts c.args.question c.args.options.now old words c.requires.words c.requires.some) fault
-    (comes _ _ (rw all at have)))
-    c.finish.ensures.faults
+    record {
+      answers = IfOk-weaker c.finish.result _ _ (λ answered adds. adds _ _ (rw all at have)) c.finish.ensures.answers;
+      others = IfOk-weaker c.finish.result _ _ (λ answered same. rw same (rw all at apart)) c.finish.ensures.others;
+      asked = ok-asked c.finish.result _ (inr (some-is c.args.question c.args.options.now words c.loop-word.others.items
+          c.requires.words (rw all at apart) fewer));
+      faults = λ fails old. IfErr-weaker c.finish.result _ _
+          (λ fault comes. asking-answering c.args.question c.args.options.now fails old old _
+          (word-texts c.args.question c.args.options.now old words c.requires.words c.requires.some) fault
+          (comes _ _ (rw all at have)))
+          c.finish.ensures.faults;
+    }

@@ -1,6 +1,6 @@
 -- The words so far are answered, if they are versions, and are apart, if they are none.
 use Rattle.std.proofs.Common.{◌≡◌, map, take}
-use Rattle.version_commands.specs.words.Each.{HasSet, HaveAnswered, others_among, versions_among}
+use Rattle.version_commands.specs.Each.{HasSet, HaveAnswered, others_among, versions_among}
 use Rattle.version_commands.proofs.words.each.answer_words.Given as goal
 
 abbrev pub invariant-loop-word : goal.invariant-loop-word

@@ -1,5 +1,5 @@
 use Rattle.std.proofs.Common.{◌∙◌, ◌++◌}
-use Rattle.version_answers.specs.one.Why.{head_text}
+use Rattle.version_answers.specs.One.{head_text}
 use Rattle.version_commands.proofs.words.each.ask.Goals as goal
 
 pub returns-clause-head : goal.returns-clause-head

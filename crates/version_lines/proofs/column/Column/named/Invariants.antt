@@ -1,7 +1,6 @@
 -- The column is so many further on.
 use Rattle.std.proofs.Common.{◌≡◌, ◌+◌, ◌≤◌, length, map}
-use Rattle.std.specs.List.{position, position_from}
-use Rattle.std.specs.Str.{bytes_eq}
+use Rattle.std.specs.{List.position, List.position_from, Str.bytes_eq}
 use Rattle.version_lines.specs.Column.{columns_of, raw_columns, raw_text}
 use Rattle.version_lines.proofs.column.Column.named.Given as goal
 

@@ -1,15 +1,9 @@
 use Rattle.std.proofs.Common.{Bool, rules, ap, subst, ◌≡◌, ◌∙◌}
-use Rattle.std.specs.List.{dedup}
-use Rattle.std.specs.Ordering.{eq_by_cmp}
-use Rattle.std.proofs.lemmas.Fn.{always_returns_same, dedup_same}
-use Rattle.std.proofs.lemmas.List.Sorted.{ranks_by}
-use Rattle.version_lines.specs.Entry.{entry_cmp}
-use Rattle.version_lines.specs.Newest.{first_of_each}
-use Rattle.version_lines.specs.Sort.{in_order, turned}
-use Rattle.version_lines.specs.declared.sort.entry.Entry.{Entry}
-use Rattle.version_lines.proofs.lemmas.KeyedLines.{entry_total}
-use Rattle.version_lines.proofs.lemmas.FirstOfEach.{firsts-dedup}
+use Rattle.std.specs.{List.dedup, Ordering.eq_by_cmp}
+use Rattle.std.proofs.lemmas.{Fn.always_returns_same, Fn.dedup_same, List.Sorted.ranks_by}
+use Rattle.version_lines.specs.{Entry.entry_cmp, Newest.first_of_each, Sort.in_order, Sort.turned, declared.sort.entry.Entry.Entry}
 use Rattle.version_lines.proofs.lemmas.Sorting.{in_order-rises, in_order-by_place, placed_total, turn-tie, turned_total}
+use Rattle.version_lines.proofs.lemmas.{FirstOfEach.firsts-dedup, KeyedLines.entry_total}
 use Rattle.version_lines.proofs.sort.keyed_lines.put_first_of_ties.Goals as goal
 
 pub returns : goal.returns

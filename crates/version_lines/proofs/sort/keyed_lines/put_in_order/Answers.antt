@@ -1,9 +1,7 @@
 use Rattle.std.proofs.Common.{rules}
-use Rattle.std.proofs.lemmas.Fn.{always_returns_same}
-use Rattle.std.proofs.lemmas.List.Sorted.{ranks_by}
+use Rattle.std.proofs.lemmas.{Fn.always_returns_same, List.Sorted.ranks_by}
 use Rattle.version_lines.specs.declared.sort.entry.Entry.{Entry}
-use Rattle.version_lines.proofs.lemmas.KeyedLines.{version_total}
-use Rattle.version_lines.proofs.lemmas.Sorting.{in_order-by_place, placed_total, turned_total}
+use Rattle.version_lines.proofs.lemmas.{KeyedLines.version_total, Sorting.in_order-by_place, Sorting.placed_total, Sorting.turned_total}
 use Rattle.version_lines.proofs.sort.keyed_lines.put_in_order.Goals as goal
 
 pub returns : goal.returns

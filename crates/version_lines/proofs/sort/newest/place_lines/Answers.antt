@@ -1,7 +1,5 @@
 use Rattle.std.proofs.Common.{◌≡◌, rules, ap, arith, length, map, take, ◌∙◌}
-use Rattle.std.specs.List.{position}
-use Rattle.std.specs.Option.{unwrap_or}
-use Rattle.std.specs.Str.{bytes_eq}
+use Rattle.std.specs.{List.position, Option.unwrap_or, Str.bytes_eq}
 use Rattle.std.proofs.lemmas.List.{length-map, length-take-le}
 use Rattle.version_lines.specs.Entry.{entry_line}
 use Rattle.version_lines.proofs.lemmas.Newest.{placed-more, places-more}

@@ -1,12 +1,7 @@
 -- Of the lines before the place, each group has the place of its first line.
 use Rattle.std.proofs.Common.{◌≡◌, ℕ, List, map, take}
-use Rattle.std.specs.BTreeMap.{get_by}
-use Rattle.std.specs.Cmp.Lexicographic.{slice_cmp}
-use Rattle.std.specs.List.{position}
-use Rattle.std.specs.Ordering.{nat_cmp}
-use Rattle.std.specs.Str.{bytes_eq}
-use Rattle.version_lines.specs.Entry.{entry_line}
-use Rattle.version_lines.specs.Placed.{placed}
+use Rattle.std.specs.{BTreeMap.get_by, Cmp.Lexicographic.slice_cmp, List.position, Ordering.nat_cmp, Str.bytes_eq}
+use Rattle.version_lines.specs.{Entry.entry_line, Newest.placed}
 use Rattle.version_lines.proofs.sort.newest.place_lines.Given as goal
 
 abbrev pub invariant-loop-entry : goal.invariant-loop-entry

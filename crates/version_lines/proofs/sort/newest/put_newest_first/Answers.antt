@@ -1,8 +1,6 @@
 use Rattle.std.proofs.Common.{rules}
-use Rattle.std.proofs.lemmas.Fn.{always_returns_same}
-use Rattle.std.proofs.lemmas.List.Sorted.{ranks_by}
-use Rattle.version_lines.specs.Placed.{placed_start}
-use Rattle.version_lines.specs.declared.sort.newest.Placed.{Placed}
+use Rattle.std.proofs.lemmas.{Fn.always_returns_same, List.Sorted.ranks_by}
+use Rattle.version_lines.specs.{Newest.placed_start, declared.sort.newest.Placed.Placed}
 use Rattle.version_lines.proofs.lemmas.Newest.{placed_total}
 use Rattle.version_lines.proofs.lemmas.Sorting as places
 use Rattle.version_lines.proofs.sort.newest.put_newest_first.Goals as goal

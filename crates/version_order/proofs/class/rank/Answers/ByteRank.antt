@@ -2,8 +2,7 @@
 use Rattle.std.proofs.Common.{◌≡◌, ◌<◌, ◌∙◌, ℕ, List, get_or, map, refl, ap, zero-add}
 use Rattle.std.proofs.lemmas.List.FromFn.{get_or-map-range_with_len}
 use Rattle.std.specs.List.{range_with_len}
-use Rattle.version_order.specs.texts.Class.{byte_rank}
-use Rattle.version_order.specs.declared.class.TheConstants.{RANKS}
+use Rattle.version_order.specs.{declared.class.TheConstants.RANKS, texts.Class.byte_rank}
 
 -- it has the rank of each byte at its place
 ranks : RANKS ≡ map byte_rank (range_with_len 0 256)

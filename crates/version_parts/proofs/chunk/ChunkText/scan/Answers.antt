@@ -1,7 +1,6 @@
 use Rattle.std.proofs.Common.{◌≡◌, ◌∙◌, ap}
 use Rattle.version_rules.specs.grammar.Chunk.{Numeric}
-use Rattle.version_order.specs.texts.Class.{contains}
-use Rattle.version_order.specs.texts.Front.{map_value}
+use Rattle.version_order.specs.texts.{Class.contains, Front.map_value}
 use Rattle.version_parts.proofs.lemmas.Scans.{run_boundary, behind_more, more_by_rests, no_more_by_rests, numeral_scanned, run_by_rests, run_scanned}
 use Rattle.version_parts.proofs.chunk.ChunkText.scan.Goals as goal
 

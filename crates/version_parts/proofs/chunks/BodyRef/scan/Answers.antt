@@ -1,8 +1,6 @@
 use Rattle.std.proofs.Common.{◌≡◌, ◌∙◌, ◌-◌, ℕ, take, Some, refl, sym, ap}
-use Rattle.version_rules.specs.grammar.Body.{last_at}
-use Rattle.version_rules.specs.grammar.Chunk.{part_front}
+use Rattle.version_rules.specs.grammar.{Body.last_at, Chunk.part_front, Last.last_of}
 use Rattle.version_order.specs.texts.Front.{elements_at}
-use Rattle.version_rules.specs.grammar.Last.{last_of}
 use Rattle.version_rules.proofs.lemmas.Body.{body_front-None, body_front-Some, body_split, split_last-take}
 use Rattle.version_parts.proofs.chunks.BodyRef.scan.Goals as goal
 

@@ -6,10 +6,8 @@ use Rattle.version_parts.proofs.key.compare.compare_bytes.Goals as goal
 pub loop-x-init : goal.loop-x-init
 loop-x-init g c =
     record {
-      can_a =
-          c.requires.can_a;
-      ends =
-          c.requires.ends;
+      can_a = c.requires.can_a;
+      ends = c.requires.ends;
       can_b = c.requires.can_b;
       in_step = in_step_none _ _ _ _;
     }
@@ -27,41 +25,27 @@ loop-x-preserved g c =
           (rw (← c.if-x-y.false) at of_b.steps);
     }
 
-pub returns-in_default-next-clause-taken : goal.returns-in_default-next-clause-taken
-returns-in_default-next-clause-taken g c =
-    decided _ _ _ _ _ _ _ _
-    (Some c.in-Some.x) None c.loop-x.invariant.in_step c.in-Some.ensures.steps
-    c.in_default-next.ensures.steps (λ tied. cc)
+pub returns-in_default-next : goal.returns-in_default-next
+returns-in_default-next g c =
+    let taken = decided _ _ _ _ _ _ _ _ (Some c.in-Some.x) None c.loop-x.invariant.in_step
+    c.in-Some.ensures.steps c.in_default-next.ensures.steps (λ tied. cc) in
+    record { taken = taken; yielded = yielded _ _ _ _ _ _ _ taken }
 
-pub returns-in_default-next-clause-yielded : goal.returns-in_default-next-clause-yielded
-returns-in_default-next-clause-yielded g c =
-    yielded _ _ _ _ _ _ _ (returns-in_default-next-clause-taken g c)
+pub returns-then-x-y : goal.returns-then-x-y
+returns-then-x-y g c =
+    let taken = rw (← c.cmp.ensures) at (decided _ _ _ _ _ _ _ _ (Some c.in-Some.x) (Some c.in-Some-next.y)
+    c.loop-x.invariant.in_step c.in-Some.ensures.steps c.in-Some-next.ensures.steps
+    (λ tied. absurd (c.if-x-y.true (nat_cmp-IsAntisymmetric _ _ tied)))) in
+    record { taken = taken; yielded = yielded _ _ _ _ _ _ _ taken }
 
-pub returns-then-x-y-clause-taken : goal.returns-then-x-y-clause-taken
-returns-then-x-y-clause-taken g c =
-    rw c.cmp.ensures
-    (decided _ _ _ _ _ _ _ _ (Some c.in-Some.x)
-    (Some c.in-Some-next.y) c.loop-x.invariant.in_step c.in-Some.ensures.steps
-    c.in-Some-next.ensures.steps
-    (λ tied. absurd (c.if-x-y.true (nat_cmp-IsAntisymmetric _ _ tied))))
+pub returns-in-Some-next-2 : goal.returns-in-Some-next-2
+returns-in-Some-next-2 g c =
+    let taken = decided _ _ _ _ _ _ _ _ None (Some c.in-Some-next-2.field-0) c.loop-x.invariant.in_step
+    c.in_default.ensures.steps c.in-Some-next-2.ensures.steps (λ tied. cc) in
+    record { taken = taken; yielded = yielded _ _ _ _ _ _ _ taken }
 
-pub returns-then-x-y-clause-yielded : goal.returns-then-x-y-clause-yielded
-returns-then-x-y-clause-yielded g c = yielded _ _ _ _ _ _ _ (returns-then-x-y-clause-taken g c)
-
-pub returns-in-Some-next-2-clause-taken : goal.returns-in-Some-next-2-clause-taken
-returns-in-Some-next-2-clause-taken g c =
-    decided _ _ _ _ _ _ _ _ None
-    (Some c.in-Some-next-2.field-0) c.loop-x.invariant.in_step c.in_default.ensures.steps
-    c.in-Some-next-2.ensures.steps (λ tied. cc)
-
-pub returns-in-Some-next-2-clause-yielded : goal.returns-in-Some-next-2-clause-yielded
-returns-in-Some-next-2-clause-yielded g c =
-    yielded _ _ _ _ _ _ _ (returns-in-Some-next-2-clause-taken g c)
-
-pub returns-in-None-clause-taken : goal.returns-in-None-clause-taken
-returns-in-None-clause-taken g c =
-    decided _ _ _ _ _ _ _ _ None None c.loop-x.invariant.in_step c.in_default.ensures.steps
-    c.in-None.ensures.steps (λ tied. (refl, refl))
-
-pub returns-in-None-clause-yielded : goal.returns-in-None-clause-yielded
-returns-in-None-clause-yielded g c = yielded _ _ _ _ _ _ _ (returns-in-None-clause-taken g c)
+pub returns-in-None : goal.returns-in-None
+returns-in-None g c =
+    let taken = decided _ _ _ _ _ _ _ _ None None c.loop-x.invariant.in_step c.in_default.ensures.steps
+    c.in-None.ensures.steps (λ tied. (refl, refl)) in
+    record { taken = taken; yielded = yielded _ _ _ _ _ _ _ taken }

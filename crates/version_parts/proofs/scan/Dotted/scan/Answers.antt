@@ -1,6 +1,5 @@
 use Rattle.std.proofs.Common.{rules, arith, sym}
-use Rattle.version_order.specs.texts.Bytes.{dot}
-use Rattle.version_order.specs.texts.Front.{behind}
+use Rattle.version_order.specs.texts.{Bytes.dot, Front.behind}
 use Rattle.version_order.proofs.lemmas.Front.{behind_dot_shrinks, unlisted}
 use Rattle.version_parts.proofs.lemmas.Scans.{nothing_before, read_before, scanned_all, scanned_first, scanned_next}
 use Rattle.version_parts.proofs.scan.Dotted.scan.Goals as goal
@@ -50,23 +49,13 @@ loop-next-preserved g c =
       );
     }
 
-pub returns-clause-elements : goal.returns-clause-elements
-returns-clause-elements g c =
+pub returns : goal.returns
+returns g c =
     let all = scanned_all g.E.Element.front g.met.E.Element.consumes c.args.i.now c.loop-next.count
     c.loop-next.last.now c.loop-next.rest.now
     c.loop-next.invariant.scanned (nothing_before _ c.in_default.ensures.after) in
-    sym all.read
-
-pub returns-clause-counted : goal.returns-clause-counted
-returns-clause-counted g c =
-    let all = scanned_all g.E.Element.front g.met.E.Element.consumes c.args.i.now c.loop-next.count
-    c.loop-next.last.now c.loop-next.rest.now
-    c.loop-next.invariant.scanned (nothing_before _ c.in_default.ensures.after) in
-    all.count_is
-
-pub returns-clause-last : goal.returns-clause-last
-returns-clause-last g c =
-    let all = scanned_all g.E.Element.front g.met.E.Element.consumes c.args.i.now c.loop-next.count
-    c.loop-next.last.now c.loop-next.rest.now
-    c.loop-next.invariant.scanned (nothing_before _ c.in_default.ensures.after) in
-    ((all.others, all.element), all.split, all.last_is)
+    record {
+      elements = sym all.read;
+      counted = all.count_is;
+      last = ((all.others, all.element), all.split, all.last_is);
+    }

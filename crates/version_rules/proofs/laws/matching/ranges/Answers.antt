@@ -1,5 +1,4 @@
-use Rattle.version_rules.proofs.lemmas.Inexact.{inexact_decide}
-use Rattle.version_rules.proofs.lemmas.Range.{list_exact, list_in}
+use Rattle.version_rules.proofs.lemmas.{Inexact.inexact_decide, Range.list_exact, Range.list_in}
 use Rattle.version_rules.proofs.laws.matching.ranges.Goals as goal
 
 pub returns-clause-within : goal.returns-clause-within

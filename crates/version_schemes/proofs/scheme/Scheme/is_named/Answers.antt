@@ -1,7 +1,6 @@
 use Rattle.std.proofs.Common.{rules, ◌≡◌, ◌≤◌, ◌-◌, Bool, false, List, [], ◌∷◌, arith, drop, get_or, length, map, subst, sym, take, ℕ}
 use Rattle.std.proofs.lemmas.List.{take_all}
-use Rattle.std.specs.List.{list_any}
-use Rattle.std.specs.Str.{str_eq_ignore_ascii_case}
+use Rattle.std.specs.{List.list_any, Str.str_eq_ignore_ascii_case}
 use Rattle.version_schemes.proofs.scheme.Scheme.is_named.Goals as goal
 
 -- what passes no test is left out

@@ -1,6 +1,5 @@
 use Rattle.std.proofs.Common.{◌≡◌, length, map}
-use Rattle.std.specs.List.{list_any}
-use Rattle.std.specs.Str.{str_eq_ignore_ascii_case}
+use Rattle.std.specs.{List.list_any, Str.str_eq_ignore_ascii_case}
 use Rattle.version_schemes.specs.Scheme.{rules}
 use Rattle.version_schemes.proofs.scheme.Scheme.is_named.Given as goal
 

@@ -1,6 +1,5 @@
 use Rattle.std.proofs.Common.{◌≡◌, ◌-◌, ◌≤◌, drop, length}
-use Rattle.version_sets.specs.Form.{has, Rise}
-use Rattle.version_sets.specs.Set.{ends_of}
+use Rattle.version_sets.specs.{Form.has, Form.Rise, Set.ends_of}
 use Rattle.version_sets.proofs.lemmas.Ends.{Above, flip, odd}
 use Rattle.version_sets.proofs.form.Form.has_key.Given as goal
 

@@ -1,9 +1,7 @@
 use Rattle.std.proofs.Common.{◌≡◌, ◌∙◌, ◌*◌, ◌<◌, ◌≤◌, ◌^◌, ◌∷◌, List, [], Option, None, Some, ap, arith, length, refl, sym, ℕ}
 use Rattle.std.proofs.Math.ListN.{drop_of_length-le}
 use Rattle.std.specs.Option.{IfNone, IfSome, option_map}
-use Rattle.version_sets.specs.Form.{between, first_interval}
-use Rattle.version_sets.specs.Set.{ends_of}
-use Rattle.version_sets.specs.declared.form.Form.{Form}
+use Rattle.version_sets.specs.{Form.between, Form.first_interval, Set.ends_of, declared.form.Form.Form}
 use Rattle.version_sets.proofs.lemmas.Form.{ends_count}
 use Rattle.version_sets.proofs.form.Form.interval.Goals as goal
 

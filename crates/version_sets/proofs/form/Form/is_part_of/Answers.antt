@@ -1,9 +1,8 @@
 use Rattle.std.proofs.Common.{◌==◌, ◌∙◌, ap, length, refl, sym}
 use Rattle.std.proofs.lemmas.Bool.{and_parts}
 use Rattle.version_sets.proofs.lemmas.Ends.{none_in, some_in}
-use Rattle.version_sets.specs.Set.{by_rule}
+use Rattle.version_sets.specs.{Set.by_rule, declared.merge.Rule.TheVariants.FirstAlone}
 use Rattle.version_order.proofs.lemmas.Runs.{not_false, not_true}
-use Rattle.version_sets.specs.declared.merge.Rule.TheVariants.{FirstAlone}
 use Rattle.version_sets.proofs.form.Form.is_part_of.Goals as goal
 
 pub returns-clause-yes : goal.returns-clause-yes

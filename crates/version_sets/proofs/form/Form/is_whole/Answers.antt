@@ -1,12 +1,9 @@
 use Rattle.std.proofs.Common.{◌≡◌, ◌∙◌, ◌+◌, ◌-◌, ◌<◌, ◌^◌, ◌==◌, ◌∷◌, ◌++◌, List, [], ap, arith, length, length-append, sym, ℕ}
-use Rattle.std.proofs.lemmas.Bool.{eqb-true, true≢false}
-use Rattle.std.proofs.lemmas.List.{nil_from_length, take-append-drop}
-use Rattle.std.specs.List.{concat}
-use Rattle.std.specs.Option.{option_map}
-use Rattle.version_sets.specs.Form.{number}
-use Rattle.version_sets.specs.Set.{is_above}
-use Rattle.version_sets.proofs.lemmas.Form.{number_length}
+use Rattle.std.proofs.lemmas.{Bool.eqb-true, Bool.true≢false, List.nil_from_length, List.take-append-drop}
+use Rattle.std.specs.{List.concat, Option.option_map}
+use Rattle.version_sets.specs.{Form.number, Set.is_above}
 use Rattle.version_sets.proofs.lemmas.Whole.{first_cut, first_left, first_over, next, none_left, none_more, with_end}
+use Rattle.version_sets.proofs.lemmas.Form.{number_length}
 use Rattle.version_sets.proofs.form.Form.is_whole.Goals as goal
 
 pub loop-over-init : goal.loop-over-init

@@ -1,6 +1,5 @@
 use Rattle.std.proofs.Common.{◌++◌, ◌∷◌, ℕ, List, inl, inr, ◌∙◌, ◌+◌, ◌*◌, ap, arith, length, sym}
-use Rattle.std.proofs.lemmas.Bool.{cases_lt, le-ltb, lt-ltb}
-use Rattle.std.proofs.lemmas.List.{length-append, take-append-drop}
+use Rattle.std.proofs.lemmas.{Bool.cases_lt, Bool.le-ltb, Bool.lt-ltb, List.length-append, List.take-append-drop}
 use Rattle.version_sets.proofs.lemmas.Form.{all_read, count_is, count_read, ends_are, form_length, number_length}
 use Rattle.version_sets.specs.Form.{count_told, ends_in, number}
 use Rattle.version_sets.proofs.form.Form.of.Goals as goal

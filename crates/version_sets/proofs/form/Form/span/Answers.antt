@@ -1,8 +1,8 @@
 use Rattle.std.proofs.Common.{◌∙◌, ◌∷◌, ◌+◌, List, ap, arith, drop, inl, inr, ℕ}
 use Rattle.version_sets.specs.Set.{ends_of}
 use Rattle.version_sets.proofs.lemmas.Form.{left_at, left_past, nothing_between}
-use Rattle.version_sets.proofs.form.Form.span.Goals as goal
 use Rattle.version_sets.proofs.form.Form.span.Goals.{then-from-over-via-then-from-over, then-from-over-via-else-from-over+then-over-self}
+use Rattle.version_sets.proofs.form.Form.span.Goals as goal
 
 pub returns-then-place-self-clause-none : goal.returns-then-place-self-clause-none
 returns-then-place-self-clause-none c =

@@ -1,6 +1,5 @@
 use Rattle.std.proofs.Common.{◌≡◌, ◌∙◌, ◌∷◌, ◌++◌, ap, arith, length, refl, subst, sym}
-use Rattle.version_sets.specs.Form.{Rise, ends_in, form_bytes, number}
-use Rattle.version_sets.specs.Set.{ends_of}
+use Rattle.version_sets.specs.{Form.Rise, Form.ends_in, Form.form_bytes, Form.number, Set.ends_of}
 use Rattle.version_sets.proofs.lemmas.Form.{all_read, ends_are, form_length, row_size}
 use Rattle.version_sets.proofs.form.Form.whole.Goals as goal
 

@@ -1,7 +1,6 @@
 use Rattle.std.proofs.Common.{◌≡◌, ◌∙◌, ◌<◌, ◌++◌, List, ap, arith, get_or, inl, inr, length, subst, sym, take, ℕ}
-use Rattle.std.proofs.lemmas.Bool.{cases_lt}
 use Rattle.std.proofs.lemmas.List.{get_or-take, get_or_past, length-take, length-take-le, take-append-drop}
-use Rattle.std.proofs.lemmas.Nat.{le_bytes_8}
+use Rattle.std.proofs.lemmas.{Bool.cases_lt, Nat.le_bytes_8}
 use Rattle.version_sets.specs.Form.{number}
 use Rattle.version_sets.proofs.form.whole.first_number.Goals as goal
 

@@ -1,7 +1,5 @@
 use Rattle.std.proofs.Common.{◌∙◌, List, [], ℕ, ap, arith, not, refl}
-use Rattle.version_sets.specs.Comparison.{ends_with}
-use Rattle.version_sets.specs.Form.{has}
-use Rattle.version_sets.specs.Reading.{Asked, Not, With}
+use Rattle.version_sets.specs.{Comparison.ends_with, Form.has, Reading.Asked, Reading.Not, Reading.With}
 use Rattle.version_sets.proofs.read.excluding.excludes.Goals as goal
 
 -- the ends of a member

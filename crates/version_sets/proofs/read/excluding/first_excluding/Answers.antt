@@ -1,11 +1,8 @@
 use Rattle.std.proofs.Common.{◌≡◌, ◌∙◌, suc, [], ◌∷◌, ap, arith, length, refl, sym}
-use Rattle.version_sets.specs.Excluding.{first_out, found_or, left_read}
-use Rattle.version_sets.specs.Pieces.{piece_length, plain_piece}
-use Rattle.version_sets.specs.Reading.{Member, piece_room, pieces_room}
-use Rattle.version_sets.specs.declared.read.steps.State.TheVariants.{Come}
+use Rattle.version_sets.specs.{Excluding.first_out, Excluding.found_or, Excluding.left_read, Pieces.piece_length, Pieces.plain_piece, Reading.Member, Reading.piece_room, Reading.pieces_room, declared.read.steps.State.TheVariants.Come}
 use Rattle.version_sets.proofs.lemmas.Excluding.{all_has, behind_step, is_asked, none_found, once_found, one_more, passes, stops}
-use Rattle.version_order.proofs.lemmas.Runs.{not_false, not_true}
 use Rattle.version_sets.proofs.lemmas.Steps.{tells}
+use Rattle.version_order.proofs.lemmas.Runs.{not_false, not_true}
 use Rattle.version_sets.proofs.read.excluding.first_excluding.Goals.{else-is_none-via-then-is_none+else-excludes, else-is_none-via-else-is_none}
 use Rattle.version_order.specs.Facts.{key_room}
 use Rattle.version_sets.proofs.read.excluding.first_excluding.Goals as goal

@@ -1,8 +1,5 @@
 use Rattle.std.proofs.Common.{◌≡◌, ◌+◌, ◌≤◌, IfSome, List, length}
-use Rattle.version_sets.specs.Excluding.{StandsBefore, first_out, found_or, left_read}
-use Rattle.version_sets.specs.Pieces.{pieces}
-use Rattle.version_sets.specs.Reading.{Member, Right, pieces_room}
-use Rattle.version_sets.specs.declared.read.steps.State.TheVariants.{Wanted}
+use Rattle.version_sets.specs.{Excluding.StandsBefore, Excluding.first_out, Excluding.found_or, Excluding.left_read, Pieces.pieces, Reading.Member, Reading.Right, Reading.pieces_room, declared.read.steps.State.TheVariants.Wanted}
 use Rattle.version_sets.proofs.lemmas.Steps.{StartsBy}
 use Rattle.version_order.specs.Facts.{key_room}
 use Rattle.version_sets.proofs.read.excluding.first_excluding.Given as goal

@@ -1,6 +1,5 @@
 use Rattle.std.proofs.Common.{◌∙◌, ap, not, subst, sym}
-use Rattle.version_sets.specs.Comparison.{ends_with}
-use Rattle.version_sets.specs.Form.{Rise, has}
+use Rattle.version_sets.specs.{Comparison.ends_with, Form.Rise, Form.has}
 use Rattle.version_sets.proofs.lemmas.Reader.{begins_room}
 use Rattle.version_sets.proofs.read.excluding.leaves_out.Goals as goal
 

@@ -1,7 +1,5 @@
 use Rattle.std.proofs.Common.{◌≡◌, ◌∙◌, None, Some, ap, arith, length, sym}
-use Rattle.version_sets.specs.Pieces.{pieces}
-use Rattle.version_sets.specs.Reading.{at_end, fault_of, read_pieces}
-use Rattle.version_sets.specs.Steps.{unfinished}
+use Rattle.version_sets.specs.{Pieces.pieces, Reading.at_end, Reading.fault_of, Reading.read_pieces, Steps.unfinished}
 use Rattle.version_sets.proofs.read.find.find_fault.Goals as goal
 
 pub loop-place-preserved : goal.loop-place-preserved

@@ -1,6 +1,5 @@
 use Rattle.std.proofs.Common.{◌≡◌, ◌+◌, length}
-use Rattle.version_sets.specs.Pieces.{pieces}
-use Rattle.version_sets.specs.Reading.{fault_of, read_pieces, read_set}
+use Rattle.version_sets.specs.{Pieces.pieces, Reading.fault_of, Reading.read_pieces, Reading.read_set}
 use Rattle.version_sets.proofs.read.find.find_fault.Given as goal
 
 -- the text is wrong where the pieces that are left are

@@ -1,9 +1,6 @@
 use Rattle.std.proofs.Common.{◌≡◌, ◌∙◌, ◌+◌, ◌++◌, [], ap, arith, length}
-use Rattle.version_order.specs.Keyed.{after}
-use Rattle.version_order.specs.keys.Sinks.{saturated}
-use Rattle.version_sets.specs.Comparison.{ends_with}
-use Rattle.version_sets.specs.Form.{form_bytes}
-use Rattle.version_sets.specs.declared.read.comparison.Comparison.TheVariants.{Equal}
+use Rattle.version_order.specs.{Keyed.after, keys.Sinks.saturated}
+use Rattle.version_sets.specs.{Comparison.ends_with, Form.form_bytes, declared.read.comparison.Comparison.TheVariants.Equal}
 use Rattle.version_sets.proofs.lemmas.Form.{form_length}
 use Rattle.version_sets.proofs.read.member.tied_length.Goals as goal
 

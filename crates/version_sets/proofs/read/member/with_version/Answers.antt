@@ -1,11 +1,7 @@
 use Rattle.std.proofs.Common.{◌≡◌, [], Some, rules, true}
-use Rattle.version_order.specs.declared.ends.Kept.{Kept}
-use Rattle.version_order.specs.declared.facts.Operators.TheVariants.{Parts}
-use Rattle.version_order.specs.Facts.{key_room}
-use Rattle.version_order.specs.Keyed.{BeginsKey}
+use Rattle.version_order.specs.{Facts.key_room, Keyed.BeginsKey, declared.ends.Kept.Kept, declared.facts.Operators.TheVariants.Parts}
 use Rattle.version_sets.specs.Comparison.{asks_parts}
-use Rattle.version_sets.proofs.lemmas.Comparison.{rises}
-use Rattle.version_sets.proofs.lemmas.Steps.{member_small}
+use Rattle.version_sets.proofs.lemmas.{Comparison.rises, Steps.member_small}
 use Rattle.version_sets.proofs.read.member.with_version.Goals as goal
 
 pub returns-clause-small : goal.returns-clause-small

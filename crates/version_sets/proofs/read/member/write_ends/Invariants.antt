@@ -1,7 +1,6 @@
 use Rattle.std.proofs.Common.{◌≡◌, ◌+◌, ◌*◌, length}
 use Rattle.std.specs.List.{concat, flat_map}
-use Rattle.version_sets.specs.Comparison.{bytes_of}
-use Rattle.version_sets.specs.Form.{number, places}
+use Rattle.version_sets.specs.{Comparison.bytes_of, Form.number, Form.places}
 use Rattle.version_order.specs.keys.Sinks.{put_at}
 use Rattle.version_sets.proofs.read.member.write_ends.Given as goal
 

@@ -1,13 +1,9 @@
 use Rattle.std.proofs.Common.{◌≡◌, ◌∙◌, ◌+◌, ◌*◌, ◌++◌, ◌∷◌, List, ap, arith, length, refl, sym, ℕ}
 use Rattle.std.proofs.lemmas.List.{length-map}
 use Rattle.std.specs.List.{concat}
-use Rattle.version_order.specs.declared.ends.End.{End}
-use Rattle.version_order.specs.keys.Sinks.{put_at}
-use Rattle.version_order.specs.Keyed.{PlainKeyed, end_of}
-use Rattle.version_sets.specs.Comparison.{bytes_of}
-use Rattle.version_sets.specs.Form.{form_bytes, number}
-use Rattle.version_sets.proofs.lemmas.Form.{form_length}
-use Rattle.version_sets.proofs.lemmas.Members.{put_form}
+use Rattle.version_order.specs.{Keyed.PlainKeyed, Keyed.end_of, declared.ends.End.End, keys.Sinks.put_at}
+use Rattle.version_sets.specs.{Comparison.bytes_of, Form.form_bytes, Form.number}
+use Rattle.version_sets.proofs.lemmas.{Form.form_length, Members.put_form}
 use Rattle.version_sets.proofs.read.member.write_member.Goals as goal
 
 -- how long a set is by its ends

@@ -1,5 +1,5 @@
 use Rattle.std.proofs.Common.{◌∙◌, ap, arith, length, length-append, sym}
-use Rattle.version_order.proofs.lemmas.Plain.{run_and_rest}
+use Rattle.version_order.proofs.lemmas.Cuts.{run_and_rest}
 use Rattle.version_order.specs.texts.Front.{begins}
 use Rattle.version_sets.specs.Pieces.{is_blank, is_word_byte}
 use Rattle.version_sets.proofs.lemmas.Pieces.{first_bar, first_bars, first_comma, first_word, no_other}

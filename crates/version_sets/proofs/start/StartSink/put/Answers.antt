@@ -1,8 +1,8 @@
 use Rattle.std.proofs.Common.{◌≡◌, ◌∙◌, ◌+◌, ◌∷◌, List, ap, arith, length, suc, sym, ℕ}
 use Rattle.version_order.specs.keys.Sinks.{put_at, saturated}
 use Rattle.version_sets.proofs.lemmas.Pieces.{put_past, put_set}
-use Rattle.version_sets.proofs.start.StartSink.put.Goals as goal
 use Rattle.version_sets.proofs.start.StartSink.put.Goals.{then-self-lt-KEPT, else-self-lt-KEPT}
+use Rattle.version_sets.proofs.start.StartSink.put.Goals as goal
 
 -- a byte more is counted, and more behind it
 counted : (n now more : ℕ) → now ≡ saturated (n + 1) → saturated (now + more) ≡ saturated (n + suc more)

@@ -1,7 +1,6 @@
 use Rattle.std.proofs.Common.{◌∙◌, ◌++◌, [], ℕ, List, ap, append-nil, refl, sym}
-use Rattle.version_order.specs.keys.Lists.{bytes_cmp}
-use Rattle.version_rules.specs.key.Tail.{tail_bytes}
-use Rattle.version_order.specs.keys.Sinks.{order_with}
+use Rattle.version_order.specs.keys.{Lists.bytes_cmp, Sinks.order_with}
+use Rattle.version_rules.specs.key.Key.{tail_bytes}
 use Rattle.version_texts.specs.Key.{front_bytes, tail_of, text_key}
 use Rattle.version_texts.proofs.lemmas.versioning_ref.VersioningRef.{key_halves}
 use Rattle.version_texts.proofs.key.whole.compare_key.Goals as goal

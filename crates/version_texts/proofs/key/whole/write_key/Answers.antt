@@ -1,35 +1,16 @@
 use Rattle.std.proofs.Common.{◌≡◌, ◌∙◌, ap, arith, length, rules, sym}
 use Rattle.std.proofs.lemmas.List.{length-append}
-use Rattle.version_rules.specs.key.Key.{key_bytes}
-use Rattle.version_rules.specs.key.Tail.{tail_bytes}
-use Rattle.version_order.specs.keys.Sinks.{length-put, put_at, put_both}
+use Rattle.version_rules.specs.key.Key.{key_bytes, tail_bytes}
+use Rattle.version_order.specs.keys.Sinks.{put_at, put_both}
 use Rattle.version_texts.specs.Key.{front_bytes, text_key}
 use Rattle.version_texts.proofs.lemmas.versioning_ref.VersioningRef.{key_halves}
 use Rattle.version_texts.proofs.key.whole.write_key.Goals as goal
 
 pub put_front-requires-clause-fits : goal.put_front-requires-clause-fits
-put_front-requires-clause-fits c =
-    let key = text_key c.args.text.now c.args.shape in
-    omega (
-      arith,
-      c.requires.room,
-      ap length (key_halves key),
-      length-append (front_bytes key) (tail_bytes key.tail),
-    )
+put_front-requires-clause-fits c = grind (arith, key_halves, length-append)
 
 pub write_tail-requires-clause-room : goal.write_tail-requires-clause-room
-write_tail-requires-clause-room c =
-    let key = text_key c.args.text.now c.args.shape in
-    let front = c.put_front.ensures.bytes in
-    omega (
-      arith,
-      c.requires.room,
-      ap length (key_halves key),
-      length-append (front_bytes key) (tail_bytes key.tail),
-      front.end_is,
-      ap length front.bytes_are,
-      length-put c.args.room.now c.args.start (front_bytes key),
-    )
+write_tail-requires-clause-room c = grind (arith, key_halves, length-append)
 
 pub returns : goal.returns
 returns c =

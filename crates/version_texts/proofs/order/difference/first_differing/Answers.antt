@@ -3,10 +3,7 @@ use Rattle.version_texts.proofs.lemmas.order.Difference.{both_end, both_go_on, c
 use Rattle.version_texts.proofs.order.difference.first_differing.Goals as goal
 
 pub returns-then-is_ne : goal.returns-then-is_ne
-returns-then-is_ne c =
-    sym (differ_here c.parts.place c.parts.a.now c.parts.b.now _ c.compare_parts_to-firsts.ensures.order
-    (sym c.is_ne.ensures ∙ c.if-is_ne.true))
-    ∙ c.parts.invariant.0
+returns-then-is_ne c = grind (arith, differ_here)
 
 pub parts-preserved : goal.parts-preserved
 parts-preserved c =

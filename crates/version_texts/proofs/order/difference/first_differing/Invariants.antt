@@ -1,7 +1,6 @@
 use Rattle.std.proofs.Common.{◌≡◌, ◌+◌, ◌≤◌, length}
 use Rattle.version_texts.proofs.lemmas.order.Difference.{counted_from}
-use Rattle.version_texts.specs.Order.{first_differing}
-use Rattle.version_texts.specs.Key.{parts_of}
+use Rattle.version_texts.specs.{Key.parts_of, Order.first_differing}
 use Rattle.version_texts.proofs.order.difference.first_differing.Given as goal
 
 -- the parts so far are equal, and what is left differs where the lists do

@@ -1,11 +1,6 @@
-use Rattle.std.proofs.Common.{◌≡◌, ◌∙◌, ℕ, List, [], ◌∷◌, Ordering, map, ap, refl, false}
-use Rattle.std.specs.List.{onto_first, slice_split}
-use Rattle.std.specs.Ordering.{ordering_then}
-use Rattle.std.specs.declared.cmp.Ordering.TheVariants.{Less, Equal}
-use Rattle.version_rules.specs.key.PartKey.{list_cmp}
-use Rattle.version_rules.specs.key.Tail.{sections_cmp}
-use Rattle.version_texts.specs.declared.order.delimiters.Delimiters.TheVariants.{Dots}
-use Rattle.version_texts.specs.Key.{lists_of, parts_of}
+use Rattle.std.proofs.Common.{◌≡◌, ℕ, List, [], ◌∷◌, Ordering, map, ap, refl, false, arith}
+use Rattle.std.specs.{List.onto_first, List.slice_split, Ordering.ordering_then, declared.cmp.Ordering.TheVariants.Less, declared.cmp.Ordering.TheVariants.Equal}
+use Rattle.version_texts.specs.{Key.lists_of, Key.parts_of, declared.order.delimiters.Delimiters.TheVariants.Dots}
 use Rattle.version_texts.proofs.order.list.compare_in_turn.Goals as goal
 
 one_piece : (text : List ℕ) → slice_split (λ (b : ℕ). false) text ≡ text ∷ []
@@ -20,7 +15,4 @@ then_no_more Less = refl
 then_no_more o = refl
 
 pub returns : goal.returns
-returns c =
-    c.compare_lists.ensures
-    ∙ (λ i. sections_cmp (one_list c.args.x.now i) (one_list c.args.y.now i))
-    ∙ then_no_more (list_cmp (parts_of c.args.x.now) (parts_of c.args.y.now))
+returns c = grind (arith, one_list, then_no_more)

@@ -1,5 +1,5 @@
 use Rattle.std.proofs.Common.{◌≡◌, length}
-use Rattle.version_rules.specs.key.Tail.{sections_cmp}
+use Rattle.version_rules.specs.key.Key.{sections_cmp}
 use Rattle.version_texts.specs.Key.{lists_of}
 use Rattle.version_texts.proofs.order.list.compare_lists.Given as goal
 

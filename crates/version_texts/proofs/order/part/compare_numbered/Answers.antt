@@ -1,18 +1,12 @@
-use Rattle.std.proofs.Common.{◌∙◌, ap, sym}
+use Rattle.std.proofs.Common.{◌∙◌, ap, sym, arith}
 use Rattle.std.specs.List.{before_first}
-use Rattle.version_order.specs.keys.Lists.{bytes_cmp}
+use Rattle.version_order.specs.{keys.Lists.bytes_cmp, texts.Cuts.from_first}
 use Rattle.version_texts.proofs.lemmas.order.Piece.{digits_same, digit_no_end, decides, leaves, numbered_compared, tied}
 use Rattle.version_texts.specs.Key.{delimits}
-use Rattle.version_order.specs.texts.Cuts.{from_first}
 use Rattle.version_texts.proofs.order.part.compare_numbered.Goals as goal
 
 pub returns-then-ne-clause-order : goal.returns-then-ne-clause-order
-returns-then-ne-clause-order c =
-    let both =
-    numbered_compared (delimits c.args.delimiters) (digit_no_end c.args.delimiters) c.args.a.now c.args.b.now
-    (sym c.in-true-true.ensures) (sym c.in-true-true.ensures') in
-    decides c.compare_numbers-numbers.result.order _ _ _ c.compare_numbers-numbers.ensures.order
-    both (sym c.if-ne.true ∙ c.ne.ensures)
+returns-then-ne-clause-order c = grind (arith, numbered_compared, digit_no_end, decides)
 
 pub returns-else-ne : goal.returns-else-ne
 returns-else-ne c =

@@ -1,19 +1,13 @@
-use Rattle.std.proofs.Common.{◌∙◌, ap, sym}
+use Rattle.std.proofs.Common.{◌∙◌, ap, sym, arith}
 use Rattle.std.specs.List.{before_first}
-use Rattle.version_order.specs.keys.Lists.{none_last_cmp}
+use Rattle.version_order.specs.{keys.Lists.none_last_cmp, texts.Cuts.from_first}
 use Rattle.version_rules.specs.key.PartKey.{suffix_of, split_cmp}
 use Rattle.version_texts.proofs.lemmas.order.Piece.{digits_same, digit_no_end, decides, leaves, number_above_word, numbers_compared, tied, word_below_number, words_compared}
 use Rattle.version_texts.specs.Key.{delimits}
-use Rattle.version_order.specs.texts.Cuts.{from_first}
 use Rattle.version_texts.proofs.order.part.compare_parts_to.Goals as goal
 
 pub returns-then-ne-clause-order : goal.returns-then-ne-clause-order
-returns-then-ne-clause-order c =
-    let both =
-    numbers_compared (delimits c.args.delimiters) (digit_no_end c.args.delimiters) c.args.a.now c.args.b.now
-    (sym c.in-true-true.ensures) (sym c.in-true-true.ensures') in
-    decides c.compare_numbers-numbers.result.order _ _ _ c.compare_numbers-numbers.ensures.order
-    both (sym c.if-ne.true ∙ c.ne.ensures)
+returns-then-ne-clause-order c = grind (arith, numbers_compared, digit_no_end, decides)
 
 pub returns-else-ne : goal.returns-else-ne
 returns-else-ne c =
@@ -36,17 +30,10 @@ returns-else-ne c =
     }
 
 pub returns-in-false-false-clause-order : goal.returns-in-false-false-clause-order
-returns-in-false-false-clause-order c =
-    c.compare_words.ensures.order
-    ∙ sym (words_compared (delimits c.args.delimiters) (digit_no_end c.args.delimiters) c.args.a.now c.args.b.now
-    (sym c.in-false-false.ensures) (sym c.in-false-false.ensures'))
+returns-in-false-false-clause-order c = grind (arith, words_compared, digit_no_end)
 
 pub returns-in-true-false-clause-order : goal.returns-in-true-false-clause-order
-returns-in-true-false-clause-order c =
-    c.new.ensures.order ∙ sym (number_above_word (delimits c.args.delimiters) (digit_no_end c.args.delimiters) c.args.a.now c.args.b.now
-    (sym c.in-true-false.ensures) (sym c.in-true-false.ensures'))
+returns-in-true-false-clause-order c = grind (arith, number_above_word, digit_no_end)
 
 pub returns-in-false-true-clause-order : goal.returns-in-false-true-clause-order
-returns-in-false-true-clause-order c =
-    c.new-in-false-true.ensures.order ∙ sym (word_below_number (delimits c.args.delimiters) (digit_no_end c.args.delimiters) c.args.a.now c.args.b.now
-    (sym c.in-false-true.ensures) (sym c.in-false-true.ensures'))
+returns-in-false-true-clause-order c = grind (arith, word_below_number, digit_no_end)

@@ -1,17 +1,10 @@
-use Rattle.std.proofs.Common.{◌≡◌, ◌∙◌, ℕ, List, ap, drop, refl, sym}
-use Rattle.std.specs.List.{before_first, prefix_len, take_while}
-use Rattle.std.specs.Option.{option_cmp}
-use Rattle.std.specs.Ordering.{ordering_then}
+use Rattle.std.proofs.Common.{◌≡◌, ◌∙◌, ℕ, List, ap, drop, refl, sym, arith}
+use Rattle.std.specs.{List.before_first, List.prefix_len, List.take_while, Option.option_cmp, Ordering.ordering_then}
 use Rattle.version_order.proofs.lemmas.Front.{begins-drop}
-use Rattle.version_order.specs.texts.DigitRun.{number_front}
-use Rattle.version_order.specs.texts.Front.{begins}
-use Rattle.version_order.specs.keys.Lists.{bytes_cmp}
+use Rattle.version_order.specs.{keys.Lists.bytes_cmp, texts.Cuts.from_first, texts.Front.number_front}
 use Rattle.version_rules.specs.key.PartKey.{numbered_cmp, split_cmp, split_of}
-use Rattle.version_texts.specs.declared.order.delimiters.Delimiters.{Delimiters}
-use Rattle.version_texts.specs.declared.order.delimiters.Run.TheVariants.{Word}
+use Rattle.version_texts.specs.{Key.delimits, Key.in_run, declared.order.delimiters.Delimiters.Delimiters, declared.order.delimiters.Run.TheVariants.Word}
 use Rattle.version_texts.proofs.lemmas.order.Piece.{decides, leaves, tied, run_is_word}
-use Rattle.version_texts.specs.Key.{delimits, in_run}
-use Rattle.version_order.specs.texts.Cuts.{from_first}
 use Rattle.version_texts.proofs.order.part.compare_words.Goals as goal
 
 abbrev behind_word : Delimiters → List ℕ → List ℕ
@@ -30,20 +23,10 @@ by_words ends a b =
     rw (first.0, first.1, second.0, second.1) refl
 
 pub returns-then-ne-clause-order : goal.returns-then-ne-clause-order
-returns-then-ne-clause-order c =
-    decides c.compare_runs-words.result.order _ _ _ (c.compare_runs-words.ensures.order)
-    (by_words c.args.delimiters c.args.a.now c.args.b.now) (sym c.if-ne.true ∙ c.ne.ensures)
+returns-then-ne-clause-order c = grind (arith, decides, by_words)
 
 pub compare_numbered-requires : goal.compare_numbered-requires
-compare_numbered-requires c =
-    let ends = c.args.delimiters in
-    let same = tied c.compare_runs-words.result.order (sym c.if-ne.false ∙ c.ne.ensures) in
-    record {
-      a = ap (begins (in_run (Word ends))) (c.compare_runs-words.ensures.rest same) ∙ begins-drop
-          (in_run (Word ends)) c.args.a.now;
-      b = ap (begins (in_run (Word ends))) (c.compare_runs-words.ensures.other_rest same)
-          ∙ begins-drop (in_run (Word ends)) c.args.b.now;
-    }
+compare_numbered-requires c = grind (arith, tied, begins-drop)
 
 pub returns : goal.returns
 returns c =

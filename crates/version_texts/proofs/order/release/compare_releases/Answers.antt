@@ -1,6 +1,5 @@
 use Rattle.std.proofs.Common.{◌≡◌, ◌∙◌, ◌==◌, ℕ, false, List, Ordering, map, not, refl, sym}
-use Rattle.std.specs.Ordering.{ordering_index}
-use Rattle.std.specs.declared.cmp.Ordering.TheVariants.{Equal}
+use Rattle.std.specs.{Ordering.ordering_index, declared.cmp.Ordering.TheVariants.Equal}
 use Rattle.version_rules.specs.order.Parts.{chunk_cmp, release_cmp}
 use Rattle.version_texts.proofs.lemmas.order.Piece.{further_of_more, further_of_none, above, below, compared, left, decided, tied}
 use Rattle.version_order.specs.texts.Cuts.{behind_piece, first_piece, further_pieces, is_dot}

@@ -1,52 +1,82 @@
-use Rattle.std.proofs.Common.{◌≢◌, ◌∙◌, arith, get_or, sym}
-use Rattle.version_texts.specs.Key.{in_run}
-use Rattle.version_order.proofs.lemmas.Runs.{begins_within}
-use Rattle.version_texts.proofs.order.run.compare_runs.Answers.Steps.{behind_byte, begins_at, longer, other_byte, same_byte, slice_from}
+use Rattle.std.proofs.Common.{◌≢◌, arith, get_or, sym, ◌≡◌, ◌<◌, ◌+◌, ◌-◌, ℕ, Bool, true, false, List, [], ◌∷◌, drop, length, take, refl, Ordering}
+use Rattle.version_order.proofs.lemmas.Runs.{begins_within, run_cons, run_none, at_byte}
 use Rattle.version_texts.proofs.order.run.compare_runs.Goals.{then-bytes-test+then-place-y+then-x-place+else-contains, then-bytes-test+then-place-y+else-x-place, then-bytes-test+else-place-y, else-bytes-test}
+use Rattle.std.proofs.lemmas.{Cmp.nat_cmp_total, Cmp.tied_itself, List.length-drop, List.take_all, Map.Lookups.exact_unsigned}
+use Rattle.std.specs.{List.prefix_len, List.take_while, Ordering.nat_cmp, Ordering.ordering_then, declared.cmp.Ordering.TheVariants.Less, declared.cmp.Ordering.TheVariants.Equal, declared.cmp.Ordering.TheVariants.Greater}
+use Rattle.version_order.specs.{keys.Lists.bytes_cmp, texts.Front.begins}
 use Rattle.version_texts.proofs.order.run.compare_runs.Goals as goal
-mod Steps
+
+-- Two runs compared by their first bytes.
+
+unequal_first : (o more : Ordering) → o ≢ Equal → ordering_then o more ≡ o
+unequal_first Equal more other = absurd (other refl)
+unequal_first o more other = refl
+
+-- the slice from a place on
+slice_from : (x : List ℕ) (n : ℕ) → take (length x - n) (drop n x) ≡ drop n x
+slice_from x n = take_all (length x - n) (drop n x) (omega (arith, length-drop n x))
+
+module _ (test : ℕ → Bool) where
+  abbrev runs_cmp : List ℕ → List ℕ → Ordering
+  runs_cmp x y = bytes_cmp (take_while test x) (take_while test y)
+
+  same_first : (b c : ℕ) (x y : List ℕ) → test b ≡ true → b ≡ c
+      → runs_cmp (b ∷ x) (c ∷ y) ≡ runs_cmp x y
+  same_first b c x y passes same = grind (arith, run_cons, tied_itself, nat_cmp_total)
+
+  other_first : (b c : ℕ) (x y : List ℕ) → test b ≡ true → test c ≡ true → b ≢ c
+      → runs_cmp (b ∷ x) (c ∷ y) ≡ nat_cmp b c
+  other_first b c x y passes passes_too other = grind (arith, run_cons, unequal_first, exact_unsigned)
+
+  -- a byte that both runs have at a place does not count
+  pub same_byte : (x y : List ℕ) (n : ℕ) → n < length x → n < length y
+      → get_or x n 0 ≡ get_or y n 0 → test (get_or x n 0) ≡ true
+      → runs_cmp (drop (n + 1) x) (drop (n + 1) y) ≡ runs_cmp (drop n x) (drop n y)
+  same_byte x y n in_x in_y same passes =
+      rw (at_byte x n in_x, at_byte y n in_y) (sym (same_first _ _ _ _ passes same))
+
+  -- other bytes at a place decide
+  pub other_byte : (x y : List ℕ) (n : ℕ) → begins test (drop n x) ≡ true
+      → begins test (drop n y) ≡ true → get_or x n 0 ≢ get_or y n 0
+      → runs_cmp (drop n x) (drop n y) ≡ nat_cmp (get_or x n 0) (get_or y n 0)
+  other_byte x y n in_x in_y other = grind (arith, at_byte, begins_within, other_first)
+
+  pub begins_at : (x : List ℕ) (n : ℕ) → begins test (drop n x) ≡ true
+      → test (get_or x n 0) ≡ true
+  begins_at x n e = rw (at_byte x n (begins_within test x n e)) at e
+
+  pub behind_byte : (x : List ℕ) (n : ℕ) → n < length x → test (get_or x n 0) ≡ true
+      → drop (prefix_len test (drop (n + 1) x)) (drop (n + 1) x)
+      ≡ drop (prefix_len test (drop n x)) (drop n x)
+  behind_byte x n in_x passes = rw (at_byte x n in_x) (sym (run_cons test _ _ passes).1)
+
+  -- an empty run comes first
+  pub longer : (x y : List ℕ) → begins test x ≡ true → begins test y ≡ false
+      → (runs_cmp x y ≡ Greater) × (runs_cmp y x ≡ Less)
+  longer [] y e none = cc e
+  longer (b ∷ x) [] e none = rw (run_cons test b x e).0 (refl, refl)
+  longer (b ∷ x) (c ∷ y) e none =
+      rw ((run_cons test b x e).0, (run_none test c y none).0) (refl, refl)
 
 pub bytes-preserved : goal.bytes-preserved
-bytes-preserved c =
-    let test = in_run c.args.run in
-    let passes = sym c.contains.ensures ∙ c.if-contains.true in
-    record {
-      in_x = omega arith;
-      in_y = omega arith;
-      left = same_byte test c.args.x.now c.args.y.now c.bytes.place c.bytes-test.true
-          c.if-place-y.true c.if-x-place.true passes ∙ c.bytes.invariant.left;
-      behind_x = behind_byte test c.args.x.now c.bytes.place c.bytes-test.true passes
-          ∙ c.bytes.invariant.behind_x;
-      behind_y = behind_byte test c.args.y.now c.bytes.place c.if-place-y.true
-          (rw c.if-x-place.true at passes) ∙ c.bytes.invariant.behind_y;
-    }
+bytes-preserved c = grind (arith, same_byte, behind_byte)
 
 pub returns-in-true-true-clause-order : goal.returns-in-true-true-clause-order
 returns-in-true-true-clause-order c =
-    let test = in_run c.args.run in
-    let x = c.args.x.now in
-    let y = c.args.y.now in
-    let in_x = rw (slice_from x c.bytes.place) at (sym c.in-true-true.ensures) in
-    let in_y = rw (slice_from y c.bytes.place) at (sym c.in-true-true.ensures') in
-    let other : get_or x c.bytes.place 0 ≢ get_or y c.bytes.place 0 = elim c.bytes-test.branch [
-      | then-bytes-test+then-place-y+then-x-place+else-contains w ↦
-          cc (sym w.if-contains.false ∙ w.contains.ensures ∙ (begins_at test x c.bytes.place in_x))
-      | then-bytes-test+then-place-y+else-x-place w ↦ w.if-x-place.false
-      | then-bytes-test+else-place-y w ↦
-          absurd (omega (arith, begins_within test y c.bytes.place in_y, w.if-place-y.false))
-      | else-bytes-test w ↦
-          absurd (omega (arith, begins_within test x c.bytes.place in_x, w.bytes-test.false))
-    ] in
-    c.new.ensures.order ∙ c.cmp.ensures ∙ sym (other_byte test x y c.bytes.place in_x in_y other) ∙ c.bytes.invariant.left
+    grind (
+      arith,
+      slice_from,
+      then-bytes-test+then-place-y+then-x-place+else-contains,
+      begins_at,
+      then-bytes-test+then-place-y+else-x-place,
+      then-bytes-test+else-place-y,
+      begins_within,
+      else-bytes-test,
+      other_byte,
+    )
 
 pub returns-in-true-false-clause-order : goal.returns-in-true-false-clause-order
-returns-in-true-false-clause-order c =
-    let in_x = rw (slice_from c.args.x.now c.bytes.place) at (sym c.in-true-false.ensures) in
-    let out_y = rw (slice_from c.args.y.now c.bytes.place) at (sym c.in-true-false.ensures') in
-    c.new-in-true-false.ensures.order ∙ sym (longer (in_run c.args.run) _ _ in_x out_y).0 ∙ c.bytes.invariant.left
+returns-in-true-false-clause-order c = grind (arith, slice_from, longer)
 
 pub returns-in-false-true-clause-order : goal.returns-in-false-true-clause-order
-returns-in-false-true-clause-order c =
-    let out_x = rw (slice_from c.args.x.now c.bytes.place) at (sym c.in-false-true.ensures) in
-    let in_y = rw (slice_from c.args.y.now c.bytes.place) at (sym c.in-false-true.ensures') in
-    c.new-in-false-true.ensures.order ∙ sym (longer (in_run c.args.run) _ _ in_y out_x).1 ∙ c.bytes.invariant.left
+returns-in-false-true-clause-order c = grind (arith, slice_from, longer)

@@ -1,9 +1,6 @@
-use Rattle.std.proofs.Common.{◌∙◌, ℕ, List, ap, arith, length, sym}
+use Rattle.std.proofs.Common.{◌∙◌, arith, sym}
 use Rattle.std.proofs.lemmas.List.{length-drop}
-use Rattle.std.specs.Char.{is_ascii_alphanumeric}
-use Rattle.std.specs.List.{prefix_len}
-use Rattle.version_texts.proofs.lemmas.order.Piece.{decides, leaves, tied}
-use Rattle.version_texts.proofs.lemmas.order.Lasts.{bodies_above, bodies_below, bodies_end, bodies_go_on}
+use Rattle.version_texts.proofs.lemmas.order.{Lasts.bodies_above, Lasts.bodies_below, Lasts.bodies_end, Lasts.bodies_go_on, Piece.decides, Piece.leaves, Piece.tied}
 use Rattle.version_texts.proofs.order.ties.compare_bodies.Goals as goal
 
 pub returns-then-ne : goal.returns-then-ne
@@ -24,15 +21,7 @@ parts-preserved c =
     ∙ c.parts.invariant
 
 pub parts-smaller : goal.parts-smaller
-parts-smaller c =
-    let whole = ap (λ (l : List ℕ). length l) c.in-Some-Some.ensures in
-    let short = ap (λ (l : List ℕ). length l) c.split_run.ensures.rest in
-    omega (
-      arith,
-      whole,
-      short,
-      length-drop (prefix_len is_ascii_alphanumeric c.parts.a.now) c.parts.a.now,
-    )
+parts-smaller c = grind (arith, length-drop)
 
 pub returns-in-Some-None : goal.returns-in-Some-None
 returns-in-Some-None c =
@@ -49,9 +38,4 @@ returns-in-None-Some c =
     ∙ c.parts.invariant
 
 pub returns-in-None-None : goal.returns-in-None-None
-returns-in-None-None c =
-    c.compare_ends.ensures
-    ∙ bodies_end c.parts.a.now c.parts.b.now _ _ _ _ c.split_run.ensures.run
-    c.split_run-in-parts.ensures.run c.split_run.ensures.rest c.split_run-in-parts.ensures.rest
-    c.in-None-None.ensures c.in-None-None.ensures'
-    ∙ c.parts.invariant
+returns-in-None-None c = grind (arith, bodies_end)

@@ -1,8 +1,7 @@
 use Rattle.std.proofs.Common.{◌∙◌, ap, inl, inr, refl, subst, sym}
 use Rattle.std.specs.Option.{option_map}
 use Rattle.version_order.specs.keys.Lists.{bytes_cmp}
-use Rattle.version_rules.specs.requirement.Range.{requirement_range}
-use Rattle.version_rules.specs.requirement.Requirements.{requirements_of}
+use Rattle.version_rules.specs.requirement.{Range.requirement_range, Requirements.requirements_of}
 use Rattle.version_texts.proofs.lemmas.requirement.Empty.{crossed_alone, crossed_ends, crossing, ends_crossed, ends_no_later, not_each_begins, not_each_ends}
 use Rattle.version_texts.specs.Range.{IsCrossed, bound_bytes, plain_range_ref}
 use Rattle.version_texts.proofs.requirement.conflict.crossed.Goals as goal

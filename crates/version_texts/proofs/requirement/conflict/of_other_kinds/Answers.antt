@@ -1,7 +1,5 @@
 use Rattle.std.proofs.Common.{◌≡◌, inr, subst}
-use Rattle.version_rules.specs.requirement.Range.{common_kinds, no_kinds, requirement_range}
-use Rattle.version_rules.specs.requirement.Requirements.{requirements_of}
-use Rattle.version_rules.specs.declared.kind.Kind.TheVariants.{Ideal}
+use Rattle.version_rules.specs.{declared.kind.Kind.TheVariants.Ideal, requirement.Range.common_kinds, requirement.Range.no_kinds, requirement.Range.requirement_range, requirement.Requirements.requirements_of}
 use Rattle.version_texts.proofs.lemmas.requirement.Empty.{no_kind_left}
 use Rattle.version_texts.proofs.requirement.conflict.of_other_kinds.Goals as goal
 

@@ -1,22 +1,12 @@
-use Rattle.std.proofs.Common.{◌∙◌, refl, sym}
-use Rattle.version_rules.proofs.lemmas.Range.{requirement_exact}
-use Rattle.version_rules.proofs.lemmas.Requirement.{first_decides}
-use Rattle.version_texts.proofs.lemmas.requirement.RangeRef.{next_decides}
-use Rattle.version_texts.proofs.lemmas.requirement.Members.{list_split}
-use Rattle.version_texts.specs.Requirement.{list_of, pieces_of, plain_requirement_ref}
-use Rattle.version_texts.specs.VersioningRef.{plain_versioning_ref}
+use Rattle.std.proofs.Common.{◌∙◌, refl, sym, arith}
+use Rattle.version_rules.proofs.lemmas.{Range.requirement_exact, Requirement.first_decides}
+use Rattle.version_texts.proofs.lemmas.requirement.{Members.list_split, RangeRef.next_decides}
+use Rattle.version_texts.specs.{Requirement.list_of, Requirement.pieces_of, Requirement.plain_requirement_ref, VersioningRef.plain_versioning_ref}
 use Rattle.version_texts.proofs.requirement.inexact.inexact_match.Goals.{else-not-is_exact-via-else-not-is_exact, else-not-is_exact-via-then-not-is_exact+else-not-matches}
 use Rattle.version_texts.proofs.requirement.inexact.inexact_match.Goals as goal
 
 pub returns-then-not-matches : goal.returns-then-not-matches
-returns-then-not-matches c =
-    let v = plain_versioning_ref c.args.version.now in
-    let r = plain_requirement_ref c.in-Some-from_bytes.member in
-    let next = pieces_of c.next.new.self.left in
-    let split = list_split (pieces_of c.loop-member.members.left) next c.in-Some.member.now r
-    c.in-Some.ensures.some c.in-Some-from_bytes.ensures in
-    let fails = first_decides v r (list_of next) (λ asks. cc (c.if-not-matches.ensures.1 asks)) in
-    (λ yes. cc yes, λ asked. absurd (fails (rw split at c.loop-member.invariant.asks.1 asked)))
+returns-then-not-matches c = grind (arith, list_split, first_decides)
 
 pub loop-member-preserved : goal.loop-member-preserved
 loop-member-preserved c =

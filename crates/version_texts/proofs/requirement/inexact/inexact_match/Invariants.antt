@@ -1,10 +1,8 @@
 use Rattle.std.proofs.Common.{◌↔◌, IfSome, length}
 use Rattle.std.specs.List.{All}
 use Rattle.version_rules.proofs.lemmas.Requirement.{Asked}
-use Rattle.version_rules.specs.requirement.Range.{IsIn, requirement_range}
-use Rattle.version_rules.specs.requirement.Requirements.{requirements_of}
-use Rattle.version_texts.specs.Requirement.{list_of, pieces_of}
-use Rattle.version_texts.specs.VersioningRef.{plain_versioning_ref}
+use Rattle.version_rules.specs.requirement.{Range.IsIn, Range.requirement_range, Requirements.requirements_of}
+use Rattle.version_texts.specs.{Requirement.list_of, Requirement.pieces_of, VersioningRef.plain_versioning_ref}
 use Rattle.version_texts.proofs.requirement.inexact.inexact_match.Given as goal
 
 -- the members so far match the version, and those that are left decide

@@ -2,8 +2,7 @@ use Rattle.std.proofs.Common.{◌∙◌, ap, sym}
 use Rattle.std.specs.Option.{option_map}
 use Rattle.version_rules.specs.requirement.Range.{common}
 use Rattle.version_texts.proofs.lemmas.requirement.RangeRef.{narrowed, narrowed_further}
-use Rattle.version_texts.specs.Requirement.{list_of, pieces_of, plain_requirement_ref}
-use Rattle.version_texts.specs.Range.{plain_range_ref}
+use Rattle.version_texts.specs.{Range.plain_range_ref, Requirement.list_of, Requirement.pieces_of, Requirement.plain_requirement_ref}
 use Rattle.version_texts.proofs.requirement.range_ref.range_in_turn.Goals as goal
 
 pub loop-member-preserved : goal.loop-member-preserved

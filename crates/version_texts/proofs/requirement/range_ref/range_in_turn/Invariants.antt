@@ -1,10 +1,8 @@
 use Rattle.std.proofs.Common.{◌≡◌, length}
 use Rattle.std.specs.Option.{option_map}
-use Rattle.version_rules.specs.requirement.Range.{range_of}
-use Rattle.version_rules.specs.requirement.Requirements.{requirements_of}
+use Rattle.version_rules.specs.requirement.{Range.range_of, Requirements.requirements_of}
 use Rattle.version_texts.proofs.lemmas.requirement.RangeRef.{narrowed}
-use Rattle.version_texts.specs.Requirement.{list_of, pieces_of}
-use Rattle.version_texts.specs.Range.{plain_range_ref}
+use Rattle.version_texts.specs.{Range.plain_range_ref, Requirement.list_of, Requirement.pieces_of}
 use Rattle.version_texts.proofs.requirement.range_ref.range_in_turn.Given as goal
 
 -- the range so far, narrowed by the members that are left, is that of the list

@@ -1,8 +1,7 @@
 use Rattle.std.proofs.Common.{ap}
 use Rattle.std.specs.Option.{option_map}
 use Rattle.version_texts.proofs.lemmas.versioning_ref.VersioningRef.{front_begins}
-use Rattle.version_texts.specs.Requirement.{plain_requirement_ref}
-use Rattle.version_texts.specs.VersioningRef.{plain_versioning_ref}
+use Rattle.version_texts.specs.{Requirement.plain_requirement_ref, VersioningRef.plain_versioning_ref}
 use Rattle.version_texts.proofs.requirement.requirements_ref.front_of.Goals as goal
 
 pub returns-in-Tilde : goal.returns-in-Tilde

@@ -1,8 +1,6 @@
-use Rattle.std.proofs.Common.{◌∙◌, refl}
-use Rattle.version_rules.proofs.lemmas.Requirement.{first_decides, others_decide}
-use Rattle.version_texts.proofs.lemmas.requirement.Members.{list_split, more_parse}
-use Rattle.version_texts.specs.Requirement.{list_of, pieces_of, plain_requirement_ref}
-use Rattle.version_texts.specs.VersioningRef.{plain_versioning_ref}
+use Rattle.version_rules.proofs.lemmas.Requirement.{first_decides}
+use Rattle.version_texts.proofs.lemmas.requirement.Members.{list_split}
+use Rattle.version_texts.specs.{Requirement.list_of, Requirement.pieces_of, Requirement.plain_requirement_ref, VersioningRef.plain_versioning_ref}
 use Rattle.version_texts.proofs.requirement.requirements_ref.list_matches.Goals as goal
 
 pub returns-then-parse-clause-matches : goal.returns-then-parse-clause-matches

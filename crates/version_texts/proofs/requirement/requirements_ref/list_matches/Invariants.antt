@@ -1,8 +1,7 @@
 use Rattle.std.proofs.Common.{◌≡◌, ◌↔◌, length}
 use Rattle.std.specs.Option.{is_some}
 use Rattle.version_rules.specs.requirement.Requirements.{requirements_of}
-use Rattle.version_texts.specs.Requirement.{list_of, pieces_of}
-use Rattle.version_texts.specs.VersioningRef.{plain_versioning_ref}
+use Rattle.version_texts.specs.{Requirement.list_of, Requirement.pieces_of, VersioningRef.plain_versioning_ref}
 use Rattle.version_rules.proofs.lemmas.Requirement.{Asked}
 use Rattle.version_texts.proofs.requirement.requirements_ref.list_matches.Given as goal
 

@@ -1,5 +1,4 @@
-use Rattle.version_texts.specs.Requirement.{plain_requirement_ref, others_of}
-use Rattle.version_texts.specs.VersioningRef.{plain_versioning_ref}
+use Rattle.version_texts.specs.{Requirement.plain_requirement_ref, Requirement.others_of, VersioningRef.plain_versioning_ref}
 use Rattle.version_rules.proofs.lemmas.Requirement.{first_asks, first_asks_not}
 use Rattle.version_texts.proofs.requirement.requirements_ref.second_and_others_match.Goals as goal
 

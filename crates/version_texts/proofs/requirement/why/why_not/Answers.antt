@@ -1,7 +1,6 @@
 use Rattle.std.proofs.Common.{◌≡◌, ◌∙◌, ap, refl, subst}
 use Rattle.version_rules.specs.requirement.Range.{requirement_range}
-use Rattle.version_texts.specs.Requirement.{plain_requirement_ref, IsWhy}
-use Rattle.version_texts.specs.VersioningRef.{plain_versioning_ref}
+use Rattle.version_texts.specs.{Requirement.plain_requirement_ref, Requirement.IsWhy, VersioningRef.plain_versioning_ref}
 use Rattle.version_texts.proofs.requirement.why.why_not.Goals as goal
 
 pub returns-clause-why : goal.returns-clause-why

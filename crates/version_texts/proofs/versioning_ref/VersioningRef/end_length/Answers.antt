@@ -1,6 +1,5 @@
 use Rattle.std.proofs.Common.{◌∙◌, ◌+◌, [], ℕ, List, ap, append-nil, length, zero-add}
-use Rattle.version_rules.specs.requirement.Range.{end_bytes}
-use Rattle.version_rules.specs.key.Key.{key_of}
+use Rattle.version_rules.specs.{key.Key.key_of, requirement.Range.end_bytes}
 use Rattle.version_order.specs.keys.Sinks.{saturated}
 use Rattle.version_texts.specs.VersioningRef.{plain_versioning_ref}
 use Rattle.version_texts.proofs.versioning_ref.VersioningRef.end_length.Goals as goal

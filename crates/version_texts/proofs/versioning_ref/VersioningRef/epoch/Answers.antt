@@ -2,8 +2,7 @@ use Rattle.std.proofs.Common.{ap, sym}
 use Rattle.std.proofs.lemmas.Bool.{ne_eqb}
 use Rattle.std.specs.Option.{option_map}
 use Rattle.version_order.specs.keys.Sinks.{saturated}
-use Rattle.version_texts.proofs.lemmas.versioning_ref.VersioningRef.{shape_fits}
-use Rattle.version_texts.proofs.lemmas.versioning_ref.Field.{field_spans}
+use Rattle.version_texts.proofs.lemmas.versioning_ref.{Field.field_spans, VersioningRef.shape_fits}
 use Rattle.version_texts.proofs.versioning_ref.VersioningRef.epoch.Goals as goal
 
 pub returns-then-self-eq0 : goal.returns-then-self-eq0

@@ -1,7 +1,6 @@
 use Rattle.std.proofs.Common.{arith}
 use Rattle.std.proofs.lemmas.List.{length-take-le}
-use Rattle.version_texts.proofs.lemmas.versioning_ref.Field.{body_within}
-use Rattle.version_texts.proofs.lemmas.versioning_ref.VersioningRef.{shape_fits}
+use Rattle.version_texts.proofs.lemmas.versioning_ref.{Field.body_within, VersioningRef.shape_fits}
 use Rattle.version_texts.proofs.versioning_ref.VersioningRef.epoch_and_parts.Goals as goal
 
 pub split_at-requires : goal.split_at-requires

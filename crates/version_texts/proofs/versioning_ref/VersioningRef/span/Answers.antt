@@ -1,7 +1,6 @@
 use Rattle.std.proofs.Common.{◌≡◌, arith, rules, sym}
 use Rattle.std.proofs.lemmas.Bool.{eq-eqb, le-ltb, lt-ltb, ne_eqb}
-use Rattle.version_texts.proofs.lemmas.versioning_ref.VersioningRef.{other_tail}
-use Rattle.version_texts.proofs.lemmas.versioning_ref.Field.{field_spans, no_release_tail}
+use Rattle.version_texts.proofs.lemmas.versioning_ref.{Field.field_spans, Field.no_release_tail, VersioningRef.other_tail}
 use Rattle.version_texts.specs.declared.scan.shape.TailKind.TheVariants as tail
 use Rattle.version_texts.proofs.versioning_ref.VersioningRef.span.Goals as goal
 

@@ -1,4 +1,3 @@
-mod MessText
 use Rattle.std.proofs.Common.{◌≡◌, ◌∷◌, ◌++◌, [], append-nil, refl}
 use Rattle.std.proofs.lemmas.Grind.{put_three}
 use Rattle.std.specs.Fmt.{HasWritten}
@@ -6,8 +5,7 @@ use Rattle.version_parts.specs.Sep.{plain_sep}
 use Rattle.version_order.specs.texts.Grammar.{sep_byte}
 use Rattle.version_rules.specs.grammar.Mess.{joined_section}
 use Rattle.versions.specs.Mess.{plain_mess}
-use Rattle.versions.proofs.lemmas.Mess.{ends, first_is, goes_on}
-use Rattle.versions.proofs.mess.MessDisplay.fmt.Answers.MessText.{written_next}
+use Rattle.versions.proofs.lemmas.Mess.{ends, first_is, goes_on, written_next}
 use Rattle.versions.proofs.mess.MessDisplay.fmt.Goals as goal
 
 pub loop-current-init : goal.loop-current-init

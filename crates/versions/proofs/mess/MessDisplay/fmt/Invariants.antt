@@ -1,6 +1,5 @@
 use Rattle.std.proofs.Common.{◌≡◌, ◌++◌, List, ℕ}
-use Rattle.std.specs.Fmt.{HasWritten, IsPlainFormatter}
-use Rattle.std.specs.List.{flat_map}
+use Rattle.std.specs.{Fmt.HasWritten, Fmt.IsPlainFormatter, List.flat_map}
 use Rattle.version_rules.specs.grammar.Mess.{further_text, mess_text}
 use Rattle.versions.specs.Mess.{plain_mess}
 use Rattle.versions.proofs.mess.MessDisplay.fmt.Given as goal

@@ -1,14 +1,9 @@
-mod MessFed
 use Rattle.std.proofs.Common.{◌∙◌, ◌≡◌}
-use Rattle.std.specs.Hash.{fed_along}
-use Rattle.std.specs.List.{fold}
-use Rattle.version_parts.specs.MChunk.{mchunk_fed, plain_mchunk}
-use Rattle.version_parts.specs.Sep.{plain_sep}
+use Rattle.std.specs.{Hash.fed_along, List.fold}
+use Rattle.version_parts.specs.{MChunk.mchunk_fed, MChunk.plain_mchunk, Sep.plain_sep}
 use Rattle.version_parts.proofs.lemmas.Lists.{fed_plain}
-use Rattle.versions.specs.declared.mess.Mess.TheViews.{out-Mess}
-use Rattle.versions.specs.Mess.{plain_mess, section_fed}
-use Rattle.versions.proofs.lemmas.Mess.{ends, first_is, goes_on}
-use Rattle.versions.proofs.mess.MessHash.hash.Answers.MessFed.{fed_behind, fed_further, fed_next}
+use Rattle.versions.specs.{Mess.plain_mess, Mess.section_fed, declared.mess.Mess.TheViews.out-Mess}
+use Rattle.versions.proofs.lemmas.Mess.{ends, first_is, goes_on, fed_behind, fed_further, fed_next}
 use Rattle.std.specs.Hash as fed
 use Rattle.versions.proofs.mess.MessHash.hash.Goals as goal
 

@@ -1,10 +1,7 @@
 use Rattle.std.proofs.Common.{◌≡◌, ◌∙◌, ◌++◌, ◌∷◌, List, ℕ, Some, ap, append_assoc, refl, sym, true}
+use Rattle.version_order.specs.declared.ends.{Kept.Kept, Kept.TheVariants.All, Kept.TheVariants.ButLast, Kept.TheVariants.ButLastOrOnly, Kept.TheVariants.ThroughOther}
 use Rattle.version_order.specs.keys.Codes.{items_bytes}
-use Rattle.version_rules.specs.requirement.Range.{kept_parts}
-use Rattle.version_rules.specs.key.PartKey.{PartKey, part_bytes}
-use Rattle.version_rules.specs.requirement.VersionMatch.{is_plain_zero}
-use Rattle.version_order.specs.declared.ends.Kept.{Kept}
-use Rattle.version_order.specs.declared.ends.Kept.TheVariants.{All, ButLast, ButLastOrOnly, ThroughOther}
+use Rattle.version_rules.specs.{key.PartKey.PartKey, key.PartKey.part_bytes, requirement.Range.kept_parts, requirement.VersionMatch.is_plain_zero}
 use Rattle.versions.specs.Version.{first_part, more_parts}
 use Rattle.versions.proofs.range.build.append_kept.Goals.{else-eq-via-then-eq+else-not-begins_with_zero, else-eq-via-else-eq}
 use Rattle.versions.proofs.range.build.append_kept.Goals as goal

@@ -1,8 +1,7 @@
 use Rattle.std.proofs.Common.{◌≡◌, ◌∷◌, ◌++◌, length}
 use Rattle.version_order.specs.keys.Codes.{items_bytes}
-use Rattle.version_rules.specs.key.PartKey.{part_bytes}
+use Rattle.version_rules.specs.{key.PartKey.part_bytes, requirement.Range.kept_parts}
 use Rattle.versions.specs.Version.{first_part, more_parts}
-use Rattle.version_rules.specs.requirement.Range.{kept_parts}
 use Rattle.versions.proofs.range.build.append_kept.Given as goal
 
 -- what is kept of the parts that are left remains to be appended

@@ -1,5 +1,5 @@
 use Rattle.version_rules.specs.requirement.Requirement.{SpellsRequirement, requirement_of, requirement_text}
-use Rattle.versions.proofs.lemmas.Json.{written_again}
+use Rattle.versions.proofs.lemmas.Errors.{written_again}
 use Rattle.version_rules.proofs.lemmas.Requirement.{requirement_of-spells, requirement_printed}
 use Rattle.versions.proofs.requirement.Requirement.deserialize.Goals as goal
 

@@ -1,9 +1,8 @@
 use Rattle.std.proofs.Common.{Ok, Err}
 use Rattle.std.proofs.lemmas.Result.{err_from_is_err_and}
-use Rattle.versions.specs.Errors.{IllegalOp}
+use Rattle.versions.specs.{Errors.IllegalOp, Requirements.plain_requirements}
 use Rattle.version_rules.specs.requirement.Requirements.{SpellsRequirements, requirements_of, requirements_text}
-use Rattle.versions.specs.Requirements.{plain_requirements}
-use Rattle.versions.proofs.lemmas.Json.{reads_json, written_again}
+use Rattle.versions.proofs.lemmas.Errors.{reads_json, written_again}
 use Rattle.version_rules.proofs.lemmas.Requirement.{requirements_of-spells, requirements_printed}
 use Rattle.versions.proofs.requirements.Requirements.deserialize.Goals as goal
 

@@ -1,6 +1,5 @@
 use Rattle.std.proofs.Common.{lit<, ◌∙◌, rules}
-use Rattle.std.proofs.lemmas.Iterator.Search.{all_from_yields_List}
-use Rattle.std.proofs.lemmas.Iterator.Splits.{YieldsList-from_str_split}
+use Rattle.std.proofs.lemmas.Iterator.{Search.all_from_yields_List, Splits.YieldsList-from_str_split}
 use Rattle.std.specs.Option.{is_some}
 use Rattle.version_rules.specs.requirement.Requirement.{requirement_of}
 use Rattle.version_rules.proofs.lemmas.Requirement.{requirements_of-is_some}

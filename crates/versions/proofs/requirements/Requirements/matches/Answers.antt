@@ -1,13 +1,9 @@
-mod Members
 use Rattle.std.proofs.Common.{◌≡◌, ◌∙◌, ◌+◌, suc, [], ◌∷◌, ◌++◌, take, ap, arith, refl, subst, sym}
 use Rattle.std.proofs.Math.Seq.{take-suc}
-use Rattle.std.proofs.lemmas.List.{take_all}
-use Rattle.std.proofs.lemmas.List.Elements.{All-map, All-push, All-same}
-use Rattle.versions.specs.declared.requirement.Requirement.{Requirement}
+use Rattle.std.proofs.lemmas.{List.take_all, List.Elements.All-map, List.Elements.All-push, List.Elements.All-same}
+use Rattle.versions.specs.{Requirements.plain_requirement, Versioning.plain_versioning, declared.requirement.Requirement.Requirement}
 use Rattle.version_rules.specs.requirement.Matching.{Matches}
-use Rattle.versions.specs.Requirements.{plain_requirement}
-use Rattle.versions.specs.Versioning.{plain_versioning}
-use Rattle.versions.proofs.requirements.Requirements.matches.Answers.Members.{member}
+use Rattle.versions.proofs.lemmas.Keys.{member}
 use Rattle.versions.proofs.requirements.Requirements.matches.Goals as goal
 
 pub returns-then-not-matches-clause-set : goal.returns-then-not-matches-clause-set

@@ -1,8 +1,7 @@
 use Rattle.std.proofs.Common.{take}
 use Rattle.std.specs.List.{All}
 use Rattle.version_rules.specs.requirement.Matching.{Matches}
-use Rattle.versions.specs.Requirements.{plain_requirement}
-use Rattle.versions.specs.Versioning.{plain_versioning}
+use Rattle.versions.specs.{Requirements.plain_requirement, Versioning.plain_versioning}
 use Rattle.versions.proofs.requirements.Requirements.matches.Given as goal
 
 -- the members so far match the version

@@ -1,10 +1,8 @@
 use Rattle.std.proofs.Common.{◌≡◌, ◌∷◌, take, refl, rules}
-use Rattle.std.proofs.lemmas.Grind.{put_two}
-use Rattle.std.proofs.lemmas.List.{take_all}
+use Rattle.std.proofs.lemmas.{Grind.put_two, List.take_all}
 use Rattle.version_parts.proofs.lemmas.Lists.{joined}
 use Rattle.versions.specs.Requirements.{plain_requirement}
-use Rattle.version_rules.specs.requirement.Requirement.{requirement_text}
-use Rattle.version_rules.specs.requirement.Requirements.{comma}
+use Rattle.version_rules.specs.requirement.{Requirement.requirement_text, Requirements.comma}
 use Rattle.versions.proofs.requirements.RequirementsDisplay.fmt.Goals as goal
 
 pub returns-clause-writes : goal.returns-clause-writes

@@ -1,9 +1,7 @@
 use Rattle.std.proofs.Common.{◌∷◌, take}
-use Rattle.std.specs.Fmt.{HasWritten, IsPlainFormatter}
-use Rattle.std.specs.List.{flat_map}
+use Rattle.std.specs.{Fmt.HasWritten, Fmt.IsPlainFormatter, List.flat_map}
 use Rattle.versions.specs.Requirements.{plain_requirement}
-use Rattle.version_rules.specs.requirement.Requirement.{requirement_text}
-use Rattle.version_rules.specs.requirement.Requirements.{comma}
+use Rattle.version_rules.specs.requirement.{Requirement.requirement_text, Requirements.comma}
 use Rattle.versions.proofs.requirements.RequirementsDisplay.fmt.Given as goal
 
 -- the further members so far are written, each after a comma

@@ -1,9 +1,6 @@
-use Rattle.versions.proofs.lemmas.Errors.{along}
-use Rattle.versions.proofs.lemmas.Conversions.{strict_as_messy, mess_of_semver_printed}
-use Rattle.version_rules.specs.key.Key.{key_of_mess, key_of_semver, precedence}
-use Rattle.version_rules.specs.grammar.Mess.{mess_text}
-use Rattle.versions.specs.Mess.{plain_mess}
-use Rattle.versions.specs.SemVer.{plain_semver}
+use Rattle.versions.proofs.lemmas.{Conversions.strict_as_messy, Conversions.mess_of_semver_printed, Errors.along}
+use Rattle.version_rules.specs.{grammar.Mess.mess_text, key.Key.key_of_mess, key.Key.key_of_semver, key.Key.precedence}
+use Rattle.versions.specs.{Mess.plain_mess, SemVer.plain_semver}
 use Rattle.versions.proofs.semver.SemVer.to_mess.Goals as goal
 
 pub returns-clause-printed : goal.returns-clause-printed

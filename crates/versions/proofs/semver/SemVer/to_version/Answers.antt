@@ -1,8 +1,6 @@
-use Rattle.versions.proofs.lemmas.Errors.{along}
-use Rattle.versions.proofs.lemmas.Conversions.{strict_as_general}
+use Rattle.versions.proofs.lemmas.{Conversions.strict_as_general, Errors.along}
 use Rattle.version_rules.specs.key.Key.{key_of_semver, key_of_version, precedence}
-use Rattle.versions.specs.SemVer.{plain_semver}
-use Rattle.versions.specs.Version.{plain_version}
+use Rattle.versions.specs.{SemVer.plain_semver, Version.plain_version}
 use Rattle.versions.proofs.semver.SemVer.to_version.Goals as goal
 
 pub returns-clause-precedence : goal.returns-clause-precedence

@@ -1,9 +1,6 @@
-use Rattle.versions.proofs.lemmas.Errors.{along}
-use Rattle.versions.proofs.lemmas.Conversions.{general_as_messy, mess_of_version_printed}
-use Rattle.version_rules.specs.key.Key.{key_of_mess, key_of_version, precedence}
-use Rattle.version_rules.specs.grammar.Mess.{mess_text}
-use Rattle.versions.specs.Mess.{plain_mess}
-use Rattle.versions.specs.Version.{plain_version}
+use Rattle.versions.proofs.lemmas.{Conversions.general_as_messy, Conversions.mess_of_version_printed, Errors.along}
+use Rattle.version_rules.specs.{grammar.Mess.mess_text, key.Key.key_of_mess, key.Key.key_of_version, key.Key.precedence}
+use Rattle.versions.specs.{Mess.plain_mess, Version.plain_version}
 use Rattle.versions.proofs.version.Version.to_mess.Goals as goal
 
 pub returns-clause-printed : goal.returns-clause-printed

@@ -1,5 +1,5 @@
 use Rattle.version_rules.specs.grammar.Versioning.{SpellsVersioning, versioning_of, versioning_text}
-use Rattle.versions.proofs.lemmas.Json.{written_again}
+use Rattle.versions.proofs.lemmas.Errors.{written_again}
 use Rattle.version_rules.proofs.lemmas.Versioning.{versioning_of-spells, versioning_printed}
 use Rattle.versions.proofs.versioning.Versioning.deserialize_pretty.Goals as goal
 

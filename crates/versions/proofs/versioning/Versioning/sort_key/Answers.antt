@@ -1,5 +1,4 @@
-mod SortKey
-use Rattle.versions.proofs.versioning.Versioning.sort_key.Answers.SortKey.{stays_apart}
+use Rattle.versions.proofs.lemmas.Keys.{stays_apart}
 use Rattle.version_rules.specs.key.Key.{key_of}
 use Rattle.versions.specs.Versioning.{plain_versioning}
 use Rattle.versions.proofs.versioning.Versioning.sort_key.Goals as goal

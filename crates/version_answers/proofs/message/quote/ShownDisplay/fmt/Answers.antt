@@ -1,9 +1,7 @@
 use Rattle.std.proofs.Common.{ℕ, List, chars, flat_map, ap, sym, ◌∙◌, append-nil, map-id, arith}
 use Rattle.std.proofs.Output.{has_written_append, has_written_of_eq}
-use Rattle.std.proofs.lemmas.Grind.{flat_map-append}
-use Rattle.std.proofs.lemmas.Iterator.{YieldsList-from_chars}
-use Rattle.std.proofs.lemmas.Iterator.Consumers.{YieldsList-end}
-use Rattle.version_answers.specs.message.Quote.{quoted_character}
+use Rattle.std.proofs.lemmas.{Grind.flat_map-append, Iterator.YieldsList-from_chars, Iterator.Consumers.YieldsList-end}
+use Rattle.version_answers.specs.Message.{quoted_character}
 use Rattle.version_answers.proofs.message.quote.ShownDisplay.fmt.Goals as goal
 
 pub loop-character-preserved : goal.loop-character-preserved

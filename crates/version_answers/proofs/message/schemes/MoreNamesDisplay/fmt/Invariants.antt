@@ -1,7 +1,7 @@
 -- The names so far are written.
 use Rattle.std.proofs.Common.{map, take}
 use Rattle.std.specs.Fmt.{HasWritten, IsPlainFormatter}
-use Rattle.version_answers.specs.message.Schemes.{more_names}
+use Rattle.version_answers.specs.Message.{more_names}
 use Rattle.version_answers.proofs.message.schemes.MoreNamesDisplay.fmt.Given as goal
 
 abbrev pub invariant-loop-name : goal.invariant-loop-name

@@ -2,7 +2,7 @@ use Rattle.std.proofs.Common.{◌≡◌, ◌++◌, ◌∷◌, List, rules, sym, 
 use Rattle.std.proofs.Output.{has_written_append}
 use Rattle.std.specs.Array.Iter.{array_into_iter_items}
 use Rattle.version_schemes.specs.declared.scheme.Scheme.{Scheme}
-use Rattle.version_answers.specs.message.Schemes.{names_of, names_of_each}
+use Rattle.version_answers.specs.Message.{names_of, names_of_each}
 use Rattle.version_answers.proofs.message.schemes.SchemeNamesDisplay.fmt.Goals as goal
 
 pub loop-scheme-preserved : goal.loop-scheme-preserved

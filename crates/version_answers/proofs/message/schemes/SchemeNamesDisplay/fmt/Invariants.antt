@@ -1,8 +1,7 @@
 -- What is written, with the names of the schemes that are left, is all.
 use Rattle.std.proofs.Common.{◌≡◌, ℕ, List, ◌++◌}
-use Rattle.std.specs.Array.Iter.{array_into_iter_items}
-use Rattle.std.specs.Fmt.{HasWritten, IsPlainFormatter}
-use Rattle.version_answers.specs.message.Schemes.{names_of_each, scheme_names}
+use Rattle.std.specs.{Array.Iter.array_into_iter_items, Fmt.HasWritten, Fmt.IsPlainFormatter}
+use Rattle.version_answers.specs.Message.{names_of_each, scheme_names}
 use Rattle.version_answers.proofs.message.schemes.SchemeNamesDisplay.fmt.Given as goal
 
 abbrev pub invariant-loop-scheme : goal.invariant-loop-scheme

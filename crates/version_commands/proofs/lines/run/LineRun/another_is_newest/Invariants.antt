@@ -1,7 +1,6 @@
 -- No line before those that are left is another newest.
 use Rattle.std.proofs.Common.{◌≡◌, length}
-use Rattle.std.specs.List.{list_any}
-use Rattle.std.specs.Option.{option_map}
+use Rattle.std.specs.{List.list_any, Option.option_map}
 use Rattle.version_commands.specs.Hints.{is_another_newest}
 use Rattle.version_lines.specs.Inputs.{lines_left, texts_of}
 use Rattle.version_commands.proofs.lines.run.LineRun.another_is_newest.Given as goal

@@ -1,9 +1,7 @@
-use Rattle.version_lines.specs.Inputs.{lines_left}
+use Rattle.version_lines.specs.{Inputs.lines_left, declared.column.Column.Column}
+use Rattle.version_commands.specs.{Run.Arranges, lines.Ordered.ordered_by, lines.Ordered.versions_by}
 use Rattle.std.proofs.Common.{Option, sym, subst}
-use Rattle.version_commands.specs.lines.LineRun.{Arranges}
-use Rattle.version_commands.specs.lines.Ordered.{ordered_by, versions_by}
 use Rattle.version_commands.proofs.lines.run.LineRun.write.Goals as goal
-use Rattle.version_lines.specs.declared.column.Column.{Column}
 
 pub returns-in-Some : goal.returns-in-Some
 returns-in-Some g c =

@@ -1,10 +1,8 @@
 use Rattle.std.proofs.Common.{◌≡◌, ◌++◌, ◌∷◌, [], Bool, None, refl, rules, sym, subst}
-use Rattle.version_answers.specs.Pieces.{Adds}
-use Rattle.version_answers.specs.Spelling.{named_text}
-use Rattle.version_commands.specs.declared.words.each.Answers.{Answers}
+use Rattle.version_answers.specs.{One.Adds, Spelling.named_text}
+use Rattle.version_commands.specs.{Each.HaveAnswered, Each.IsAnswer, Each.scheme_of, declared.words.each.Answers.Answers}
 use Rattle.version_schemes.specs.any.AnyVersion.{plain_any}
 use Rattle.version_schemes.proofs.lemmas.Any.{is_of}
-use Rattle.version_commands.specs.words.Each.{HaveAnswered, IsAnswer, scheme_of}
 use Rattle.version_commands.proofs.lemmas.Each.{have-next, have-none, have-still}
 use Rattle.version_commands.proofs.words.each.Answers.add.Goals.{else-is_none-via-then-is_none+in_ok-add_answer+else-not-branch, else-is_none-via-else-is_none}
 use Rattle.version_commands.proofs.words.each.Answers.add.Goals as goal

@@ -1,5 +1,5 @@
 use Rattle.std.proofs.Common.{inr, refl, subst}
-use Rattle.version_commands.specs.words.Each.{AnsweredOr}
+use Rattle.version_commands.specs.Each.{AnsweredOr}
 use Rattle.version_commands.proofs.words.each.Answers.finish.Goals as goal
 
 pub returns-clause-faults : goal.returns-clause-faults

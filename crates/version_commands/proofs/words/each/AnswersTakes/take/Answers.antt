@@ -1,8 +1,6 @@
 use Rattle.std.proofs.Common.{◌++◌, ◌∷◌, [], ℕ, Bool, List, map, sym, subst, ap, ◌∙◌}
-use Rattle.std.proofs.lemmas.List.{map_push}
-use Rattle.std.proofs.lemmas.Result.{on_ok_weaker}
-use Rattle.version_commands.specs.words.Each.{HaveAnswered}
-use Rattle.version_commands.specs.lines.Place.{line_text}
+use Rattle.std.proofs.lemmas.{List.map_push, Result.on_ok_weaker}
+use Rattle.version_commands.specs.{Each.HaveAnswered, lines.Picked.line_text}
 use Rattle.version_commands.proofs.words.each.AnswersTakes.take.Goals as goal
 
 pub returns-clause-taken : goal.returns-clause-taken

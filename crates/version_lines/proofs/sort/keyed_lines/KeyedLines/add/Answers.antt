@@ -1,10 +1,8 @@
 use Rattle.std.proofs.Common.{◌≡◌, ◌++◌, ◌∷◌, [], ℕ, List, refl, Some, ap, sym, subst, ◌∙◌}
 use Rattle.std.specs.List.{All}
 use Rattle.std.proofs.lemmas.List.Elements.{All-push, All-same, All-weaker}
-use Rattle.version_lines.specs.declared.sort.entry.Entry.{Entry}
-use Rattle.version_lines.specs.Entry.{entry_line, IsRead}
+use Rattle.version_lines.specs.{Entry.entry_line, Entry.IsRead, Sort.version_in, declared.sort.entry.Entry.Entry}
 use Rattle.version_lines.proofs.lemmas.KeyedLines.{stay_read, in_turn-added, read-more}
-use Rattle.version_lines.specs.Sort.{version_in}
 use Rattle.version_schemes.specs.any.AnyVersion.{plain_any}
 use Rattle.version_lines.proofs.sort.keyed_lines.KeyedLines.add.Goals as goal
 

@@ -1,8 +1,6 @@
 use Rattle.std.proofs.Common.{◌≡◌, ◌∙◌, ◌∷◌, IfSome, List, Option, Some, None, ap, arith, rules, subst}
 use Rattle.version_sets.specs.Excluding.{AreLeft, EndsAt, leave_out, room_left, steps_left, with_found}
-use Rattle.version_sets.specs.Pieces.{pieces}
-use Rattle.version_sets.specs.Reading.{Member, pieces_room}
-use Rattle.version_sets.specs.declared.read.excluding.Span.{Span}
+use Rattle.version_sets.specs.{Pieces.pieces, Reading.Member, Reading.pieces_room, declared.read.excluding.Span.Span}
 use Rattle.version_sets.proofs.lemmas.Excluding.{before_end, behind_one, ends_still, fewer, no_span, room_kept}
 use Rattle.version_order.specs.Facts.{key_room}
 use Rattle.version_sets.proofs.read.excluding.Alternatives.next_excluding.Goals as goal

@@ -1,7 +1,5 @@
 use Rattle.std.proofs.Common.{◌≡◌, ◌∙◌, ◌+◌, ap, arith, length}
-use Rattle.std.proofs.lemmas.List.{length-drop}
-use Rattle.std.proofs.lemmas.List.Folds.{length-prefix_len}
-use Rattle.std.proofs.lemmas.List.Sums.{prefix_len-le-length}
+use Rattle.std.proofs.lemmas.{List.length-drop, List.Folds.length-prefix_len, List.Sums.prefix_len-le-length}
 use Rattle.std.specs.List.{prefix_len}
 use Rattle.version_order.proofs.lemmas.Front.{begins-drop}
 use Rattle.version_order.specs.texts.Front.{begins}

@@ -1,8 +1,6 @@
 use Rattle.std.proofs.Common.{◌≡◌, ◌∙◌, ◌+◌, ◌∷◌, ◌++◌, List, [], append-nil, append_assoc, ap, arith, false, get_or, length, length-append, sym, ℕ}
 use Rattle.std.specs.Option.{IsSomeAnd}
-use Rattle.version_sets.specs.Form.{form_bytes}
-use Rattle.version_sets.specs.Pile.{merged, through}
-use Rattle.version_sets.specs.Set.{by_rule, ends_of}
+use Rattle.version_sets.specs.{Form.form_bytes, Pile.merged, Pile.through, Set.by_rule, Set.ends_of}
 use Rattle.version_sets.proofs.lemmas.Pile.{two_begin}
 use Rattle.version_sets.proofs.read.pile.Pile.last_two.Goals as goal
 

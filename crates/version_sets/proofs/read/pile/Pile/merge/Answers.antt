@@ -1,14 +1,11 @@
 use Rattle.std.proofs.Common.{◌≡◌, ◌∙◌, ◌+◌, ◌*◌, ◌≤◌, ◌∷◌, ◌++◌, List, append_assoc, ap, arith, drop, length, sym, take, ℕ}
 use Rattle.std.specs.List.{concat, flat_map}
-use Rattle.std.proofs.lemmas.Bool.{true≢false}
-use Rattle.std.proofs.lemmas.List.{take_at}
+use Rattle.std.proofs.lemmas.{Bool.true≢false, List.take_at}
 use Rattle.version_order.specs.keys.Sinks.{put_at}
 use Rattle.version_order.proofs.lemmas.Sinks.{put_fits}
-use Rattle.version_sets.specs.Form.{form_bytes, number, places}
-use Rattle.version_sets.specs.Pile.{through}
-use Rattle.version_sets.specs.Set.{left}
-use Rattle.version_sets.proofs.lemmas.Form.{form_length, row_size}
+use Rattle.version_sets.specs.{Form.form_bytes, Form.number, Form.places, Pile.through, Set.left}
 use Rattle.version_sets.proofs.lemmas.Pile.{are_two, behind_them, few_enough, in_place, made, through_pieces}
+use Rattle.version_sets.proofs.lemmas.Form.{form_length, row_size}
 use Rattle.version_sets.proofs.read.pile.Pile.merge.Goals as goal
 
 -- bytes written at the beginning of a buffer

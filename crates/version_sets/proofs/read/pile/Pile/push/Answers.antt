@@ -1,6 +1,5 @@
 use Rattle.std.proofs.Common.{◌≡◌, ◌∙◌, ◌∷◌, ap, subst, sym}
-use Rattle.version_sets.specs.Pile.{IsPile, all_have}
-use Rattle.version_sets.specs.declared.read.pile.Pile.{Pile}
+use Rattle.version_sets.specs.{Pile.IsPile, Pile.all_have, declared.read.pile.Pile.Pile}
 use Rattle.version_sets.proofs.lemmas.Pile.{one_more}
 use Rattle.version_sets.proofs.read.pile.Pile.push.Goals as goal
 

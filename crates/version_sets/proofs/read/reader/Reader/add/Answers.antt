@@ -1,7 +1,6 @@
 use Rattle.std.proofs.Common.{◌≡◌, ◌∙◌, ◌+◌, ◌≤◌, ◌&&◌, ◌∷◌, ◌++◌, [], ap, arith, length, sym, take}
 use Rattle.std.proofs.Math.Bool.{and_comm}
-use Rattle.version_sets.specs.Form.{has, form_bytes}
-use Rattle.version_sets.specs.Pile.{all_have, through}
+use Rattle.version_sets.specs.{Form.has, Form.form_bytes, Pile.all_have, Pile.through}
 use Rattle.version_order.specs.keys.Sinks.{length-put}
 use Rattle.version_sets.proofs.lemmas.Reader.{below_kept, put_taken, same_bytes}
 use Rattle.version_sets.proofs.read.reader.Reader.add.Goals as goal

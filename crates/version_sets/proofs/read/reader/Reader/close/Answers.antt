@@ -1,8 +1,6 @@
 use Rattle.std.proofs.Common.{◌≡◌, ◌∙◌, ◌+◌, ◌||◌, ◌∷◌, ◌++◌, [], ap, length, refl, sym, take}
 use Rattle.std.proofs.Math.Bool.{and-true, or_comm}
-use Rattle.version_sets.specs.Form.{has, form_bytes}
-use Rattle.version_sets.specs.Pile.{IsPile, all_have, through}
-use Rattle.version_sets.specs.declared.merge.Rule.TheVariants.{Both}
+use Rattle.version_sets.specs.{Form.has, Form.form_bytes, Pile.IsPile, Pile.all_have, Pile.through, declared.merge.Rule.TheVariants.Both}
 use Rattle.version_sets.proofs.lemmas.Reader.{below_kept, of_one}
 use Rattle.version_sets.proofs.read.reader.Reader.close.Goals as goal
 

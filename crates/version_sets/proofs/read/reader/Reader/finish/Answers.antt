@@ -1,8 +1,6 @@
 use Rattle.std.proofs.Common.{◌≡◌, ◌∙◌, ◌+◌, [], ap, length, subst, sym, zero-add}
 use Rattle.std.proofs.Math.Bool.{or-false}
-use Rattle.version_sets.specs.Form.{has, form_bytes}
-use Rattle.version_sets.specs.Pile.{IsPile, all_have}
-use Rattle.version_sets.specs.declared.merge.Rule.TheVariants.{Either}
+use Rattle.version_sets.specs.{Form.has, Form.form_bytes, Pile.IsPile, Pile.all_have, declared.merge.Rule.TheVariants.Either}
 use Rattle.version_sets.proofs.lemmas.Reader.{of_one}
 use Rattle.version_sets.proofs.read.reader.Reader.finish.Goals as goal
 

@@ -1,16 +1,8 @@
 use Rattle.std.proofs.Common.{◌+◌, ◌||◌, ◌&&◌, ◌∷◌, [], ap, arith, length, refl, subst, sym, true}
-use Rattle.version_order.specs.keys.Sinks.{length-put}
-use Rattle.version_sets.specs.Comparison.{ends_with}
-use Rattle.version_sets.specs.Form.{has, form_bytes}
-use Rattle.version_sets.specs.Pieces.{plain_piece}
-use Rattle.version_sets.specs.Reader.{Continues}
-use Rattle.version_sets.specs.Reading.{after_step, answered, piece_room}
+use Rattle.version_order.specs.{Facts.key_room, keys.Sinks.length-put}
+use Rattle.version_sets.specs.{Comparison.ends_with, Form.has, Form.form_bytes, Pieces.plain_piece, Reader.Continues, Reading.after_step, Reading.answered, Reading.piece_room}
 use Rattle.version_sets.specs.declared.read.steps.State.TheVariants.{Come, Wanted}
-use Rattle.version_sets.proofs.lemmas.Comparison.{one_rises}
-use Rattle.version_sets.proofs.lemmas.Form.{form_length}
-use Rattle.version_sets.proofs.lemmas.Reader.{with_next, with_one}
-use Rattle.version_sets.proofs.lemmas.Steps.{tells}
-use Rattle.version_order.specs.Facts.{key_room}
+use Rattle.version_sets.proofs.lemmas.{Comparison.one_rises, Form.form_length, Reader.with_next, Reader.with_one, Steps.tells}
 use Rattle.version_sets.proofs.read.reader.Reader.take.Goals as goal
 
 -- ---- the end of an alternative

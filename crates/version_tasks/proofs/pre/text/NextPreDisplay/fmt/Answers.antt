@@ -1,8 +1,7 @@
 use Rattle.std.proofs.Common.{◌∙◌, List, ℕ, subst, sym}
 use Rattle.std.specs.Fmt.{HasWritten, decimal}
 use Rattle.version_rules.proofs.lemmas.Grammar.{is_read, same_bytes}
-use Rattle.version_tasks.proofs.lemmas.Next.Text.{printed}
-use Rattle.version_tasks.proofs.lemmas.NextPre.Text.{in_one, word_utf8}
+use Rattle.version_tasks.proofs.lemmas.{Next.Text.printed, NextPre.Text.in_one, NextPre.Text.word_utf8}
 use Rattle.version_tasks.proofs.pre.text.NextPreDisplay.fmt.Goals as goal
 
 pub unwrap-word-requires : goal.unwrap-word-requires

@@ -1,7 +1,6 @@
 use Rattle.version_rules.specs.requirement.Requirements.{requirements_of}
 use Rattle.version_texts.proofs.lemmas.requirement.RangeRef.{asked_is, exact_decides, inside_each, outside_decides}
-use Rattle.version_texts.specs.Range.{plain_range_ref}
-use Rattle.version_texts.specs.VersioningRef.{plain_versioning_ref}
+use Rattle.version_texts.specs.{Range.plain_range_ref, VersioningRef.plain_versioning_ref}
 use Rattle.version_texts.proofs.requirement.others.Others.matches.Goals as goal
 
 pub inexact_match-requires : goal.inexact_match-requires

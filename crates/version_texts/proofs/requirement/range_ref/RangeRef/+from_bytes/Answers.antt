@@ -1,5 +1,5 @@
-use Rattle.std.proofs.Common.{Some, ◌∙◌, ap, rules}
-use Rattle.version_texts.proofs.lemmas.requirement.RangeRef.{behind_fails, both_parse, front_fails}
+use Rattle.std.proofs.Common.{Some, ◌∙◌, ap}
+use Rattle.version_texts.proofs.lemmas.requirement.RangeRef.{both_parse}
 use Rattle.version_texts.specs.Range.{plain_range_ref}
 use Rattle.version_texts.proofs.requirement.range_ref.RangeRef.+from_bytes.Goals as goal
 

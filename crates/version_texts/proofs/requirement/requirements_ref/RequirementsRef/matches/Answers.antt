@@ -1,5 +1,4 @@
-use Rattle.version_texts.specs.Requirement.{plain_requirement_ref, from_second}
-use Rattle.version_texts.specs.VersioningRef.{plain_versioning_ref}
+use Rattle.version_texts.specs.{Requirement.plain_requirement_ref, Requirement.from_second, VersioningRef.plain_versioning_ref}
 use Rattle.version_rules.proofs.lemmas.Requirement.{first_asks, first_asks_not}
 use Rattle.version_texts.proofs.requirement.requirements_ref.RequirementsRef.matches.Goals as goal
 

@@ -1,3 +1,0 @@
-pub mod Quote
-pub mod Remark
-pub mod Schemes

@@ -1,5 +1,0 @@
-pub mod Json
-pub mod Key
-pub mod Next
-pub mod Show
-pub mod Why

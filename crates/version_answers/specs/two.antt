@@ -1,3 +1,0 @@
-pub mod Compare
-pub mod Difference
-pub mod Explain

@@ -1,3 +1,0 @@
-pub mod Cause
-pub mod Ends
-pub mod Fault
