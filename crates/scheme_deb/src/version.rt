@@ -369,6 +369,9 @@ impl<'t> SchemeVersion<'t> for Deb<'t> {
     fn put_key<S: Sink>(&self, sink: &mut S) {
         put_number(sink, self.epoch);
         put_part(sink, self.upstream);
+        if sink.is_decided() {
+            return;
+        }
         put_part(sink, self.revision);
     }
 

@@ -14,7 +14,7 @@ use std::alloc::{AllocError, Global};
 use std::cmp::Ordering;
 use std::collections::BTreeMap;
 use version_lines::{Line, Lines};
-use version_schemes::AnyVersion;
+use version_schemes::{AnyVersion, Scheme};
 
 /// A name, and the version beside it.
 #[derive(Clone, Copy)]
@@ -136,8 +136,9 @@ impl<'a> Takes<'a> for NamedList<'_, '_, 'a> {
     ghost HasTaken = { λ first now lines. (now.lists.now ≡ first.lists.now)
         × AreNames (flat_map (rows_of_line first.lists.now) lines) now.names };
 
-    fn version(&self, line: &'a [u8]) -> Option<AnyVersion<'a>> {
-        self.lists.place.version(line)
+    fn text(&self, line: &'a [u8]) -> Option<(Scheme, &'a [u8])> {
+        let place = &self.lists.place;
+        Some((place.spelling.scheme, place.text(line)))
     }
 
     fn take(&mut self, version: &AnyVersion<'a>, line: &'a [u8]) -> Result<(), AllocError> {

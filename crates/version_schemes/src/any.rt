@@ -46,6 +46,58 @@ macro_rules! by_version {
     };
 }
 
+/// Reads a whole text by a scheme, and goes on with the version that it is, or as where it is none. Each scheme goes on by
+/// itself, so that no version has to be moved into a place that has room for any.
+#[macro_export]
+macro_rules! with_version {
+    ($scheme:expr, $text:expr, $version:ident => $some:expr, $none:expr) => {
+        match $scheme {
+            $crate::Scheme::Mixed => match $crate::VersioningRef::from_bytes($text) {
+                Some(read) => {
+                    let $version = $crate::AnyVersion::Mixed(read);
+                    $some
+                }
+                None => $none,
+            },
+            $crate::Scheme::Deb => match $crate::Deb::read($text) {
+                Some(read) => {
+                    let $version = $crate::AnyVersion::Deb($text, read);
+                    $some
+                }
+                None => $none,
+            },
+            $crate::Scheme::Rpm => match $crate::Rpm::read($text) {
+                Some(read) => {
+                    let $version = $crate::AnyVersion::Rpm($text, read);
+                    $some
+                }
+                None => $none,
+            },
+            $crate::Scheme::Pypi => match $crate::Pypi::read($text) {
+                Some(read) => {
+                    let $version = $crate::AnyVersion::Pypi($text, read);
+                    $some
+                }
+                None => $none,
+            },
+            $crate::Scheme::SemVer => match $crate::SemVer::read($text) {
+                Some(read) => {
+                    let $version = $crate::AnyVersion::SemVer($text, read);
+                    $some
+                }
+                None => $none,
+            },
+            $crate::Scheme::Gem => match $crate::Gem::read($text) {
+                Some(read) => {
+                    let $version = $crate::AnyVersion::Gem($text, read);
+                    $some
+                }
+                None => $none,
+            },
+        }
+    };
+}
+
 impl<'t> AnyVersion<'t> {
     ghost use Rattle.version_schemes.specs.any.AnyVersion.{plain_any};
 
@@ -55,14 +107,7 @@ impl<'t> AnyVersion<'t> {
     pub fn read(scheme: Scheme, text: &'t [u8]) -> Option<AnyVersion<'t>>
         ensures { option_map plain_any result ≡ any_of scheme text.now }
     {
-        match scheme {
-            Scheme::Mixed => Some(AnyVersion::Mixed(VersioningRef::from_bytes(text)?)),
-            Scheme::Deb => Some(AnyVersion::Deb(text, Deb::read(text)?)),
-            Scheme::Rpm => Some(AnyVersion::Rpm(text, Rpm::read(text)?)),
-            Scheme::Pypi => Some(AnyVersion::Pypi(text, Pypi::read(text)?)),
-            Scheme::SemVer => Some(AnyVersion::SemVer(text, SemVer::read(text)?)),
-            Scheme::Gem => Some(AnyVersion::Gem(text, Gem::read(text)?)),
-        }
+        with_version!(scheme, text, version => Some(version), None)
     }
 
     /// Returns the bytes of its text.

@@ -50,18 +50,37 @@ impl<'a> Form<'a> {
     ghost use Rattle.version_sets.specs.Set.{ends_of};
 
     /// Returns whether the set has the key of a version: whether an odd number of its ends is not above the key. Reads as
-    /// many ends as the logarithm of their number.
+    /// many ends as the logarithm of their number, where they are more than a few.
     pub fn has<'t, V: SchemeVersion<'t>>(&self, version: &V) -> bool
         ensures { Rise (ends_of self.now) → result ≡ has (ends_of self.now) (V.plain version.now).key }
     {
         if self.count() > FEW {
-            let mut start = Start::new();
-            version.put_key(&mut start);
-            if let Some(key) = start.whole() {
-                return self.has_key(&Written(key));
-            }
+            return self.has_by_halves(version);
         }
-        self.has_key(&Unwritten(*version))
+        let mut is_in = false;
+        for place in 0..self.count() {
+            let Some(end) = self.end(place) else {
+                return is_in;
+            };
+            if version.compare_key(end).is_lt() {
+                return is_in;
+            }
+            is_in = !is_in;
+        }
+        is_in
+    }
+
+    // The same among many ends. Not inlined, so that the key that is written takes no room where there are few.
+    #[inline(never)]
+    fn has_by_halves<'t, V: SchemeVersion<'t>>(&self, version: &V) -> bool
+        ensures { Rise (ends_of self.now) → result ≡ has (ends_of self.now) (V.plain version.now).key }
+    {
+        let mut start = Start::new();
+        version.put_key(&mut start);
+        match start.whole() {
+            Some(key) => self.has_key(&Written(key)),
+            None => self.has_key(&Unwritten(*version)),
+        }
     }
 
     // Returns whether it has a key.

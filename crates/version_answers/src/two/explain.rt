@@ -12,7 +12,6 @@ use crate::two::compare::sign;
 use itoa::Buffer;
 use std::alloc::AllocError;
 use std::cmp::Ordering;
-use version_lines::{Column, Separators};
 use version_order::{Class, is_digits, split_run};
 use version_rules::Kind;
 use version_texts::{Difference, Field, VersioningRef};
@@ -229,11 +228,7 @@ fn part_at<'a>(version: &VersioningRef<'a>, place: usize) -> Option<&'a [u8]>
     ensures { option_map (λ text. text.now) result ≡ part_at (plain_versioning_ref version.now) place }
 {
     let (parts, _) = split_run(behind_epoch(version), Class::NotSign);
-    let column = Column {
-        number: place,
-        separators: Separators::Bytes(b"."),
-    };
-    column.of(parts)
+    parts.split(|byte| *byte == b'.').nth(place)
 }
 
 // Returns the text of a version behind its epoch and the colon.

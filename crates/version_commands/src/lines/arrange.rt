@@ -21,7 +21,7 @@ use crate::options::{Arrangement, LineOptions, VersionPlace};
 use std::alloc::{AllocError, Global};
 use std::io::Write;
 use version_lines::{Column, KeyedLines, Lines, NewestLine, SortBy, Source, WholeLines};
-use version_schemes::AnyVersion;
+use version_schemes::{AnyVersion, Scheme};
 
 /// Reads the inputs, and writes those of their lines that the arrangement asks for.
 pub fn serve_lines<'w, F: Files, R: Source, W: Write>(
@@ -332,8 +332,8 @@ impl<'a> Takes<'a> for KeptLines<'_, 'a> {
     ghost HasTaken = { λ _ kept lines. map (λ line. line.now) kept.lines.items ≡ lines };
 
     #[inline(always)]
-    fn version(&self, line: &'a [u8]) -> Option<AnyVersion<'a>> {
-        self.place.version(line)
+    fn text(&self, line: &'a [u8]) -> Option<(Scheme, &'a [u8])> {
+        Some((self.place.spelling.scheme, self.place.text(line)))
     }
 
     fn take(&mut self, _version: &AnyVersion<'a>, line: &'a [u8]) -> Result<(), AllocError> {

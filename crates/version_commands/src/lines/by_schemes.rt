@@ -34,9 +34,9 @@ impl<'a> Takes<'a> for LinesOfSchemes<'_, 'a> {
 
     ghost HasTaken = { λ _ kept lines. map (λ line. line.now) kept.lines.items ≡ lines };
 
-    fn version(&self, line: &'a [u8]) -> Option<AnyVersion<'a>> {
+    fn text(&self, line: &'a [u8]) -> Option<(Scheme, &'a [u8])> {
         let scheme = scheme_in(&self.place, self.column, line)?;
-        AnyVersion::read(scheme, self.place.text(line))
+        Some((scheme, self.place.text(line)))
     }
 
     fn take(&mut self, _version: &AnyVersion<'a>, line: &'a [u8]) -> Result<(), AllocError> {
@@ -176,7 +176,7 @@ fn version_as<'a>(by: &ByVersion<'_>, column: Column<'_>, line: &'a [u8]) -> Opt
 {
     let named = scheme_in(&by.place, column, line)?;
     if named.number() == by.place.spelling.scheme.number() {
-        by.place.version(line)
+        AnyVersion::read(by.place.spelling.scheme, by.place.text(line))
     } else {
         None
     }

@@ -1,14 +1,14 @@
 //! Which lines of an input are kept, and which have no version.
-ghost use Rattle.std.specs.Prelude.{◌≡◌, ◌++◌, ◌∷◌, ℕ, Bool, List, [], map, true, Some, IfOk, IsTrue, OnOk};
-ghost use Rattle.std.specs.Option.{option_map};
-ghost use Rattle.version_commands.specs.lines.Picked.{bad_lines, kept_of, Versions};
+ghost use Rattle.std.specs.Prelude.{◌≡◌, ◌++◌, ◌∷◌, ℕ, Bool, List, [], is_some, map, option_and_then, true, Some, IfOk, IsTrue, OnOk};
+ghost use Rattle.version_commands.specs.lines.Picked.{bad_lines, kept_lines, kept_of, Versions};
 ghost use Rattle.version_lines.specs.Inputs.{lines_left, plain_line};
-ghost use Rattle.version_schemes.specs.any.{AnyVersion.plain_any, Order.PlainAny};
+ghost use Rattle.version_schemes.specs.any.{AnyVersion.plain_any, Order.PlainAny, Order.any_of};
 
 use std::alloc::{AllocError, Global};
 use version_answers::begins_with_v;
 use version_lines::{KeyedLines, Line, Lines, NewestLine, SortBy};
-use version_schemes::AnyVersion;
+use version_order::SchemeVersion;
+use version_schemes::{AnyVersion, Scheme, with_version};
 
 /// Which versions are kept.
 pub trait Chooses {
@@ -48,8 +48,7 @@ impl Chooses for EveryVersion {
 pub struct Picked<'a, 'w> {
     /// Those that have no version, in their order.
     pub bad: Vec<Line<'a, 'w>>,
-    /// Whether a version begins with a `v` and a digit, or a line without one holds a `v`: else versions in tags are those
-    /// of whole texts.
+    /// Whether a text that is to be a version begins with a `v` and a digit: else versions in tags are those of whole texts.
     pub may_have_tags: bool,
 }
 
@@ -64,9 +63,10 @@ pub trait Takes<'a> {
     // Since the first state these lines were taken, in their order.
     ghost HasTaken: { Self → Self → List (List ℕ) → Type 0 };
 
-    /// Returns the version of a line.
-    fn version(&self, line: &'a [u8]) -> Option<AnyVersion<'a>>
-        ensures { option_map plain_any result ≡ versions self.now line.now };
+    /// Returns the text in a line that is to be its version, and the scheme of which it is to be one, or None where the
+    /// line names no scheme.
+    fn text(&self, line: &'a [u8]) -> Option<(Scheme, &'a [u8])>
+        ensures { versions self.now line.now ≡ option_and_then (λ found. any_of found.0 found.1.now) result };
 
     /// Takes a line, whose version this is.
     fn take(&mut self, version: &AnyVersion<'a>, line: &'a [u8]) -> Result<(), AllocError>
@@ -99,35 +99,60 @@ pub fn pick<'a, 'w, T: Takes<'a>, C: Chooses>(
     };
     let mut left = lines;
     while let Some(line) = left.next() {
-        let version = taker.version(line.text);
-        match &version {
-            None => picked.add_bad(line)?,
-            Some(version) => {
-                picked.may_have_tags |= begins_with_v(version.bytes());
-                if chooser.keeps(version) {
-                    taker.take(version, line.text)?;
-                }
+        if let Some((scheme, text)) = taker.text(line.text) {
+            picked.may_have_tags |= begins_with_v(text);
+            if pick_text(taker, chooser, scheme, text, line.text)? {
+                continue;
             }
         }
+        picked.bad.push(line)?;
     }
     Ok(picked)
 }
 
-impl<'a, 'w> Picked<'a, 'w> {
-    // Adds a line that has no version.
-    fn add_bad(&mut self, line: Line<'a, 'w>) -> Result<(), AllocError>
-        ensures { OnOk result (map plain_line self.new.bad.items
-            ≡ map plain_line self.old.bad.items ++ plain_line line.entry ∷ []) }
-    {
-        self.may_have_tags |= holds_v(line.text);
-        self.bad.push(line)?;
-        Ok(())
-    }
+// Gives the taker a line in which this text is to be the version, if it has one that is kept. Returns whether it has one.
+#[inline(always)]
+#[tactic(auto, using(version_schemes::proofs::lemmas::Any::mixed_is))]
+fn pick_text<'a, T: Takes<'a>, C: Chooses>(
+    taker: &mut T,
+    chooser: &C,
+    scheme: Scheme,
+    text: &'a [u8],
+    line: &'a [u8],
+) -> Result<bool, AllocError>
+    requires ready { T.IsReady taker.old }
+    requires version { T.versions taker.old line.now ≡ any_of scheme text.now }
+    ensures ready { T.IsReady taker.new }
+    ensures versions { T.versions taker.new ≡ T.versions taker.old }
+    ensures found { IfOk result (λ found. found ≡ is_some (T.versions taker.old line.now)) }
+    ensures taken { OnOk result ((first : T) → (lines : List (List ℕ)) → T.HasTaken first taker.old lines
+        → T.HasTaken first taker.new
+        (lines ++ kept_lines (T.versions taker.old) (C.keeps chooser.now) (line.now ∷ []))) }
+{
+    with_version!(scheme, text, version => take_kept(taker, chooser, &version, line), Ok(false))
 }
 
-// Whether a `v` stands anywhere in a line.
-fn holds_v(line: &[u8]) -> bool {
-    line.iter().any(|byte| matches!(byte, b'v' | b'V'))
+// Gives the taker a line that has this version, if it is kept. Returns that it has one.
+#[inline(always)]
+fn take_kept<'a, T: Takes<'a>, C: Chooses>(
+    taker: &mut T,
+    chooser: &C,
+    version: &AnyVersion<'a>,
+    line: &'a [u8],
+) -> Result<bool, AllocError>
+    requires ready { T.IsReady taker.old }
+    requires version { T.versions taker.old line.now ≡ Some (plain_any version.now) }
+    ensures ready { T.IsReady taker.new }
+    ensures versions { T.versions taker.new ≡ T.versions taker.old }
+    ensures found { IfOk result (λ found. found ≡ true) }
+    ensures taken { OnOk result ((first : T) → (lines : List (List ℕ)) → T.HasTaken first taker.old lines
+        → T.HasTaken first taker.new
+        (lines ++ kept_lines (T.versions taker.old) (C.keeps chooser.now) (line.now ∷ []))) }
+{
+    if chooser.keeps(version) {
+        taker.take(version, line)?;
+    }
+    Ok(true)
 }
 
 impl<'a, B: SortBy> Takes<'a> for KeyedLines<'a, B> {
@@ -141,8 +166,8 @@ impl<'a, B: SortBy> Takes<'a> for KeyedLines<'a, B> {
     ghost HasTaken = { λ first now lines. (lines_in now ≡ lines) × (now.by ≡ first.by) };
 
     #[inline(always)]
-    fn version(&self, line: &'a [u8]) -> Option<AnyVersion<'a>> {
-        KeyedLines::version(self, line)
+    fn text(&self, line: &'a [u8]) -> Option<(Scheme, &'a [u8])> {
+        Some(KeyedLines::text(self, line))
     }
 
     #[inline(always)]
@@ -163,8 +188,8 @@ impl<'a, B: SortBy> Takes<'a> for NewestLine<'a, B> {
         × (now.by ≡ first.by) };
 
     #[inline(always)]
-    fn version(&self, line: &'a [u8]) -> Option<AnyVersion<'a>> {
-        NewestLine::version(self, line)
+    fn text(&self, line: &'a [u8]) -> Option<(Scheme, &'a [u8])> {
+        Some(NewestLine::text(self, line))
     }
 
     #[inline(always)]

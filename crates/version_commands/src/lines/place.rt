@@ -2,13 +2,12 @@
 ghost use Rattle.std.specs.Prelude.{◌≡◌, IsTrue};
 ghost use Rattle.std.specs.Option.{option_map};
 ghost use Rattle.version_commands.specs.lines.Picked.{column_in, column_text, line_text, place_text, reads_of, text_of};
-ghost use Rattle.version_lines.specs.Sort.{version_in};
-ghost use Rattle.version_schemes.specs.{any.AnyVersion.plain_any, declared.scheme.Scheme.TheVariants.Mixed};
+ghost use Rattle.version_schemes.specs.declared.scheme.Scheme.TheVariants.{Mixed};
 
 use crate::options::VersionPlace;
 use version_answers::{Naming, Spelling};
 use version_lines::{Column, GroupBy, SortBy};
-use version_schemes::{AnyVersion, Scheme};
+use version_schemes::Scheme;
 
 impl VersionPlace<'_> {
     /// Whether each line is its version, of the scheme mixed.
@@ -35,14 +34,6 @@ impl VersionPlace<'_> {
         ensures { result.now ≡ text_of self.now line.now }
     {
         self.spelling.naming.text(self.place_text(line))
-    }
-
-    /// Returns the version of a line: the one that this text is.
-    #[inline(always)]
-    pub fn version<'a>(&self, line: &'a [u8]) -> Option<AnyVersion<'a>>
-        ensures { option_map plain_any result ≡ version_in (reads_of self.now) line.now }
-    {
-        self.spelling.version(self.place_text(line))
     }
 
     // Returns the text that names the version of a line.
@@ -74,8 +65,8 @@ impl SortBy for ByVersion<'_> {
     }
 
     #[inline(always)]
-    fn version<'a>(&self, line: &'a [u8]) -> Option<AnyVersion<'a>> {
-        self.place.version(line)
+    fn scheme(&self) -> Scheme {
+        self.place.spelling.scheme
     }
 
     fn is_reversed(&self) -> bool {

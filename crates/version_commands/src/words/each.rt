@@ -275,8 +275,9 @@ impl<'a> Takes<'a> for Answers<'_, 'a> {
     ghost HasTaken = { λ first now lines.
         HaveAnswered first now (map (line_text first.crlf) lines) };
 
-    fn version(&self, line: &'a [u8]) -> Option<AnyVersion<'a>> {
-        self.question.place(self.naming, self.crlf).version(line)
+    fn text(&self, line: &'a [u8]) -> Option<(Scheme, &'a [u8])> {
+        let place = self.question.place(self.naming, self.crlf);
+        Some((place.spelling.scheme, place.text(line)))
     }
 
     fn take(&mut self, version: &AnyVersion<'a>, line: &'a [u8]) -> Result<(), AllocError> {

@@ -1,11 +1,9 @@
 //! What lines are sorted by.
 ghost use Rattle.std.specs.Prelude.{◌≡◌, ℕ, Bool, List};
-ghost use Rattle.std.specs.Option.{option_map};
-ghost use Rattle.version_lines.specs.Sort.{version_in, Reads, turn};
-ghost use Rattle.version_schemes.specs.any.AnyVersion.{plain_any};
+ghost use Rattle.version_lines.specs.Sort.{Reads, turn};
 
 use std::cmp::Ordering;
-use version_schemes::{AnyVersion, Scheme};
+use version_schemes::Scheme;
 
 /// What lines are sorted by: which text in a line is its version, and whether the order is reversed.
 pub trait SortBy: Drop {
@@ -19,9 +17,9 @@ pub trait SortBy: Drop {
     fn text<'a>(&self, line: &'a [u8]) -> &'a [u8]
         ensures { result.now ≡ (reads self.now).text_of line.now };
 
-    /// Returns the version of a line, or None if it has none.
-    fn version<'a>(&self, line: &'a [u8]) -> Option<AnyVersion<'a>>
-        ensures { option_map plain_any result ≡ version_in (reads self.now) line.now };
+    /// Returns the scheme of which it is to be a version.
+    fn scheme(&self) -> Scheme
+        ensures { result ≡ (reads self.now).scheme };
 
     /// Returns whether the highest version comes first.
     fn is_reversed(&self) -> bool
@@ -46,8 +44,8 @@ impl SortBy for WholeLines {
     }
 
     #[inline(always)]
-    fn version<'a>(&self, line: &'a [u8]) -> Option<AnyVersion<'a>> {
-        AnyVersion::read(Scheme::Mixed, line)
+    fn scheme(&self) -> Scheme {
+        Scheme::Mixed
     }
 
     #[inline(always)]

@@ -1,6 +1,6 @@
 //! Lines with the sort keys of their versions.
 ghost use Rattle.std.specs.Prelude.{[], ◌≡◌, ◌<◌, ◌++◌, ◌∷◌, get_or, length, IfOk, OnErr, OnOk, Some};
-ghost use Rattle.std.specs.{Option.option_map, Ordering.eq_by_cmp};
+ghost use Rattle.std.specs.Ordering.{eq_by_cmp};
 ghost use Rattle.version_lines.specs.Entry.{entry_cmp, version_cmp, lines_in, AreInTurn, AreRead};
 ghost use Rattle.version_lines.specs.{Newest.first_of_each, Newest.first_of_ties, Newest.newest, Sort.lines_cmp, Sort.version_in, Sort.in_order, Sort.turned};
 ghost use Rattle.version_schemes.specs.any.AnyVersion.{plain_any};
@@ -9,7 +9,7 @@ use crate::sort::by::SortBy;
 use crate::sort::entry::Entry;
 use crate::sort::newest::{GroupBy, keep_newest};
 use std::alloc::{AllocError, Global};
-use version_schemes::AnyVersion;
+use version_schemes::{AnyVersion, Scheme};
 
 /// Lines that are versions or have one in them, with the sort keys of these, to be put in order.
 #[derive(Drop)]
@@ -31,12 +31,13 @@ impl<'a, B: SortBy> KeyedLines<'a, B> {
         Ok(KeyedLines { by, keys, entries })
     }
 
-    /// Returns the version of a line, or None if it has none.
+    /// Returns the text in a line that is to be its version, and the scheme of which it is to be one.
     #[inline(always)]
-    pub fn version<'l>(&self, line: &'l [u8]) -> Option<AnyVersion<'l>>
-        ensures { option_map plain_any result ≡ version_in (B.reads self.now.by) line.now }
+    pub fn text<'l>(&self, line: &'l [u8]) -> (Scheme, &'l [u8])
+        ensures scheme { result.0 ≡ (B.reads self.now.by).scheme }
+        ensures text { result.1.now ≡ (B.reads self.now.by).text_of line.now }
     {
-        self.by.version(line)
+        (self.by.scheme(), self.by.text(line))
     }
 
     /// Adds a line after the others, whose version was parsed from the text in it. If memory is refused, the lines stay

@@ -1,11 +1,10 @@
 //! The newest line of an input, in one pass and without keys.
 ghost use Rattle.std.specs.Prelude.{◌≡◌, ◌∷◌, ◌++◌, [], ℕ, List, Some};
-ghost use Rattle.std.specs.Option.{option_map};
 ghost use Rattle.version_lines.specs.{Newest.newest_alone, Newest.rows_in, Newest.IsNewestOf, Sort.version_in};
 ghost use Rattle.version_schemes.specs.any.AnyVersion.{plain_any};
 
 use crate::sort::by::SortBy;
-use version_schemes::AnyVersion;
+use version_schemes::{AnyVersion, Scheme};
 
 /// The newest of the lines so far: the first that no other comes after in precedence.
 #[derive(Drop)]
@@ -23,12 +22,13 @@ impl<'a, B: SortBy> NewestLine<'a, B> {
         NewestLine { by, newest: None }
     }
 
-    /// Returns the version of a line, or None if it has none.
+    /// Returns the text in a line that is to be its version, and the scheme of which it is to be one.
     #[inline(always)]
-    pub fn version<'l>(&self, line: &'l [u8]) -> Option<AnyVersion<'l>>
-        ensures { option_map plain_any result ≡ version_in (B.reads self.now.by) line.now }
+    pub fn text<'l>(&self, line: &'l [u8]) -> (Scheme, &'l [u8])
+        ensures scheme { result.0 ≡ (B.reads self.now.by).scheme }
+        ensures text { result.1.now ≡ (B.reads self.now.by).text_of line.now }
     {
-        self.by.version(line)
+        (self.by.scheme(), self.by.text(line))
     }
 
     /// Takes a line after the others, whose version was parsed from the text in it. Does not allocate.
