@@ -129,19 +129,20 @@ fn pick_text<'a, T: Takes<'a>, C: Chooses>(
         → T.HasTaken first taker.new
         (lines ++ kept_lines (T.versions taker.old) (C.keeps chooser.now) (line.now ∷ []))) }
 {
-    with_version!(scheme, text, version => take_kept(taker, chooser, &version, line), Ok(false))
+    with_version!(scheme, text, version => take_kept(taker, chooser, version, line), Ok(false))
 }
 
-// Gives the taker a line that has this version, if it is kept. Returns that it has one.
+// Gives the taker a line that has this version, if it is kept. Returns that it has one. By value, so that each scheme's
+// version is made where it stays.
 #[inline(always)]
 fn take_kept<'a, T: Takes<'a>, C: Chooses>(
     taker: &mut T,
     chooser: &C,
-    version: &AnyVersion<'a>,
+    version: AnyVersion<'a>,
     line: &'a [u8],
 ) -> Result<bool, AllocError>
     requires ready { T.IsReady taker.old }
-    requires version { T.versions taker.old line.now ≡ Some (plain_any version.now) }
+    requires version { T.versions taker.old line.now ≡ Some (plain_any version) }
     ensures ready { T.IsReady taker.new }
     ensures versions { T.versions taker.new ≡ T.versions taker.old }
     ensures found { IfOk result (λ found. found ≡ true) }
@@ -149,8 +150,8 @@ fn take_kept<'a, T: Takes<'a>, C: Chooses>(
         → T.HasTaken first taker.new
         (lines ++ kept_lines (T.versions taker.old) (C.keeps chooser.now) (line.now ∷ []))) }
 {
-    if chooser.keeps(version) {
-        taker.take(version, line)?;
+    if chooser.keeps(&version) {
+        taker.take(&version, line)?;
     }
     Ok(true)
 }
