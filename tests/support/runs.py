@@ -129,6 +129,8 @@ EMPTY_PART, BLANK, TOO_EARLY = "an empty part", "a blank", "an end too early"
 CONTROL, NOT_ASCII, OTHER = "a control character", "a character past ASCII", "a character that can't stand there"
 # Why the system refuses a file, by its number.
 REFUSED = {number: f"{os.strerror(number)} (os error {number})" for number in (2, 20, 21, 28)}
+# `newest` puts no lines before or after the others.
+OF_INVALID = "[possible values: fail, skip]"
 PLACES = "[possible values: major, minor, patch, release, pre, a number from 0]"
 WITH_SCHEME = "error: the argument '--explain' cannot be used with '--scheme <NAME>'"
 NO_COLUMN = "it is a number from 1 to 18446744073709551615, or a name"
@@ -296,6 +298,11 @@ MISSPELT = (
         fault=f"error: invalid value 'dbe' for '--scheme <NAME>'\n  {NAMES_OF_SCHEMES}{tip('value', 'deb')}{MORE}",
     ),
     Run(
+        "newest --invalid skp",
+        status=2,
+        fault=f"error: invalid value 'skp' for '--invalid <WHAT>'\n  {OF_INVALID}{tip('value', 'skip')}{MORE}",
+    ),
+    Run(
         "next mino 1.2",
         status=2,
         fault=f"error: invalid value 'mino' for '<PLACE>'\n  {PLACES}{tip('value', 'minor')}{MORE}",
@@ -325,6 +332,33 @@ CALLS = {
     "version_words::run": ("versions", "sort"),
     # `run` makes these two calls. The last quotes a line that is no version.
     "version_words::read_words": ("versions", "key 1..2"),
+    **{
+        f"version_grammar::{call}": ("versions", words)
+        for call, words in (
+            ("program", "key 1..2"),
+            ("names_of", "sotr"),
+            ("names_of_schemes", "sort --scheme dbe"),
+            ("similar", "sotr"),
+            ("with_tip", "sotr"),
+            ("without_tip", "sort --revers"),
+            ("words_of", "key 1..2"),
+            ("separators_of", "sort -t, -k2 table -"),
+            ("refuse_columns", "sort -k 0"),
+            ("level_of", "sort --min-stability tc"),
+            ("scheme_of", "sort --scheme dbe"),
+            ("scheme_column_of", "sort --scheme-column 1 --scheme deb"),
+            ("invalid_of", "sort --invalid-to others --invalid last"),
+            ("wrong", "compare --explain --scheme deb 1 2"),
+            ("wrong_column", "sort -k 0"),
+            ("wrong_csv_separator", "sort --csv -t ', '"),
+            ("wrong_invalid", "newest --invalid skp"),
+            ("wrong_operator", "test 1 gte 1"),
+            ("wrong_place", "next mino 1.2"),
+            ("wrong_scheme", "sort --scheme dbe"),
+            ("wrong_separators", "sort -t é"),
+            ("wrong_stability", "sort --min-stability tc"),
+        )
+    },
     "version_commands::Files::read": ("versions", "sort -t, -k2 table -"),
     "version_commands::serve": ("versions", "compare --explain 1.10 1.9"),
     "version_answers::quoted": ("versions", "sort"),

@@ -5,10 +5,10 @@ ghost use Rattle.vers_words.specs.Words.{are_command, ArePlain, Means};
 use std::alloc::{AllocError, Global};
 use version_answers::{Naming, Spelling};
 use version_commands::{
-    Arrangement, Choice, ColumnNames, EachOptions, Invalid, Labels, LineOptions, Question, Task,
+    Arrangement, Choice, ColumnNames, EachOptions, Labels, LineOptions, Question, Task,
     VersionPlace,
 };
-use version_lines::{Column, LineEnd, Separators};
+use version_lines::{Column, Invalid, LineEnd, Separators};
 use version_schemes::Scheme;
 use version_tasks::Stability;
 

@@ -6,7 +6,8 @@ use Rattle.std.specs.Io.KnownBytes.{Consumes, IsAtEnd}
 use Rattle.version_commands.specs.Each.{has_version, place_of, spelling_of, AreTexts, IsFirstWithoutNext}
 use Rattle.version_commands.specs.Fault.{first_wrong, ComesOfLines, ComesOfMatching, ComesOfPut, ComesOfReading, ComesOfSets, ComesOfStandard, ComesOfTestOfSet, ComesOfTestOfSets, ComesOfTestOfTwo, ComesOfWords}
 use Rattle.version_commands.specs.{Files.inputs_of, Files.names_read, Files.AreInputs, Files.Reading, Lists.bad_lines_of, Lists.lines_of_list, Lists.names_of, declared.faults.TaskFault.TaskFault, declared.options.EachOptions.EachOptions}
-use Rattle.version_commands.specs.declared.options.{Invalid.TheVariants.Fail, LineOptions.LineOptions, Lists.Lists, Question.Question, Question.TheVariants.Why, Task.Task}
+use Rattle.version_commands.specs.declared.options.{LineOptions.LineOptions, Lists.Lists, Question.Question, Question.TheVariants.Why, Task.Task}
+use Rattle.version_lines.specs.declared.lines.Invalid.TheVariants.{Fail}
 use Rattle.version_commands.specs.lines.{Arranged.policy, Choice.wrong_set, Choice.Finding, Choice.HoldsByWords, Ordered.body_of, Ordered.name_missing, Ordered.options_in, Ordered.versions_in, Picked.reads_of, Picked.Versions}
 use Rattle.version_answers.specs.{Message.quoted, Message.IsRemark, Sets.IsWrongSet, Spelling.mixed_spelling, Spelling.spelled, Spelling.spelled_mixed, declared.set.WrongSet.WrongSet, declared.spelling.Naming.Naming}
 use Rattle.version_lines.specs.{Inputs.lines_of_input, Inputs.lines_of_inputs, Inputs.PlainLine, Lines.plain_end, Sort.version_in}

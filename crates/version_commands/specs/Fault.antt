@@ -2,7 +2,8 @@
 use Rattle.std.specs.Prelude.{◌≡◌, ◌==◌, ◌&&◌, ℕ, Bool, List, [], ◌∷◌, Option, None, Some, length, not, string_bytes, ◌⊎◌, ⊤, false, true, ◌-◌, IsSome, IsSomeAnd, codes, if◌then◌else◌, ◌++◌}
 use Rattle.std.specs.{Fmt.decimal, List.slice_get, Option.option_map, Option.option_map_or, Option.option_or}
 use Rattle.version_commands.specs.declared.faults.TaskFault.TheVariants.{NotVersion, NotRequirement, NotSet, NotTested, NotTestedSet, BadLine, NoNext, NoColumn, Unclosed, Memory, Read, Write}
-use Rattle.version_commands.specs.{Files.ComesFirstAt, Files.EndsOpen, Files.MayFail, Files.Reading, declared.faults.TaskFault.TaskFault, declared.faults.bad.Blamed.Blamed, declared.options.Invalid.Invalid}
+use Rattle.version_commands.specs.{Files.ComesFirstAt, Files.EndsOpen, Files.MayFail, Files.Reading, declared.faults.TaskFault.TaskFault, declared.faults.bad.Blamed.Blamed}
+use Rattle.version_lines.specs.declared.lines.Invalid.{Invalid}
 use Rattle.version_commands.specs.{declared.options.LineOptions.LineOptions, declared.options.VersionPlace.VersionPlace, lines.Arranged.scheme_in}
 use Rattle.version_commands.specs.lines.Picked.{column_in, line_text, bad_lines, Versions}
 use Rattle.version_answers.specs.Message.{shown_front, quoted, no_version_text, others_text, IsRemark}
@@ -12,7 +13,7 @@ use Rattle.version_schemes.specs.declared.scheme.Scheme.{Scheme}
 use Rattle.version_rules.specs.requirement.Requirements.{requirements_of}
 use Rattle.version_answers.specs.declared.message.remark.Remark.TheVariants as added
 use Rattle.std.proofs.Common.{Bor}
-use Rattle.version_commands.specs.declared.options.Invalid.TheVariants as invalid
+use Rattle.version_lines.specs.declared.lines.Invalid.TheVariants as invalid
 use Rattle.version_lines.specs.declared.input.Trouble.TheVariants as trouble
 
 -- whether a line ends in a carriage return

@@ -16,7 +16,7 @@ pub use faults::TaskFault;
 pub use faults::bad::Blamed;
 pub use files::{Files, Hint, NoFiles, Stage};
 pub use options::{
-    Arrangement, Choice, ColumnNames, EachOptions, Invalid, Labels, LineOptions, Lists, Question,
-    Task, VersionPlace,
+    Arrangement, Choice, ColumnNames, EachOptions, Labels, LineOptions, Lists, Question, Task,
+    VersionPlace,
 };
 pub use program::serve;

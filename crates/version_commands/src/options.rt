@@ -1,7 +1,7 @@
 //! What a command is asked to do: the words of a run, read.
 
 use version_answers::{Naming, Operator, Spelling, Step};
-use version_lines::{Column, LineEnd};
+use version_lines::{Column, Invalid, LineEnd};
 use version_schemes::Scheme;
 use version_tasks::Stability;
 
@@ -23,19 +23,6 @@ pub struct Choice<'w> {
     pub least: Stability,
     /// Those whose version is not in this set.
     pub wanted: Option<&'w str>,
-}
-
-/// What becomes of the lines that have no version.
-#[derive(Clone, Copy, Debug)]
-pub enum Invalid {
-    /// The first of them is a fault.
-    Fail,
-    /// They are left out.
-    Skip,
-    /// They stand before all others, in the order of the input.
-    First,
-    /// They stand after all others, in the order of the input.
-    Last,
 }
 
 /// What is written of the lines that have a version and are not left out.

@@ -17,7 +17,7 @@ use crate::lines::label::write_labels;
 use crate::lines::matched::write_matched;
 use crate::lines::write::write_answer;
 use crate::lists::{add_lists, read_names, repeated};
-use crate::options::{Invalid, Lists, Task};
+use crate::options::{Lists, Task};
 use crate::words::each::answer_each;
 use crate::words::test::{answer_line, implies, meets, test_set, test_two};
 use crate::words::word::{mixed_of_word, version_of_word};
@@ -25,7 +25,7 @@ use std::alloc::Global;
 use std::cmp::Ordering;
 use std::io::Write;
 use version_answers::{Naming, Spelling, add_difference, add_explained};
-use version_lines::{Line, Source};
+use version_lines::{Invalid, Line, Source};
 use version_schemes::Scheme;
 
 /// Does a task, and returns whether it answers yes: one that answers by its output alone does. What it writes is

@@ -14,7 +14,7 @@ mod sort;
 pub use column::{Column, Separators};
 pub use input::{Source, Trouble, read_all};
 pub use inputs::{InputText, Line, Lines};
-pub use lines::{Answer, LineCommand, LineEnd, answer_lines, ends_quoted};
+pub use lines::{Answer, Invalid, LineCommand, LineEnd, answer_lines, ends_quoted};
 pub use output::{NotWritten, make_buffer, put, put_line, write_whole};
 pub use sort::by::{SortBy, WholeLines};
 pub use sort::keyed_lines::KeyedLines;

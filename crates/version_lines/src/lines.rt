@@ -26,6 +26,19 @@ impl LineEnd {
     }
 }
 
+/// What becomes of the lines that have no version.
+#[derive(Clone, Copy, Debug)]
+pub enum Invalid {
+    /// The first of them is a fault.
+    Fail,
+    /// They are left out.
+    Skip,
+    /// They stand before all others, in the order of the input.
+    First,
+    /// They stand after all others, in the order of the input.
+    Last,
+}
+
 /// What is written for a line.
 #[derive(Clone, Copy)]
 pub enum Answer {

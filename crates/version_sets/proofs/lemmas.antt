@@ -6,5 +6,6 @@ pub mod Members
 pub mod Pieces
 pub mod Pile
 pub mod Reader
+pub mod Slips
 pub mod Steps
 pub mod Whole

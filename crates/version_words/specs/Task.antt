@@ -1,15 +1,18 @@
 -- Which task a command and its rows mean, and what is wrong where they mean none.
-use Rattle.std.specs.Prelude.{◌≡◌, ◌⊎◌, ⊤, ℕ, true, false, List, [], ◌∷◌, Option, None, Some, codes, is_some, map, option_map, unwrap_or, if◌then◌else◌}
+use Rattle.std.specs.Prelude.{◌≡◌, ◌⊎◌, ⊤, ℕ, true, false, List, [], ◌∷◌, Option, None, Some, codes, map, option_map, unwrap_or, if◌then◌else◌}
 use Rattle.std.specs.Str.{bytes_eq}
 use Rattle.clap.specs.Words.{all_of, first_of, Row}
 use Rattle.version_commands.specs.declared.options.{Arrangement.Arrangement, Choice.Choice, ColumnNames.ColumnNames, EachOptions.EachOptions, LineOptions.LineOptions, Lists.Lists, Question.Question, Task.Task, VersionPlace.VersionPlace}
 use Rattle.version_answers.specs.declared.{one.next.Step.Step, spelling.Naming.Naming, spelling.Naming.TheVariants.Bare, spelling.Naming.TheVariants.Prefix, spelling.Naming.TheVariants.Tag, spelling.Spelling.Spelling}
 use Rattle.version_lines.specs.declared.column.{Column.Column, Separators.Separators}
 use Rattle.version_schemes.specs.declared.scheme.Scheme.{Scheme}
-use Rattle.version_words.specs.Rows.{column_at, column_of, end_of, has_no_column, has_option_of_lists, has_two_schemes, has_wrong_column, header_of, invalid_of, invalid_word, is_crlf, is_given, is_set, key_of, lacks_header, lacks_set, level_of, line_end, name_of_column, number_of, scheme_of, word_of, words_of, AreSeparators, HasNoSeparators}
-use Rattle.version_words.specs.declared.named.Verb.TheVariants.{Compare, Diff, Filter, Implies, Key, Meets, Newest, Next, Show, Sort, Test, Why}
-use Rattle.version_words.specs.declared.table.TheConstants.{A, B, COUNT, CRLF, EXPLAIN, GROUP, INVALID, INVALID_TO, INVERT_MATCH, JSON, KEY_COLUMN, LISTS, MATCH, MIN_STABILITY, OTHER, PLACE, PREFIX, PRE_WORD, PROGRESS, REVERSE, SCHEME, SCHEME_COLUMN, SET, TAGS, UNIQUE, WORDS_OF_TEST}
-use Rattle.version_words.specs.{Named.operator_named, Named.place_named, Wrong.Quotes, declared.faults.WordsFault.WordsFault, declared.named.Verb.Verb}
+use Rattle.version_grammar.specs.Rows.{column_at, column_of, end_of, has_option_of_lists, has_two_schemes, has_wrong_column, header_of, invalid_of, is_crlf, is_given, is_set, key_of, lacks_set, level_of, line_end, name_of_column, number_of, scheme_of, word_of, words_of, AreSeparators, HasNoSeparators, HasWrongColumn, HasWrongInvalid, HasWrongLevel, HasWrongScheme}
+use Rattle.version_grammar.specs.declared.named.Verb.TheVariants.{Compare, Diff, Filter, Implies, Key, Meets, Newest, Next, Show, Sort, Test, Why}
+use Rattle.version_grammar.specs.declared.table.TheConstants.{A, B, COUNT, CRLF, EXPLAIN, GROUP, INVALID_TO, INVERT_MATCH, JSON, KEY_COLUMN, LISTS, MATCH, OTHER, PLACE, PREFIX, PRE_WORD, PROGRESS, REVERSE, SCHEME, SCHEME_COLUMN, SET, TAGS, UNIQUE, WORDS_OF_TEST}
+use Rattle.version_grammar.specs.Named.{operator_named, place_named}
+use Rattle.version_grammar.specs.Wrong.{Quotes}
+use Rattle.version_grammar.specs.declared.faults.WordsFault.{WordsFault}
+use Rattle.version_grammar.specs.declared.named.Verb.{Verb}
 use Rattle.version_commands.specs.declared.options.Arrangement.TheVariants as arrangement
 use Rattle.version_commands.specs.declared.options.Question.TheVariants as question
 use Rattle.version_answers.specs.declared.one.next.Step.TheVariants as step
@@ -148,10 +151,6 @@ IsTaskOf command rows other = ⊥
 
 -- ---- what is wrong, of which a fault quotes the word
 
--- of the scheme: the word names none
-abbrev pub HasWrongScheme : List Row → WordsFault → Type 0
-HasWrongScheme rows fault = (scheme_of rows ≡ None) × Quotes (word_of SCHEME.name.now rows) fault
-
 -- of how a version stands in its text: in a tag, and after a prefix
 abbrev pub HasWrongNaming : List Row → WordsFault → Type 0
 HasWrongNaming rows fault = (is_set TAGS.name.now rows ≡ true) × (is_given PREFIX.name.now rows ≡ true)
@@ -163,26 +162,6 @@ HasWrongSpelling rows fault = HasWrongNaming rows fault ⊎ HasWrongScheme rows 
 -- of the place of a version: the same, or nothing can stand between columns that the words name
 abbrev pub HasWrongPlace : List Row → WordsFault → Type 0
 HasWrongPlace rows fault = HasNoSeparators rows fault ⊎ HasWrongSpelling rows fault
-
--- of a column: the word is the number of none
-abbrev pub HasNoColumn : List ℕ → List Row → WordsFault → Type 0
-HasNoColumn option rows fault = (has_no_column option rows ≡ true) × Quotes (word_of option rows) fault
-
--- of the columns: one of them is none, or is asked for by its name where no line has names
-abbrev pub HasWrongColumn : List Row → WordsFault → Type 0
-HasWrongColumn rows fault = HasNoColumn KEY_COLUMN.name.now rows fault
-    ⊎ (HasNoColumn GROUP.name.now rows fault
-    ⊎ (HasNoColumn SCHEME_COLUMN.name.now rows fault ⊎ (lacks_header rows ≡ true)))
-
--- of the stability: the word names no level
-abbrev pub HasWrongLevel : List Row → WordsFault → Type 0
-HasWrongLevel rows fault = (level_of rows ≡ None) × Quotes (word_of MIN_STABILITY.name.now rows) fault
-
--- of lines without a version: the word names nothing that the command can do with them, or what it names leaves none
--- for a file
-abbrev pub HasWrongInvalid : Verb → List Row → WordsFault → Type 0
-HasWrongInvalid command rows fault = (invalid_of command rows ≡ None)
-    × ((is_some (invalid_word command rows) ≡ true) ⊎ Quotes (word_of INVALID.name.now rows) fault)
 
 -- of the options of a command over lines
 abbrev pub HasWrongLines : Verb → List Row → WordsFault → Type 0

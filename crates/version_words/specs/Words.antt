@@ -1,24 +1,15 @@
 -- What the words of a run mean.
-use Rattle.std.specs.Prelude.{◌≡◌, ◌≢◌, ◌⊎◌, ⊤, ℕ, Bool, true, false, List, [], Option, None, Some, option_and_then, option_map, string_bytes}
+use Rattle.std.specs.Prelude.{◌≡◌, ◌≢◌, ◌⊎◌, ⊤, ℕ, Bool, true, false, List, [], Option, None, Some, string_bytes}
 use Rattle.clap.specs.Words.{fault_of, subcommand_of, IsAmong, Kinds, Row}
 use Rattle.clap.specs.declared.error.kind.{ErrorKind.ErrorKind, ErrorKind.TheVariants.DisplayHelp, ErrorKind.TheVariants.DisplayVersion, ErrorKind.TheVariants.OutOfMemory}
-use Rattle.version_words.specs.{Grammar.program_app, Named.verb_named, Task.IsTaskOf, Task.IsWrong, Wrong.HasText, declared.faults.Fault.Fault, declared.faults.WordsFault.WordsFault}
-use Rattle.version_words.specs.declared.{faults.WordsFault.TheVariants.Memory, faults.WordsFault.TheVariants.Usage, named.Verb.Verb}
+use Rattle.version_words.specs.{Task.IsTaskOf, Task.IsWrong, declared.faults.Fault.Fault}
+use Rattle.version_grammar.specs.Grammar.{program_app}
+use Rattle.version_grammar.specs.Rows.{command_in}
+use Rattle.version_grammar.specs.Wrong.{ComesOfWrong, HasText}
+use Rattle.version_grammar.specs.declared.faults.WordsFault.{WordsFault}
+use Rattle.version_grammar.specs.declared.named.Verb.{Verb}
 use Rattle.version_commands.specs.declared.options.{Task.Task, Task.TheVariants.Say}
 use Rattle.version_words.specs.declared.faults.Fault.TheVariants as fault
-
--- the words are no task, and something is said of them
-abbrev pub IsUsage : WordsFault → Type 0
-IsUsage (Usage text) = HasText (string_bytes text)
-IsUsage other = ⊥
-
--- there was no memory, or the words are no task since this is wrong with them, and is said
-abbrev pub ComesOfWrong : (WordsFault → Type 0) → WordsFault → Type 0
-ComesOfWrong Wrong fault = (fault ≡ Memory) ⊎ (IsUsage fault × Wrong fault)
-
--- the command that `clap` found, with the rows of its words
-abbrev pub command_in : Option (List ℕ × List Row) → Option (Verb × List Row)
-command_in found = option_and_then (λ f. option_map (λ command. (command, f.1)) (verb_named f.0)) found
 
 -- this is the task of a command
 abbrev pub IsTaskIn : Option (Verb × List Row) → Task → Type 0

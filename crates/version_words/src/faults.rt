@@ -1,28 +1,9 @@
-//! Why words mean no task, and why a run fails.
+//! Why a run fails.
 
-use std::alloc::AllocError;
 use std::error::Error;
 use std::fmt;
-
-/// Why words mean no task.
-#[derive(Debug, PartialEq, Eq, Drop)]
-pub enum WordsFault {
-    /// They are not a command. What was meant, and how the command is used.
-    Usage(String),
-    /// An allocation failed.
-    Memory,
-}
-
-impl From<AllocError> for WordsFault {
-    ghost use Rattle.std.specs.Prelude.{◌≡◌};
-    ghost use Rattle.version_words.specs.declared.faults.WordsFault.TheVariants.{Memory};
-
-    ghost from_gives = { λ _ fault. fault ≡ Memory };
-
-    fn from(_refused: AllocError) -> WordsFault {
-        WordsFault::Memory
-    }
-}
+use version_commands::TaskFault;
+use version_grammar::faults::WordsFault;
 
 /// Why a run failed. It prints as the program writes it to standard error.
 #[derive(Debug, PartialEq, Eq, Drop)]
@@ -30,7 +11,7 @@ pub enum Fault<'w> {
     /// The words mean no task.
     Words(WordsFault),
     /// The task of the words failed.
-    Task(version_commands::TaskFault<'w>),
+    Task(TaskFault<'w>),
 }
 
 impl Fault<'_> {
@@ -78,13 +59,13 @@ impl From<WordsFault> for Fault<'_> {
     }
 }
 
-impl<'w> From<version_commands::TaskFault<'w>> for Fault<'w> {
+impl<'w> From<TaskFault<'w>> for Fault<'w> {
     ghost use Rattle.std.specs.Prelude.{◌≡◌};
     ghost use Rattle.version_words.specs.declared.faults.Fault.TheVariants.{Task};
 
     ghost from_gives = { λ of fault. fault ≡ Task of };
 
-    fn from(fault: version_commands::TaskFault<'w>) -> Fault<'w> {
+    fn from(fault: TaskFault<'w>) -> Fault<'w> {
         Fault::Task(fault)
     }
 }

@@ -3,16 +3,10 @@
 #![tactic(auto)]
 
 mod faults;
-mod grammar;
-mod named;
-mod near;
 mod program;
-mod rows;
-mod table;
 mod task;
 mod words;
-mod wrong;
 
-pub use faults::{Fault, WordsFault};
+pub use faults::Fault;
 pub use program::run;
 pub use words::read_words;

@@ -2,21 +2,22 @@
 
 ghost use Rattle.std.specs.Prelude.{map, string_bytes, IfErr, IfOk};
 ghost use Rattle.clap.specs.Words.{kind_of};
-ghost use Rattle.version_words.specs.Words.{ComesOfWords, ComesOfWrong, IsMistake, Means, Shows};
-ghost use Rattle.version_words.specs.Wrong.{HasText};
+ghost use Rattle.version_words.specs.Words.{ComesOfWords, IsMistake, Means, Shows};
+ghost use Rattle.version_grammar.specs.Wrong.{ComesOfWrong};
+ghost use Rattle.version_grammar.specs.Wrong.{HasText};
 
-use crate::faults::WordsFault;
-use crate::grammar::{ABOUT, program};
-use crate::named::{LEVELS, names_of};
-use crate::near::{similar, with_tip, without_tip};
-use crate::table::COMMANDS;
 use crate::task::task_of;
-use crate::wrong::{MORE, names_of_schemes};
 use clap::Error;
 use clap::error::ErrorKind;
 use std::alloc::{AllocError, Global};
 use version_answers::quoted;
 use version_commands::Task;
+use version_grammar::faults::WordsFault;
+use version_grammar::grammar::{ABOUT, program};
+use version_grammar::named::{LEVELS, names_of};
+use version_grammar::near::{similar, with_tip, without_tip};
+use version_grammar::table::COMMANDS;
+use version_grammar::wrong::{MORE, names_of_schemes};
 
 /// Reads the words after the program's name: a task, or what is wrong with them and how they are used.
 pub fn read_words<'w>(alloc: Global, words: &'w [String]) -> Result<Task<'w>, WordsFault>

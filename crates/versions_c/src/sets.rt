@@ -38,6 +38,9 @@ pub const NO_DIGIT: u32 = 11;
 /// `<<` or `>>` stands in a set of another scheme than Debian's.
 pub const NOT_DOUBLED: u32 = 12;
 
+// So many bytes hold most sets while they are read: their texts are read once.
+const SHORT: usize = 512;
+
 /// Writes the form of a set of a scheme that a text is.
 #[unsafe(no_mangle)]
 pub extern "C" fn versions_set(
@@ -57,7 +60,26 @@ pub extern "C" fn versions_set(
     let Some(scheme) = Scheme::of_number(scheme) else {
         return NO_SCHEME;
     };
-    // A set is read into the buffer, so a text that is none has to be known before.
+    let mut short = [0; SHORT];
+    let room = SHORT.min(form.len());
+    match read_by(scheme, text, &mut short[..room]) {
+        Ok(length) => {
+            form[..length].copy_from_slice(&short[..length]);
+            *form_len = length;
+            OK
+        }
+        Err(Unread::Wrong(_)) => NO_SET,
+        Err(Unread::NoRoom) => read_long(scheme, text, form, form_len),
+    }
+}
+
+// Writes the form of a set of a scheme that a text is, which is read into the buffer: so a text that is none has to be
+// known before.
+fn read_long(scheme: Scheme, text: &[u8], form: &mut [u8], form_len: &mut usize) -> i32
+    ensures set { IsRead (rules scheme) (scheme_number scheme) text.now form.old form.new form_len.new result }
+    ensures kept { result ≢ OK → result ≢ NO_ROOM → form.new ≡ form.old }
+    ensures no_length { result ≢ OK → result ≢ NO_ROOM → form_len.new ≡ form_len.old }
+{
     if fault_in(scheme, text).is_some() {
         return NO_SET;
     }

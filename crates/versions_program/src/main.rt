@@ -16,7 +16,8 @@ use std::env::Env;
 use std::process::ExitCode;
 use std::{env, io};
 use version_commands::TaskFault;
-use version_words::{Fault, WordsFault, run};
+use version_grammar::faults::WordsFault;
+use version_words::{Fault, run};
 
 // The status that a shell gives for a program whose reader has gone: that of the signal SIGPIPE.
 const READER_GONE: u8 = 141;

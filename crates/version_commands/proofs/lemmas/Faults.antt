@@ -3,7 +3,8 @@ use Rattle.std.proofs.Common.{◌≡◌, ℕ, false, true, Bool, List, Option, R
 use Rattle.std.specs.List.{list_any}
 use Rattle.version_commands.specs.{Fault.ComesOfBad, Fault.ComesOfReading, Fault.ComesOfReadingOne, Files.AreInputs, Files.ComesFirstAt, Files.Reading, Run.takes_no_more, Run.Ends, Run.StopsBy, declared.faults.TaskFault.TaskFault}
 use Rattle.version_commands.specs.declared.faults.{TaskFault.TheVariants.BadLine, TaskFault.TheVariants.Unclosed, TaskFault.TheVariants.Memory, TaskFault.TheVariants.Read, bad.Blamed.Blamed}
-use Rattle.version_commands.specs.declared.options.{Invalid.Invalid, VersionPlace.VersionPlace}
+use Rattle.version_commands.specs.declared.options.VersionPlace.{VersionPlace}
+use Rattle.version_lines.specs.declared.lines.Invalid.{Invalid}
 use Rattle.version_lines.specs.{Inputs.PlainLine, Lines.ends_quoted, declared.column.Column.Column, declared.lines.LineEnd.LineEnd}
 
 pub stops-weaker : (stopped : Bool) (IsOutput Other : List ℕ → Type 0) (Cause Follows : Type 0)

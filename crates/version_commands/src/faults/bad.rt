@@ -7,11 +7,11 @@ ghost use Rattle.version_lines.specs.Inputs.{plain_line};
 use crate::faults::TaskFault;
 use crate::lines::by_schemes::scheme_in;
 use crate::lines::place::{column_in, line_text};
-use crate::options::{Invalid, LineOptions, VersionPlace};
+use crate::options::{LineOptions, VersionPlace};
 use std::alloc::{AllocError, Global};
 use std::fmt;
 use version_answers::{NoVersion, Others, Remark, Shown, Spelling, shown_front};
-use version_lines::{Column, Line};
+use version_lines::{Column, Invalid, Line};
 use version_schemes::Scheme;
 
 /// The first line that has no version, as a message tells of it.

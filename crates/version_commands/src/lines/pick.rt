@@ -129,23 +129,30 @@ fn pick_text<'a, T: Takes<'a>, C: Chooses>(
         → T.HasTaken first taker.new
         (lines ++ kept_lines (T.versions taker.old) (C.keeps chooser.now) (line.now ∷ []))) }
 {
-    with_version!(scheme, text, version => take_kept(taker, chooser, version, line), Ok(false))
+    with_version!(
+        scheme,
+        text,
+        version => {
+            take_kept(taker, chooser, version, line)?;
+            Ok(true)
+        },
+        Ok(false)
+    )
 }
 
-// Gives the taker a line that has this version, if it is kept. Returns that it has one. By value, so that each scheme's
-// version is made where it stays.
+// Gives the taker a line that has this version, if it is kept. By value, so that each scheme's version is made where it
+// stays.
 #[inline(always)]
 fn take_kept<'a, T: Takes<'a>, C: Chooses>(
     taker: &mut T,
     chooser: &C,
     version: AnyVersion<'a>,
     line: &'a [u8],
-) -> Result<bool, AllocError>
+) -> Result<(), AllocError>
     requires ready { T.IsReady taker.old }
     requires version { T.versions taker.old line.now ≡ Some (plain_any version) }
     ensures ready { T.IsReady taker.new }
     ensures versions { T.versions taker.new ≡ T.versions taker.old }
-    ensures found { IfOk result (λ found. found ≡ true) }
     ensures taken { OnOk result ((first : T) → (lines : List (List ℕ)) → T.HasTaken first taker.old lines
         → T.HasTaken first taker.new
         (lines ++ kept_lines (T.versions taker.old) (C.keeps chooser.now) (line.now ∷ []))) }
@@ -153,7 +160,7 @@ fn take_kept<'a, T: Takes<'a>, C: Chooses>(
     if chooser.keeps(&version) {
         taker.take(&version, line)?;
     }
-    Ok(true)
+    Ok(())
 }
 
 impl<'a, B: SortBy> Takes<'a> for KeyedLines<'a, B> {

@@ -9,11 +9,12 @@ use crate::faults::bad::policy;
 use crate::files::Files;
 use crate::lines::rows::{Rows, put_rows};
 use crate::lines::run::LineRun;
-use crate::options::{Invalid, LineOptions};
+use crate::options::LineOptions;
 use std::alloc::{AllocError, Global};
 use std::io::Write;
 use version_lines::{
-    Answer, Line, LineCommand, LineEnd, NotWritten, Trouble, answer_lines, make_buffer, write_whole,
+    Answer, Invalid, Line, LineCommand, LineEnd, NotWritten, Trouble, answer_lines, make_buffer,
+    write_whole,
 };
 
 impl<'w, C> LineRun<'_, 'w, C> {

@@ -225,22 +225,41 @@ impl<'a> Answers<'_, 'a> {
             → HaveAnswered first self.old texts
             → HaveAnswered first self.new (texts ++ text.now ∷ [])) }
     {
-        if self.unanswered.is_none()
-            && !add_answer(
-                self.alloc,
-                self.question,
-                self.naming,
-                &self.set,
-                text,
-                version,
-                self.end,
-                self.room.as_mut_slice(),
-                &mut self.output,
-            )?
-        {
+        if self.unanswered.is_none() && !self.answer(text, version)? {
             self.unanswered = Some(text);
         }
         Ok(())
+    }
+
+    // Adds the answer for a text and its version, and returns whether there is one.
+    fn answer(&mut self, text: &[u8], version: &AnyVersion<'_>) -> Result<bool, AllocError>
+        requires set { HasSet self.old.question self.old.set }
+        requires scheme { (plain_any version.now).scheme ≡ scheme_of self.old.question }
+        ensures answer { IfOk result (λ found. Adds
+            (IsAnswer self.old.question self.old.naming self.old.end text.now (plain_any version.now) found)
+            self.old.output.items self.new.output.items) }
+        ensures question { self.new.question ≡ self.old.question }
+        ensures naming { self.new.naming ≡ self.old.naming }
+        ensures end { self.new.end ≡ self.old.end }
+        ensures crlf { self.new.crlf ≡ self.old.crlf }
+        ensures set { self.new.set ≡ self.old.set }
+        ensures unanswered { self.new.unanswered ≡ self.old.unanswered }
+    {
+        let (alloc, end, output) = (self.alloc, self.end, &mut self.output);
+        match (self.question, version.mixed(), &self.set) {
+            (Question::Show, Some(mixed), _) => add_show(mixed, end, output)?,
+            (Question::Json, Some(mixed), _) => add_json(alloc, mixed, end, output)?,
+            (Question::Key(_), _, _) => add_key_line(alloc, version, end, output)?,
+            (Question::Why(_, word), _, Some(set)) => {
+                let room = self.room.as_mut_slice();
+                add_why(word, set, text, version, end, room, output)?;
+            }
+            (Question::Next(step), Some(mixed), _) => {
+                return add_next(alloc, self.naming.before(text), mixed, step, end, output);
+            }
+            _ => unreachable!(),
+        }
+        Ok(true)
     }
 
     // Returns all of them, and the words that were left out. It fails with the first text that has none.
@@ -283,44 +302,6 @@ impl<'a> Takes<'a> for Answers<'_, 'a> {
     fn take(&mut self, version: &AnyVersion<'a>, line: &'a [u8]) -> Result<(), AllocError> {
         self.add(line_text(self.crlf, line), version)
     }
-}
-
-// Adds the answer for a text and its version, and returns whether there is one.
-fn add_answer(
-    alloc: Global,
-    question: Question<'_>,
-    naming: Naming<'_>,
-    set: &Option<Set>,
-    text: &[u8],
-    version: &AnyVersion<'_>,
-    end: u8,
-    room: &mut [u8],
-    output: &mut Vec<u8>,
-) -> Result<bool, AllocError>
-    requires set { HasSet question set.now }
-    requires scheme { (plain_any version.now).scheme ≡ scheme_of question }
-    ensures { IfOk result (λ found. Adds
-        (IsAnswer question.entry naming.entry end text.now (plain_any version.now) found)
-        output.old.items output.new.items) }
-{
-    match question {
-        Question::Show => add_show(version.mixed().unwrap(), end, output)?,
-        Question::Json => add_json(alloc, version.mixed().unwrap(), end, output)?,
-        Question::Key(_) => add_key_line(alloc, version, end, output)?,
-        Question::Why(_, word) => {
-            let set = set.as_ref().unwrap();
-            add_why(word, set, text, version, end, room, output)?;
-        }
-        Question::Next(step) => return add_next(
-            alloc,
-            naming.before(text),
-            version.mixed().unwrap(),
-            step,
-            end,
-            output,
-        ),
-    }
-    Ok(true)
 }
 
 impl<'w> Question<'w> {

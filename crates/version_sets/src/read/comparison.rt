@@ -37,25 +37,26 @@ pub enum Comparison {
 
 impl Comparison {
     /// Returns the comparison whose word a text begins with, and the rest, or None without one.
+    #[inline(always)]
     #[tactic(auto, unfolding(crate::specs::Comparison::comparison_front))]
     pub(crate) fn front(text: &[u8]) -> Option<(Comparison, &[u8])>
         ensures front { option_map (λ front. (front.0, front.1.now)) result ≡ comparison_front text.now }
         ensures shorter { IfSome result (λ front. length front.1.now ≤ length text.now) }
     {
-        match text {
-            [b'=', b'=', rest @ ..] => Some((Comparison::Equal, rest)),
-            [b'=', rest @ ..] => Some((Comparison::Equal, rest)),
-            [b'!', b'=', rest @ ..] => Some((Comparison::Unequal, rest)),
-            [b'<', b'=', rest @ ..] => Some((Comparison::LessEq, rest)),
-            [b'<', b'<', rest @ ..] => Some((Comparison::Earlier, rest)),
-            [b'<', rest @ ..] => Some((Comparison::Less, rest)),
-            [b'>', b'=', rest @ ..] => Some((Comparison::GreaterEq, rest)),
-            [b'>', b'>', rest @ ..] => Some((Comparison::Later, rest)),
-            [b'>', rest @ ..] => Some((Comparison::Greater, rest)),
-            [b'~', b'=', rest @ ..] => Some((Comparison::Tilde, rest)),
-            [b'~', b'>', rest @ ..] => Some((Comparison::Tilde, rest)),
-            [b'~', rest @ ..] => Some((Comparison::Tilde, rest)),
-            [b'^', rest @ ..] => Some((Comparison::Caret, rest)),
+        let (first, rest) = text.split_first()?;
+        match (*first, rest) {
+            (b'>', [b'=', rest @ ..]) => Some((Comparison::GreaterEq, rest)),
+            (b'>', [b'>', rest @ ..]) => Some((Comparison::Later, rest)),
+            (b'>', _) => Some((Comparison::Greater, rest)),
+            (b'<', [b'=', rest @ ..]) => Some((Comparison::LessEq, rest)),
+            (b'<', [b'<', rest @ ..]) => Some((Comparison::Earlier, rest)),
+            (b'<', _) => Some((Comparison::Less, rest)),
+            (b'=', [b'=', rest @ ..]) => Some((Comparison::Equal, rest)),
+            (b'=', _) => Some((Comparison::Equal, rest)),
+            (b'!', [b'=', rest @ ..]) => Some((Comparison::Unequal, rest)),
+            (b'~', [b'=' | b'>', rest @ ..]) => Some((Comparison::Tilde, rest)),
+            (b'~', _) => Some((Comparison::Tilde, rest)),
+            (b'^', _) => Some((Comparison::Caret, rest)),
             _ => None,
         }
     }

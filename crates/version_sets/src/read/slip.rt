@@ -2,9 +2,10 @@
 
 ghost use Rattle.std.specs.Prelude.{◌≡◌, ◌&&◌, drop, not, true};
 ghost use Rattle.std.specs.{Char.is_ascii_digit, List.list_any};
+ghost use Rattle.version_order.specs.texts.Front.{begins};
 ghost use Rattle.version_sets.specs.Slips.{begins_with_v, behind_epoch, has_part_x, is_x, part_ends, slip_of, ties};
 
-use version_order::{Class, SchemeVersion, split_run};
+use version_order::{Class, SchemeVersion, begins_with, split_run};
 
 /// What a version may have been meant as.
 #[derive(Clone, Copy, Debug, PartialEq, Eq)]
@@ -19,7 +20,19 @@ pub enum Slip {
 
 // Returns what the text of a version may have been meant as: a tag, unless the version is the same without its `v`, a
 // pattern or a word. None if it looks like a version.
+#[inline(always)]
+#[tactic(auto, using(crate::proofs::lemmas::Slips::looks_plain))]
 pub(crate) fn slip_of<'t, V: SchemeVersion<'t>>(version: &V, text: &'t [u8]) -> Option<Slip>
+    ensures { result ≡ slip_of V.rules.read_as (V.plain version.now) text.now }
+{
+    if is_plain(text) {
+        return None;
+    }
+    slip_in(version, text)
+}
+
+// Returns the same, by what stands in the text.
+fn slip_in<'t, V: SchemeVersion<'t>>(version: &V, text: &'t [u8]) -> Option<Slip>
     ensures { result ≡ slip_of V.rules.read_as (V.plain version.now) text.now }
 {
     if counts_v(version, text) {
@@ -32,6 +45,22 @@ pub(crate) fn slip_of<'t, V: SchemeVersion<'t>>(version: &V, text: &'t [u8]) -> 
         return None;
     }
     Some(Slip::NoDigit)
+}
+
+// Whether a text begins with a digit and has no `x`, so that it looks like a version by a glance, as most do.
+#[inline(always)]
+fn is_plain(text: &[u8]) -> bool
+    ensures { result ≡ (begins is_ascii_digit text.now && not (list_any is_x text.now)) }
+{
+    begins_with(text, Class::Digit) && !has_x(text)
+}
+
+// Whether a text has an `x` or `X`.
+#[inline(always)]
+fn has_x(text: &[u8]) -> bool
+    ensures { result ≡ list_any is_x text.now }
+{
+    text.iter().any(|byte| *byte == b'x' || *byte == b'X')
 }
 
 // Whether a text begins with `v` or `V` and a digit, and is another version without that letter.

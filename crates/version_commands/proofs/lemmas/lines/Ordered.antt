@@ -12,7 +12,8 @@ use Rattle.version_commands.specs.declared.faults.TaskFault.TheVariants.{NotVers
 use Rattle.version_commands.specs.lines.Arranged.{is_named, schemes_after, scheme_in, version_as, with_scheme, arranged, policy}
 use Rattle.version_commands.specs.lines.Picked.{kept_lines, reads_as, Versions, bad_lines, kept_of, reads_of}
 use Rattle.version_commands.specs.{Cause.ComesOfArranged, Cause.ComesOfArranging, Cause.ComesOfInput, Fault.ComesOfSet, Fault.ComesOfSets, Fault.ComesOfPut, Run.head_lines, Run.Arranges, Run.Finishes, declared.faults.TaskFault.TaskFault}
-use Rattle.version_commands.specs.declared.{lines.run.Input.Input, options.Arrangement.TheVariants.Filter, options.Invalid.TheVariants.Fail, options.LineOptions.LineOptions, options.VersionPlace.VersionPlace}
+use Rattle.version_commands.specs.declared.{lines.run.Input.Input, options.Arrangement.TheVariants.Filter, options.LineOptions.LineOptions, options.VersionPlace.VersionPlace}
+use Rattle.version_lines.specs.declared.lines.Invalid.TheVariants.{Fail}
 use Rattle.version_commands.specs.lines.{Choice.wrong_word, Choice.keeps_of, Ordered.arranged_in, Ordered.IsArrangedIn, Ordered.IsOrdered, Ordered.IsPlaced}
 use Rattle.version_schemes.specs.{any.Order.PlainAny, declared.scheme.Scheme.Scheme, declared.scheme.Scheme.TheVariants.Mixed}
 use Rattle.version_answers.specs.{Sets.keys_of, Sets.reading_of, declared.set.WrongSet.WrongSet}

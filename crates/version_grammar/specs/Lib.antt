@@ -1,0 +1,4 @@
+pub mod Grammar
+pub mod Named
+pub mod Rows
+pub mod Wrong
