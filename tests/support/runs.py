@@ -332,6 +332,20 @@ CALLS = {
     "version_words::run": ("versions", "sort"),
     # `run` makes these two calls. The last quotes a line that is no version.
     "version_words::read_words": ("versions", "key 1..2"),
+    "version_commands::Files::read": ("versions", "sort -t, -k2 table -"),
+    "version_commands::serve": ("versions", "compare --explain 1.10 1.9"),
+    "version_answers::quoted": ("versions", "sort"),
+    "version_answers::add_show": ("versions", "show 1:2.0-3"),
+    "version_answers::add_json": ("versions", "show --json 1.2.0-rc.1"),
+    "version_answers::add_key_line": ("versions", "key --scheme semver 1.2.3-rc.1"),
+    "version_answers::add_next": ("versions", "next minor 1.2.5"),
+    "version_answers::add_head": ("versions", "why '>2 <1' 1.4"),
+    "version_answers::add_why": ("versions", "why '>2 <1' 1.4"),
+    "version_answers::Set::read": ("versions", "why '>2 <1' 1.4"),
+    "version_answers::room_of": ("versions", "why '>2 <1' 1.4"),
+    "version_answers::add_difference": ("versions", "diff 1.2.3 1.2.3-rc.1"),
+    "version_answers::add_explained": ("versions", "compare --explain 1.10 1.9"),
+    # What `read_words` calls, by the words that it reads or refuses.
     **{
         f"version_grammar::{call}": ("versions", words)
         for call, words in (
@@ -359,17 +373,4 @@ CALLS = {
             ("wrong_stability", "sort --min-stability tc"),
         )
     },
-    "version_commands::Files::read": ("versions", "sort -t, -k2 table -"),
-    "version_commands::serve": ("versions", "compare --explain 1.10 1.9"),
-    "version_answers::quoted": ("versions", "sort"),
-    "version_answers::add_show": ("versions", "show 1:2.0-3"),
-    "version_answers::add_json": ("versions", "show --json 1.2.0-rc.1"),
-    "version_answers::add_key_line": ("versions", "key --scheme semver 1.2.3-rc.1"),
-    "version_answers::add_next": ("versions", "next minor 1.2.5"),
-    "version_answers::add_head": ("versions", "why '>2 <1' 1.4"),
-    "version_answers::add_why": ("versions", "why '>2 <1' 1.4"),
-    "version_answers::Set::read": ("versions", "why '>2 <1' 1.4"),
-    "version_answers::room_of": ("versions", "why '>2 <1' 1.4"),
-    "version_answers::add_difference": ("versions", "diff 1.2.3 1.2.3-rc.1"),
-    "version_answers::add_explained": ("versions", "compare --explain 1.10 1.9"),
 }
