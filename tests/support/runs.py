@@ -347,7 +347,7 @@ CALLS = {
     "version_answers::add_explained": ("versions", "compare --explain 1.10 1.9"),
     # What `read_words` calls, by the words that it reads or refuses.
     **{
-        f"version_grammar::{call}": ("versions", words)
+        f"version_usage::{call}": ("versions", words)
         for call, words in (
             ("program", "key 1..2"),
             ("names_of", "sotr"),

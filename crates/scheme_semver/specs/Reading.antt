@@ -3,7 +3,7 @@ use Rattle.std.specs.Prelude.{◌==◌, ◌&&◌, ◌||◌, ℕ, suc, length, Bo
 use Rattle.std.specs.{List.list_all, List.prefix_len, List.take_while, Option.is_some}
 use Rattle.version_order.specs.texts.{Bytes.hyphen, Bytes.plus, Cuts.pieces, Cuts.cut_first}
 use Rattle.version_rules.specs.grammar.Chunk.{PlainChunk}
-use Rattle.version_texts.specs.Key.{chunks_of}
+use Rattle.version_pieces.specs.Pieces.{chunks_of}
 use Rattle.scheme_semver.specs.{Texts.is_number, Texts.is_section, declared.reader.Section.TheVariants.PreRelease, declared.reader.Section.TheVariants.Metadata}
 
 -- a byte that begins no pre-release and no metadata

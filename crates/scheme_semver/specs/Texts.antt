@@ -3,7 +3,7 @@ use Rattle.std.specs.Prelude.{◌==◌, ◌&&◌, ◌||◌, ℕ, Bool, false, Li
 use Rattle.std.specs.{Borrow.Bor, Char.is_ascii_digit, List.list_all, Option.option_map, Str.Parse.digits_value, declared.cmp.Ordering.Ordering}
 use Rattle.version_order.specs.{Rules.compared, texts.Bytes.hyphen, texts.Bytes.is_identifier_byte, texts.Bytes.plus, texts.Cuts.pieces, texts.Cuts.cut_first, texts.Front.is_digits, texts.Front.is_run}
 use Rattle.version_rules.specs.{grammar.Chunk.PlainChunk, grammar.SemVer.PlainSemVer, order.Kinds.semver_cmp}
-use Rattle.version_texts.specs.Key.{chunks_of}
+use Rattle.version_pieces.specs.Pieces.{chunks_of}
 use Rattle.scheme_semver.specs.declared.reader.{Section.Section, Section.TheVariants.PreRelease, Section.TheVariants.Metadata}
 
 -- a zero before other digits

@@ -3,7 +3,7 @@
 ghost use Rattle.std.specs.Prelude.{◌≡◌, ◌∷◌, false, suc, IfSome, MatchResult, Some, true, ℕ};
 ghost use Rattle.std.specs.{Char.is_ascii_digit, List.list_all, List.take_while};
 ghost use Rattle.version_order.specs.{Viable.IsCut, Viable.Stops, texts.Bytes.dot, texts.Bytes.is_identifier_byte, texts.Bytes.is_metadata_byte, texts.Front.behind_digits};
-ghost use Rattle.version_texts.specs.Key.{chunks_of};
+ghost use Rattle.version_pieces.specs.Pieces.{chunks_of};
 ghost use Rattle.scheme_semver.specs.Reading.{before_metadata, is_core, is_pre_release, is_tail, tail_of};
 ghost use Rattle.scheme_semver.specs.Texts.{allows, has_leading_zero, identifiers_of, is_number, is_section};
 ghost use Rattle.scheme_semver.specs.declared.reader.Section.TheVariants.{Metadata};

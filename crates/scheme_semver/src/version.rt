@@ -10,7 +10,7 @@ ghost use Rattle.scheme_semver.specs.{Order.semver_bytes, Reading.is_core, Texts
 use crate::reader::{split_last_number, split_number, split_tail};
 use std::cmp::Ordering;
 use version_order::{Beside, Facts, Kept, Operators, SchemeVersion, Sink, put_number};
-use version_texts::{compare_releases, put_release};
+use version_pieces::{compare_releases, put_release};
 
 /// A version of SemVer 2.0.0, borrowed from its text: `MAJOR.MINOR.PATCH[-PRE][+META]`. Its metadata does not count and
 /// is not kept.

@@ -6,7 +6,7 @@ ghost use Rattle.version_order.specs.{keys.Codes.length_bytes, keys.Codes.number
 
 use crate::class::{Class, split_byte, split_run};
 use crate::digits::{one_digit, without_zeros};
-use crate::sink::Sink;
+use crate::sink::{Sink, put_all};
 
 /// Writes a length.
 #[inline(always)]
@@ -60,8 +60,8 @@ pub fn put_long_number<'t, S: Sink>(sink: &mut S, text: &'t [u8]) -> &'t [u8]
     ensures bytes { S.takes sink.old (number_bytes (run_value text.now)) sink.new }
     ensures rest { result.now ≡ drop (prefix_len is_ascii_digit text.now) text.now }
 {
-    let number = without_zeros(text);
-    let (digits, _) = split_run(number, Class::Digit);
+    let (digits, rest) = split_run(without_zeros(text), Class::Digit);
     put_length(sink, digits.len());
-    put_run(sink, number, Class::Digit)
+    put_all(sink, digits);
+    rest
 }

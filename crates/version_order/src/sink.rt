@@ -15,6 +15,18 @@ pub trait Sink {
         requires { fits self.old (byte ∷ []) }
         ensures { takes self.old (byte ∷ []) self.new };
 
+    /// Writes four bytes.
+    #[inline(always)]
+    fn put_four(&mut self, first: u8, second: u8, third: u8, last: u8)
+        requires { fits self.old (first ∷ second ∷ third ∷ last ∷ []) }
+        ensures { takes self.old (first ∷ second ∷ third ∷ last ∷ []) self.new }
+    {
+        self.put(first);
+        self.put(second);
+        self.put(third);
+        self.put(last);
+    }
+
     /// Returns whether no further byte changes the sink.
     fn is_decided(&self) -> bool
         ensures { IsTrue result → (bytes : List ℕ) → takes self.now bytes self.now };
@@ -32,12 +44,15 @@ pub trait Sink {
         → takes middle ys last → takes first (xs ++ ys) last };
 }
 
-/// Writes bytes.
+/// Writes bytes, unless the sink is decided before.
 #[inline(always)]
 pub fn put_all<S: Sink>(sink: &mut S, bytes: &[u8])
     requires { S.fits sink.old bytes.now }
     ensures { S.takes sink.old bytes.now sink.new }
 {
+    if sink.is_decided() {
+        return;
+    }
     for byte in bytes {
         sink.put(*byte);
     }

@@ -1,6 +1,8 @@
 //! Sinks: a count of bytes, a buffer with room, and a comparison with given bytes.
 
-ghost use Rattle.std.specs.Prelude.{◌≡◌, [], ⊤};
+ghost use Rattle.std.specs.Prelude.{◌≡◌, ◌++◌, [], ⊤, List, ℕ};
+ghost use Rattle.std.specs.Ordering.{ordering_then};
+ghost use Rattle.version_order.specs.keys.Lists.{bytes_cmp};
 ghost use Rattle.version_order.specs.keys.Sinks.{count_with, leads_both, leads_none, order_with, room_both, room_first, room_none, room_then, FitsRoom, Leads, TakesRoom};
 
 use crate::sink::Sink;
@@ -108,6 +110,26 @@ impl<'a> Sink for Beside<'a> {
         }
     }
 
+    // The four bytes are compared at once.
+    #[inline(always)]
+    fn put_four(&mut self, first: u8, second: u8, third: u8, last: u8) {
+        if self.order != Ordering::Equal {
+            return;
+        }
+        match self.left.split_first_chunk::<4>() {
+            Some((four, rest)) => match compare_four(&[first, second, third, last], four) {
+                Ordering::Equal => self.left = rest,
+                order => self.order = order,
+            },
+            None => {
+                self.put(first);
+                self.put(second);
+                self.put(third);
+                self.put(last);
+            }
+        }
+    }
+
     #[inline(always)]
     fn is_decided(&self) -> bool {
         self.order != Ordering::Equal
@@ -120,6 +142,16 @@ impl<'a> Sink for Beside<'a> {
     ghost takes_none = { leads_none order_with };
 
     ghost takes_both = { leads_both order_with };
+}
+
+// Compares four bytes with four others.
+#[inline(always)]
+#[tactic(auto, using(crate::proofs::lemmas::Bytes::four_first))]
+fn compare_four(four: &[u8; 4], others: &[u8; 4]) -> Ordering
+    ensures { (more rest : List ℕ) → bytes_cmp (four.now ++ more) (others.now ++ rest)
+        ≡ ordering_then result (bytes_cmp more rest) }
+{
+    u32::from_be_bytes(*four).cmp(&u32::from_be_bytes(*others))
 }
 
 impl<'a> Beside<'a> {

@@ -37,7 +37,10 @@ impl<'a> Form<'a> {
             ≡ set.0 ∷ (number set.1.count ++ (set.1.numbers.now ++ set.1.ends.now))) }
     {
         let (order, count, rest) = head(bytes)?;
-        let (numbers, ends) = rest.split_at_checked(count.checked_mul(8)?)?;
+        if count > rest.len() / 8 {
+            return None;
+        }
+        let (numbers, ends) = rest.split_at(8 * count);
         Some((
             order,
             Form {

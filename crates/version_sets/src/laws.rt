@@ -6,17 +6,14 @@ ghost use Rattle.version_sets.specs.{Comparison.ends_with, Excluding.leave_out, 
 use version_order::SchemeVersion;
 
 // Sets that hold the same keys have the same ends. What a rule makes of two sets, by which a key in neither is not in
-// it, has the ends that their merge gives.
-fn sets()
+// it, has the ends that their merge gives. In each order a comparison with a version holds what the order says of the
+// two.
+fn sets<'t, V: SchemeVersion<'t>>()
     ensures canonical { (one other : List (List ℕ)) → Rise one → Rise other
         → ((key : List ℕ) → has one key ≡ has other key) → one ≡ other }
     ensures merges { (rule : Bool → Bool → Bool) → rule false false ≡ false → (one other : List (List ℕ))
         → Rise one → Rise other → AreMerged rule one other (merged rule false false one other) }
-{}
-
-// In each order a comparison with a version holds what the order says of the two.
-fn comparisons<'t, V: SchemeVersion<'t>>()
-    ensures { (version other : V) → AreByOrder (V.order version other)
+    ensures by_order { (version other : V) → AreByOrder (V.order version other)
         (λ c. has (ends_with c (V.plain other)) (V.plain version).key) }
 {}
 

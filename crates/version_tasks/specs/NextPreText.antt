@@ -3,7 +3,8 @@ use Rattle.std.specs.Prelude.{◌≡◌, ◌<◌, ◌≤◌, ◌^◌, ◌⊎◌,
 use Rattle.std.specs.{Fmt.decimal, List.list_all, Option.option_map, Option.option_map_or, declared.cmp.Ordering.TheVariants.Greater}
 use Rattle.version_order.specs.texts.{Bytes.dot, Bytes.hyphen, Bytes.is_identifier_byte, Cuts.pieces}
 use Rattle.version_rules.specs.{grammar.Chunk.PlainChunk, grammar.Chunk.Numeric, grammar.SemVer.PlainSemVer, order.Parts.release_cmp}
-use Rattle.version_texts.specs.{Key.chunks_of, Scan.is_chunk}
+use Rattle.version_texts.specs.{Scan.is_chunk}
+use Rattle.version_pieces.specs.Pieces.{chunks_of}
 
 -- whether a text is the chunks of a release
 abbrev pub is_release : List ℕ → Bool

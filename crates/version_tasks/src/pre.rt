@@ -6,7 +6,8 @@ ghost use Rattle.version_order.specs.texts.{Bytes.dot, Bytes.is_identifier_byte,
 ghost use Rattle.version_rules.specs.{grammar.Chunk.Numeric, grammar.Chunk.PlainChunk, grammar.Versioning.is_prerelease, grammar.Versioning.versioning_of, grammar.Versioning.versioning_text, order.Parts.release_cmp};
 ghost use Rattle.version_tasks.specs.NextPreText.{is_own, is_release, is_word, own_chunks, word_chunks, word_text, IsLeastNumber, IsPlace, NonePass};
 ghost use Rattle.version_tasks.specs.NextPre.{AreNamed, IsNextPre, NoNextPre, plain_next_pre};
-ghost use Rattle.version_texts.specs.{Key.chunks_of, Scan.is_chunk, VersioningRef.field_text, VersioningRef.plain_versioning_ref, declared.versioning_ref.field.Field.TheVariants.PreRelease};
+ghost use Rattle.version_texts.specs.{Scan.is_chunk, VersioningRef.field_text, VersioningRef.plain_versioning_ref, declared.versioning_ref.field.Field.TheVariants.PreRelease};
+ghost use Rattle.version_pieces.specs.Pieces.{chunks_of};
 
 mod text;
 
@@ -15,8 +16,9 @@ use crate::stability::pre_release_text;
 use std::cmp::Ordering;
 pub use text::NextPre;
 use version_order::{Class, after_byte, is_digits, split_piece, split_run};
+use version_pieces::compare_releases;
 use version_rules::Kind;
-use version_texts::{VersioningRef, compare_releases, numeral_value, spells_numeral};
+use version_texts::{VersioningRef, numeral_value, spells_numeral};
 
 /// Returns the pre-release that comes next after a strict version: the least version after it with the same major and
 /// minor numbers, a word and then one number from 1 on as pre-release, and without metadata. A word is one chunk or

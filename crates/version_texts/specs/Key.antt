@@ -1,44 +1,21 @@
 -- The parts of texts, and the key of a version, read off its text by its shape.
-use Rattle.std.specs.Prelude.{◌&&◌, ℕ, Bool, false, not, List, [], ◌∷◌, ◌++◌, map, if◌then◌else◌, Option, Some, None, ◌+◌, ◌*◌}
-use Rattle.std.specs.{Borrow.Bor, Char.is_ascii_digit, List.list_all, List.slice_split, Str.Parse.digits_value}
+use Rattle.std.specs.Prelude.{ℕ, List, [], ◌∷◌, ◌++◌, map, Option, Some, None, ◌+◌, ◌*◌}
+use Rattle.std.specs.{Borrow.Bor, List.slice_split, Str.Parse.digits_value}
 use Rattle.version_order.specs.texts.Cuts.{is_dot, pieces, behind_piece, first_piece, further_pieces}
-use Rattle.version_order.specs.{keys.Codes.number_bytes, texts.Class.is_mark, texts.Grammar.is_sep}
-use Rattle.version_texts.specs.{Scan.body_in, Scan.epoch_in, Scan.tail_in, declared.order.delimiters.Delimiters.Delimiters, declared.order.delimiters.Delimiters.TheVariants.Dots, declared.order.delimiters.Delimiters.TheVariants.Marks}
-use Rattle.version_texts.specs.declared.{order.delimiters.Run.Run, order.delimiters.Run.TheVariants.Part, order.delimiters.Run.TheVariants.Word, scan.shape.Shape.Shape, scan.shape.TailKind.TailKind}
+use Rattle.version_order.specs.{keys.Codes.number_bytes, texts.Grammar.is_sep}
+use Rattle.version_texts.specs.{Scan.body_in, Scan.epoch_in, Scan.tail_in}
+use Rattle.version_pieces.specs.declared.runs.Delimiters.{Delimiters}
+use Rattle.version_texts.specs.declared.{scan.shape.Shape.Shape, scan.shape.TailKind.TailKind}
 use Rattle.version_texts.specs.declared.scan.shape.TailKind.TheVariants.{PreRelease, Nothing, Release, Sections}
-use Rattle.version_rules.specs.{grammar.Chunk.PlainChunk, grammar.Chunk.Numeric, grammar.Chunk.Alphanum, key.Key.Key, key.Key.Tail, key.PartKey.PartKey, key.PartKey.part_key, key.PartKey.parts_bytes}
+use Rattle.version_pieces.specs.Pieces.{chunks_of, sign_of}
+use Rattle.version_rules.specs.{key.Key.Key, key.Key.Tail, key.PartKey.PartKey, key.PartKey.part_key, key.PartKey.parts_bytes}
 use Rattle.version_rules.specs.key.Key as tail
-
--- ---- the first piece of a text that dots divide, and what follows it
-
--- whether a byte ends a part, and whether it ends a section too
-abbrev pub delimits : Delimiters → ℕ → Bool
-delimits Dots b = is_dot b
-delimits Marks b = is_mark b
-
-abbrev pub sign_of : Delimiters → ℕ → Bool
-sign_of Dots b = false
-sign_of Marks b = is_sep b
-
--- whether a byte is of a run: it ends no part, and is no digit in what stands before the first one
-abbrev pub in_run : Run → ℕ → Bool
-in_run (Part ends) b = not (delimits ends b)
-in_run (Word ends) b = not (delimits ends b) && not (is_ascii_digit b)
 
 -- ---- the key of a version, read off its text by its shape
 
 -- the parts of a body or of a section
 abbrev pub parts_of : List ℕ → List PartKey
 parts_of text = map part_key (pieces text)
-
--- the chunk of a piece of a release: digits are a number
-abbrev pub chunk_of : List ℕ → PlainChunk
-chunk_of text =
-    if list_all is_ascii_digit text then Numeric (digits_value 10 text) else Alphanum text
-
--- the chunks of a release
-abbrev pub chunks_of : List ℕ → List PlainChunk
-chunks_of text = map chunk_of (pieces text)
 
 -- the parts of each section of a text, between its signs
 abbrev pub sections_of : List ℕ → List (List PartKey)

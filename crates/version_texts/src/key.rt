@@ -1,12 +1,12 @@
 //! The one writer of keys: it reads a text by its shape, and writes into any sink.
 
-ghost use Rattle.std.specs.Prelude.{◌≡◌, ◌==◌, false, ◌∷◌, ◌-◌, [], List, ℕ, IfNone, IfSome, MatchOption, Some, None, drop, length, true};
+ghost use Rattle.std.specs.Prelude.{◌≡◌, ◌==◌, false, ◌∷◌, ◌-◌, [], List, ℕ, IfNone, IfSome, Some, None, drop, length, true};
 ghost use Rattle.std.specs.{Char.is_ascii_alphanumeric, Char.is_ascii_digit, List.list_all, List.prefix_len, List.take_while, Str.Parse.digits_value};
-ghost use Rattle.version_order.specs.keys.Codes.{items_bytes, list_bytes, length_bytes, number_bytes};
-ghost use Rattle.version_order.specs.texts.{Bytes.dot, Bytes.is_identifier_byte, Bytes.is_metadata_byte, Bytes.is_section_byte, Class.contains, Front.run_value, Front.begins};
+ghost use Rattle.version_order.specs.keys.Codes.{items_bytes, list_bytes, number_bytes};
+ghost use Rattle.version_order.specs.texts.{Bytes.is_section_byte};
 ghost use Rattle.version_rules.specs.key.PartKey.{part_bytes, part_key, parts_bytes, split_bytes, split_of};
-ghost use Rattle.version_rules.specs.{key.Key.key_bytes, key.Key.section_bytes, key.Key.tail_bytes, order.Parts.chunk_bytes, order.Parts.release_bytes, requirement.Range.begun};
-ghost use Rattle.version_texts.specs.Key.{parts_behind, chunk_of, chunks_of, front_bytes, parts_of, sections_of, tail_of, text_key};
+ghost use Rattle.version_rules.specs.{key.Key.key_bytes, key.Key.section_bytes, key.Key.tail_bytes, requirement.Range.begun};
+ghost use Rattle.version_texts.specs.Key.{parts_behind, front_bytes, parts_of, sections_of, tail_of, text_key};
 ghost use Rattle.version_texts.specs.Scan.{body_in, epoch_in, is_tail_byte, tail_in, Fits};
 
 pub(crate) mod length;
@@ -14,9 +14,8 @@ pub(crate) mod ties;
 pub(crate) mod whole;
 
 use crate::scan::shape::{Shape, TailKind};
-use version_order::{
-    Class, Sink, after_byte, begins_with, put_all, put_long_number, put_number, put_run, split_run,
-};
+use version_order::{Class, Sink, after_byte, begins_with, put_long_number, put_number, put_run};
+use version_pieces::put_release;
 
 // Writes the run of letters and digits at the start of a text, split before its first digit, and returns the rest.
 #[inline(always)]
@@ -40,9 +39,43 @@ fn put_split<'t, S: Sink>(sink: &mut S, text: &'t [u8]) -> &'t [u8]
     rest
 }
 
-// Writes the part at the start of a text, and returns the rest.
+// Writes the part at the start of a text, and returns the rest. Most parts are one digit, and written at once.
 #[inline(always)]
 fn put_part<'t, S: Sink>(sink: &mut S, text: &'t [u8]) -> &'t [u8]
+    requires { S.fits sink.old
+        (part_bytes (Some (part_key (take_while is_ascii_alphanumeric text.now)))) }
+    ensures bytes { S.takes sink.old
+        (part_bytes (Some (part_key (take_while is_ascii_alphanumeric text.now)))) sink.new }
+    ensures rest { result.now ≡ drop (prefix_len is_ascii_alphanumeric text.now) text.now }
+{
+    if let [digit @ b'0'..=b'9', rest @ ..] = text {
+        if !begins_with(rest, Class::Alphanumeric) {
+            put_digit(sink, *digit);
+            return rest;
+        }
+    }
+    put_any_part(sink, text)
+}
+
+// Writes the part that is a digit.
+#[inline(always)]
+fn put_digit<S: Sink>(sink: &mut S, digit: u8)
+    requires digit { is_ascii_digit digit ≡ true }
+    requires fits { S.fits sink.old (part_bytes (Some (part_key (digit ∷ [])))) }
+    ensures { S.takes sink.old (part_bytes (Some (part_key (digit ∷ [])))) sink.new }
+{
+    if digit == b'0' {
+        sink.put(3);
+        sink.put(0);
+        sink.put(2);
+    } else {
+        sink.put_four(3, 1, digit, 2);
+    }
+}
+
+// Writes the part at the start of a text, of any length, and returns the rest.
+#[inline(always)]
+fn put_any_part<'t, S: Sink>(sink: &mut S, text: &'t [u8]) -> &'t [u8]
     requires { S.fits sink.old
         (part_bytes (Some (part_key (take_while is_ascii_alphanumeric text.now)))) }
     ensures bytes { S.takes sink.old
@@ -52,7 +85,7 @@ fn put_part<'t, S: Sink>(sink: &mut S, text: &'t [u8]) -> &'t [u8]
     let mut left = text;
     if begins_with(text, Class::Digit) {
         sink.put(3);
-        left = put_number(sink, text);
+        left = put_long_number(sink, text);
         if !begins_with(left, Class::Letter) {
             sink.put(2);
             return left;
@@ -104,48 +137,6 @@ fn put_list<'t, S: Sink>(sink: &mut S, text: &'t [u8]) -> Option<&'t [u8]>
     let rest = put_parts(sink, text)?;
     sink.put(2);
     Some(rest)
-}
-
-// Writes a chunk of a release, by its text.
-#[inline(always)]
-fn put_chunk<S: Sink>(sink: &mut S, text: &[u8])
-    requires text { list_all is_identifier_byte text.now ≡ true }
-    requires fits { S.fits sink.old (chunk_bytes (Some (chunk_of text.now))) }
-    ensures { S.takes sink.old (chunk_bytes (Some (chunk_of text.now))) sink.new }
-{
-    let (_, behind) = split_run(text, Class::Digit);
-    if behind.is_empty() {
-        sink.put(2);
-        put_number(sink, text);
-        return;
-    }
-    sink.put(3);
-    put_all(sink, text);
-    sink.put(0);
-}
-
-/// Writes a release, by its text: its chunks, by the dots between, and their end. Does not allocate.
-#[inline(always)]
-pub fn put_release<S: Sink>(sink: &mut S, text: &[u8])
-    requires text { list_all is_metadata_byte text.now ≡ true }
-    requires fits { S.fits sink.old (release_bytes (chunks_of text.now)) }
-    ensures { S.takes sink.old (release_bytes (chunks_of text.now)) sink.new }
-{
-    let mut left = text;
-    'chunks: loop {
-        let (chunk, rest) = split_run(left, Class::NotDot);
-        put_chunk(sink, chunk);
-        if sink.is_decided() {
-            return;
-        }
-        match rest.split_first() {
-            Some((_, behind)) => left = behind,
-            None => {
-                sink.put(1);
-                return;
-            }
-        }
-    }
 }
 
 // Writes the sections of a text, between its signs, and their end.

@@ -14,10 +14,8 @@ mod versioning_ref;
 mod viable;
 
 pub use key::length::room_for;
-pub use key::put_release;
 pub use key::ties::{compare_key_ties, mark_kind, marked_kind, marked_number};
 pub use order::difference::Difference;
-pub use order::release::compare_releases;
 pub use requirement::conflict::{Conflict, Span, conflict_in};
 pub use requirement::inexact::write_inexact;
 pub use requirement::members::text_between;

@@ -5,20 +5,17 @@ ghost use Rattle.std.specs.{Ordering.nat_cmp, Str.Parse.digits_value};
 ghost use Rattle.version_rules.specs.key.Key.{precedence, tail_cmp};
 ghost use Rattle.version_texts.specs.{Key.tail_of, Key.text_key, Scan.Fits, Scan.epoch_in, Scan.tail_in};
 
-pub(crate) mod delimiters;
 pub(crate) mod difference;
 pub(crate) mod list;
 pub(crate) mod part;
-pub(crate) mod release;
-pub(crate) mod run;
 pub(crate) mod ties;
 
 use crate::key::{body_at, epoch_at, tail_at};
 use crate::order::list::{compare_parts, compare_sections};
-use crate::order::release::compare_releases;
 use crate::scan::shape::{Shape, TailKind};
 use std::cmp::Ordering;
 use version_order::compare_numbers;
+use version_pieces::compare_releases;
 
 /// Compares two versions by their texts, part by part, up to the first difference.
 pub fn compare(a: &[u8], a_shape: Shape, b: &[u8], b_shape: Shape) -> Ordering

@@ -6,13 +6,13 @@ use Rattle.version_commands.specs.declared.options.{Arrangement.Arrangement, Cho
 use Rattle.version_answers.specs.declared.{one.next.Step.Step, spelling.Naming.Naming, spelling.Naming.TheVariants.Bare, spelling.Naming.TheVariants.Prefix, spelling.Naming.TheVariants.Tag, spelling.Spelling.Spelling}
 use Rattle.version_lines.specs.declared.column.{Column.Column, Separators.Separators}
 use Rattle.version_schemes.specs.declared.scheme.Scheme.{Scheme}
-use Rattle.version_grammar.specs.Rows.{column_at, column_of, end_of, has_option_of_lists, has_two_schemes, has_wrong_column, header_of, invalid_of, is_crlf, is_given, is_set, key_of, lacks_set, level_of, line_end, name_of_column, number_of, scheme_of, word_of, words_of, AreSeparators, HasNoSeparators, HasWrongColumn, HasWrongInvalid, HasWrongLevel, HasWrongScheme}
-use Rattle.version_grammar.specs.declared.named.Verb.TheVariants.{Compare, Diff, Filter, Implies, Key, Meets, Newest, Next, Show, Sort, Test, Why}
-use Rattle.version_grammar.specs.declared.table.TheConstants.{A, B, COUNT, CRLF, EXPLAIN, GROUP, INVALID_TO, INVERT_MATCH, JSON, KEY_COLUMN, LISTS, MATCH, OTHER, PLACE, PREFIX, PRE_WORD, PROGRESS, REVERSE, SCHEME, SCHEME_COLUMN, SET, TAGS, UNIQUE, WORDS_OF_TEST}
-use Rattle.version_grammar.specs.Named.{operator_named, place_named}
-use Rattle.version_grammar.specs.Wrong.{Quotes}
-use Rattle.version_grammar.specs.declared.faults.WordsFault.{WordsFault}
-use Rattle.version_grammar.specs.declared.named.Verb.{Verb}
+use Rattle.version_usage.specs.Rows.{column_at, column_of, end_of, has_option_of_lists, has_two_schemes, has_wrong_column, header_of, invalid_of, is_crlf, is_given, is_set, key_of, lacks_set, level_of, line_end, name_of_column, number_of, scheme_of, word_of, words_of, AreSeparators, HasNoSeparators, HasWrongColumn, HasWrongInvalid, HasWrongLevel, HasWrongScheme}
+use Rattle.version_usage.specs.declared.named.Verb.TheVariants.{Compare, Diff, Filter, Implies, Key, Meets, Newest, Next, Show, Sort, Test, Why}
+use Rattle.version_usage.specs.declared.table.TheConstants.{A, B, COUNT, CRLF, EXPLAIN, GROUP, INVALID_TO, INVERT_MATCH, JSON, KEY_COLUMN, LISTS, MATCH, OTHER, PLACE, PREFIX, PRE_WORD, PROGRESS, REVERSE, SCHEME, SCHEME_COLUMN, SET, TAGS, UNIQUE, WORDS_OF_TEST}
+use Rattle.version_usage.specs.Named.{operator_named, place_named}
+use Rattle.version_usage.specs.Wrong.{Quotes}
+use Rattle.version_usage.specs.declared.faults.WordsFault.{WordsFault}
+use Rattle.version_usage.specs.declared.named.Verb.{Verb}
 use Rattle.version_commands.specs.declared.options.Arrangement.TheVariants as arrangement
 use Rattle.version_commands.specs.declared.options.Question.TheVariants as question
 use Rattle.version_answers.specs.declared.one.next.Step.TheVariants as step

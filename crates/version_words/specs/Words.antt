@@ -3,11 +3,11 @@ use Rattle.std.specs.Prelude.{◌≡◌, ◌≢◌, ◌⊎◌, ⊤, ℕ, Bool, t
 use Rattle.clap.specs.Words.{fault_of, subcommand_of, IsAmong, Kinds, Row}
 use Rattle.clap.specs.declared.error.kind.{ErrorKind.ErrorKind, ErrorKind.TheVariants.DisplayHelp, ErrorKind.TheVariants.DisplayVersion, ErrorKind.TheVariants.OutOfMemory}
 use Rattle.version_words.specs.{Task.IsTaskOf, Task.IsWrong, declared.faults.Fault.Fault}
-use Rattle.version_grammar.specs.Grammar.{program_app}
-use Rattle.version_grammar.specs.Rows.{command_in}
-use Rattle.version_grammar.specs.Wrong.{ComesOfWrong, HasText}
-use Rattle.version_grammar.specs.declared.faults.WordsFault.{WordsFault}
-use Rattle.version_grammar.specs.declared.named.Verb.{Verb}
+use Rattle.version_usage.specs.Grammar.{program_app}
+use Rattle.version_usage.specs.Rows.{command_in}
+use Rattle.version_usage.specs.Wrong.{ComesOfWrong, HasText}
+use Rattle.version_usage.specs.declared.faults.WordsFault.{WordsFault}
+use Rattle.version_usage.specs.declared.named.Verb.{Verb}
 use Rattle.version_commands.specs.declared.options.{Task.Task, Task.TheVariants.Say}
 use Rattle.version_words.specs.declared.faults.Fault.TheVariants as fault
 

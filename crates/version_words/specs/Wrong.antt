@@ -1,6 +1,6 @@
 -- How `versions` ends by a fault: what it prints, and its status.
 use Rattle.std.specs.Prelude.{ℕ, List, codes, string_bytes}
-use Rattle.version_grammar.specs.declared.faults.WordsFault.TheVariants.{Memory, Usage}
+use Rattle.version_usage.specs.declared.faults.WordsFault.TheVariants.{Memory, Usage}
 use Rattle.version_words.specs.declared.faults.Fault.{Fault, TheVariants.Words, TheVariants.Task}
 use Rattle.version_commands.specs.Fault as task
 

@@ -3,7 +3,7 @@
 use std::error::Error;
 use std::fmt;
 use version_commands::TaskFault;
-use version_grammar::faults::WordsFault;
+use version_usage::faults::WordsFault;
 
 /// Why a run failed. It prints as the program writes it to standard error.
 #[derive(Debug, PartialEq, Eq, Drop)]

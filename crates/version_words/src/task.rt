@@ -2,12 +2,12 @@
 
 ghost use Rattle.std.specs.Prelude.{◌≡◌, ◌⊎◌, None, Some, IfErr, IfOk, true, false};
 ghost use Rattle.clap.specs.Words.{all_of, subcommand_rows_of};
-ghost use Rattle.version_grammar.specs.Rows.{column_of, is_given, is_set, rows_in, word_of};
+ghost use Rattle.version_usage.specs.Rows.{column_of, is_given, is_set, rows_in, word_of};
 ghost use Rattle.version_words.specs.Task.{AreColumnNames, AreEachOptions, AreLineOptions, HasWrongCompare, HasWrongDiff, HasNoStep, HasWrongFilter, HasWrongLines, HasWrongNaming, HasWrongPlace, HasWrongSpelling, IsArrangement, IsNaming, IsPlace, IsQuestion, IsSpelling, IsStep, IsTaskOf, IsWrong};
 ghost use Rattle.version_words.specs.{Words.IsTaskIn, Words.IsWrongIn};
-ghost use Rattle.version_grammar.specs.Named.{place_named};
-ghost use Rattle.version_grammar.specs.Rows.{command_in};
-ghost use Rattle.version_grammar.specs.Wrong.{ComesOfWrong};
+ghost use Rattle.version_usage.specs.Named.{place_named};
+ghost use Rattle.version_usage.specs.Rows.{command_in};
+ghost use Rattle.version_usage.specs.Wrong.{ComesOfWrong};
 
 use clap::ArgMatches;
 use std::alloc::Global;
@@ -15,21 +15,21 @@ use version_answers::{Naming, Spelling, Step};
 use version_commands::{
     Arrangement, Choice, ColumnNames, EachOptions, LineOptions, Lists, Question, Task, VersionPlace,
 };
-use version_grammar::faults::WordsFault;
-use version_grammar::named::{Verb, operator_named, place_named};
-use version_grammar::rows::{
+use version_lines::{Column, Separators};
+use version_usage::faults::WordsFault;
+use version_usage::named::{Verb, operator_named, place_named};
+use version_usage::rows::{
     column_at, column_of, command_in, end_of, has_option_of_lists, header_of, invalid_of, is_crlf,
     is_given, is_set, key_column, lacks_set, level_of, line_end, name_of_column, number_of,
     refuse_columns, scheme_column_of, scheme_of, separators_of, text_of, texts_of, word_of,
     words_of,
 };
-use version_grammar::table::{
+use version_usage::table::{
     A, B, COUNT, CRLF, EXPLAIN, GROUP, INVALID_TO, INVERT_MATCH, JSON, KEY_COLUMN, LISTS, MATCH,
     OTHER, PLACE, PRE_WORD, PREFIX, PROGRESS, REVERSE, SCHEME, SCHEME_COLUMN, SET, TAGS, UNIQUE,
     WORDS_OF_TEST,
 };
-use version_grammar::wrong::{wrong, wrong_operator, wrong_place};
-use version_lines::{Column, Separators};
+use version_usage::wrong::{wrong, wrong_operator, wrong_place};
 
 /// Returns the task that the words parse as.
 pub fn task_of<'w>(alloc: Global, matches: &ArgMatches<'w>) -> Result<Task<'w>, WordsFault>

@@ -3,8 +3,8 @@
 ghost use Rattle.std.specs.Prelude.{map, string_bytes, IfErr, IfOk};
 ghost use Rattle.clap.specs.Words.{kind_of};
 ghost use Rattle.version_words.specs.Words.{ComesOfWords, IsMistake, Means, Shows};
-ghost use Rattle.version_grammar.specs.Wrong.{ComesOfWrong};
-ghost use Rattle.version_grammar.specs.Wrong.{HasText};
+ghost use Rattle.version_usage.specs.Wrong.{ComesOfWrong};
+ghost use Rattle.version_usage.specs.Wrong.{HasText};
 
 use crate::task::task_of;
 use clap::Error;
@@ -12,12 +12,12 @@ use clap::error::ErrorKind;
 use std::alloc::{AllocError, Global};
 use version_answers::quoted;
 use version_commands::Task;
-use version_grammar::faults::WordsFault;
-use version_grammar::grammar::{ABOUT, program};
-use version_grammar::named::{LEVELS, names_of};
-use version_grammar::near::{similar, with_tip, without_tip};
-use version_grammar::table::COMMANDS;
-use version_grammar::wrong::{MORE, names_of_schemes};
+use version_usage::faults::WordsFault;
+use version_usage::grammar::{ABOUT, program};
+use version_usage::named::{LEVELS, names_of};
+use version_usage::near::{similar, with_tip, without_tip};
+use version_usage::table::COMMANDS;
+use version_usage::wrong::{MORE, names_of_schemes};
 
 /// Reads the words after the program's name: a task, or what is wrong with them and how they are used.
 pub fn read_words<'w>(alloc: Global, words: &'w [String]) -> Result<Task<'w>, WordsFault>

@@ -16,7 +16,7 @@ use std::env::Env;
 use std::process::ExitCode;
 use std::{env, io};
 use version_commands::TaskFault;
-use version_grammar::faults::WordsFault;
+use version_usage::faults::WordsFault;
 use version_words::{Fault, run};
 
 // The status that a shell gives for a program whose reader has gone: that of the signal SIGPIPE.

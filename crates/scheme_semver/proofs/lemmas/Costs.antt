@@ -5,8 +5,8 @@ use Rattle.std.specs.{Char.is_ascii_digit, Cmp.first_so, Cmp.second_so, List.lis
 use Rattle.version_order.proofs.lemmas.{Bytes.identifier_no_dot, Costs.KeysCost, Cuts.cut_first-length, NumberBytes.number_length, Runs.split_some}
 use Rattle.version_order.specs.{keys.Codes.number_bytes, texts.Bytes.hyphen, texts.Bytes.is_identifier_byte, texts.Bytes.plus, texts.Cuts.cut_first, texts.Cuts.is_dot, texts.Cuts.pieces, texts.Front.is_digits, texts.Front.starts_with_digit}
 use Rattle.version_rules.specs.{grammar.Chunk.PlainChunk, grammar.SemVer.PlainSemVer, order.Parts.chunk_bytes, order.Parts.release_bytes}
-use Rattle.version_texts.proofs.lemmas.key.Pieces.{more_items, text_chunk}
-use Rattle.version_texts.specs.Key.{chunk_of, chunks_of}
+use Rattle.version_pieces.proofs.lemmas.Pieces.{more_items, text_chunk}
+use Rattle.version_pieces.specs.Pieces.{chunk_of, chunks_of}
 use Rattle.scheme_semver.proofs.lemmas.Reading.{semver_read}
 use Rattle.scheme_semver.specs.Reading.{before_metadata, behind_core, core_pieces, is_of_core, pre_release_of, tail_of}
 use Rattle.scheme_semver.specs.Texts.{is_chunk, is_identifier, is_number, is_section, of_numbers, of_three, semver_of}

@@ -5,7 +5,7 @@ use Rattle.std.specs.{Cmp.first_so, Cmp.second_so, List.list_all, List.prefix_le
 use Rattle.version_order.proofs.lemmas.Front.{begins-drop, list_all-take_while}
 use Rattle.version_order.specs.texts.{Bytes.hyphen, Bytes.plus, Cuts.pieces, Cuts.cut_first, Front.begins}
 use Rattle.version_rules.specs.grammar.{Chunk.PlainChunk, SemVer.PlainSemVer}
-use Rattle.version_texts.specs.Key.{chunks_of}
+use Rattle.version_pieces.specs.Pieces.{chunks_of}
 use Rattle.scheme_semver.specs.Reading.{before_metadata, behind_core, core_pieces, is_of_core, pre_release_of, tail_of}
 use Rattle.scheme_semver.specs.{Texts.is_section, Texts.of_numbers, Texts.semver_of, Texts.without_metadata, declared.reader.Section.TheVariants.PreRelease, declared.reader.Section.TheVariants.Metadata}
 

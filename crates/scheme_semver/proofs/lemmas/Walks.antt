@@ -11,8 +11,8 @@ use Rattle.version_order.proofs.lemmas.Viable.Pieces.{and-assoc, and-true, split
 use Rattle.version_order.specs.texts.Bytes.{dot, hyphen, is_identifier_byte, is_metadata_byte, plus}
 use Rattle.version_order.specs.{Viable.IsLeft, Viable.IsLongestViable, Viable.IsCut, Viable.Stops, texts.Cuts.cut_first, texts.Cuts.is_dot, texts.Cuts.pieces, texts.Front.behind_digits, texts.Front.begins}
 use Rattle.version_rules.specs.grammar.{Chunk.PlainChunk, SemVer.PlainSemVer}
-use Rattle.version_texts.proofs.lemmas.Viable.{no_digits, some_bytes}
-use Rattle.version_texts.specs.Key.{chunks_of}
+use Rattle.version_pieces.proofs.lemmas.Pieces.{no_digits, some_bytes}
+use Rattle.version_pieces.specs.Pieces.{chunks_of}
 use Rattle.scheme_semver.proofs.lemmas.{Numbers.last_number, Numbers.next_number, Numbers.other_number, Reading.semver_read, SemVer.allows_no_other, SemVer.section_bytes}
 use Rattle.scheme_semver.specs.Reading.{before_metadata, behind_core, core_pieces, is_core, is_of_core, is_pre_release, is_tail, pre_release_of, tail_of}
 use Rattle.scheme_semver.specs.Texts.{allows, is_chunk, is_number, is_section, of_numbers, of_three, semver_of}

@@ -1,6 +1,6 @@
 -- Texts of ASCII.
-use Rattle.std.proofs.Common.{◌≡◌, ℕ, suc, zero, ◌<◌, lit<, Bool, true, List, [], ◌∷◌, arith, refl, false, ap, ◌∙◌, get_or, map, zero-add, ◌+◌, ◌*◌, ◌-◌, ◌≤◌, drop, length, length-drop, take, sym, subst}
-use Rattle.std.specs.{Char.is_ascii_alphanumeric, Char.is_ascii_alphabetic, Char.is_ascii_digit, Cmp.first_so, Cmp.second_so, Cmp.Lexicographic.slice_cmp, Int.from_be_bytes, Int.w64, List.list_all, List.range_with_len}
+use Rattle.std.proofs.Common.{◌≡◌, ℕ, suc, zero, ◌<◌, lit<, Bool, true, List, [], ◌∷◌, ◌++◌, arith, refl, false, ap, ◌∙◌, get_or, map, zero-add, ◌+◌, ◌*◌, ◌-◌, ◌≤◌, drop, length, length-drop, take, sym, subst}
+use Rattle.std.specs.{Char.is_ascii_alphanumeric, Char.is_ascii_alphabetic, Char.is_ascii_digit, Cmp.first_so, Cmp.second_so, Cmp.Lexicographic.slice_cmp, Int.from_be_bytes, Int.w32, Int.w64, List.list_all, List.range_with_len}
 use Rattle.std.specs.{Ordering.nat_cmp, Ordering.ordering_reverse, Ordering.ordering_then, Str.IsAscii, declared.cmp.Ordering.Ordering}
 use Rattle.std.specs.declared.cmp.Ordering.TheVariants.{Less, Equal, Greater}
 use Rattle.version_order.specs.texts.Bytes.{is_metadata_byte, is_identifier_byte, HasDigits, is_section_byte, dot}
@@ -287,3 +287,30 @@ pub eight_same : (xs ys : List ℕ) → AreBytes xs → AreBytes ys → 8 ≤ le
     ≡ bytes_cmp xs ys
 eight_same xs ys xs_bytes ys_bytes xs_long ys_long tie =
     grind (arith, take_all, length-drop, nat_tests, length_last, lengths, eight_tied, exact_unsigned)
+
+-- ---- four bytes as a number
+
+-- two numbers compare by their quotients by 256, and then by their remainders
+by_256s : (m n r s : ℕ) → r < 256 → s < 256
+    → ordering_then (nat_cmp m n) (nat_cmp r s) ≡ nat_cmp (m * 256 + r) (n * 256 + s)
+by_256s m n r s low down =
+    by_first m n (nat_cmp r s) (nat_cmp (m * 256 + r) (n * 256 + s))
+    (λ less. grind (arith, nat_tests))
+    (λ same. grind (arith, nat_tests))
+    (λ more. grind (arith, nat_tests))
+
+-- two lists that begin with four bytes compare by the numbers of these, and then by the rests
+pub four_first : (xs ys more rest : List ℕ) → length xs ≡ 4 → length ys ≡ 4 → AreBytes xs
+    → AreBytes ys → bytes_cmp (xs ++ more) (ys ++ rest)
+    ≡ ordering_then (nat_cmp (from_be_bytes w32 xs) (from_be_bytes w32 ys)) (bytes_cmp more rest)
+four_first (a ∷ b ∷ c ∷ d ∷ []) (e ∷ f ∷ g ∷ h ∷ []) more rest long too xs_bytes ys_bytes =
+    let second = by_256s a e b f (xs_bytes 1) (ys_bytes 1) in
+    let third = by_256s (a * 256 + b) (e * 256 + f) c g (xs_bytes 2) (ys_bytes 2) in
+    let last = by_256s ((a * 256 + b) * 256 + c) ((e * 256 + f) * 256 + g) d h (xs_bytes 3)
+    (ys_bytes 3) in
+    let same : (p q r s : ℕ)
+    → ((p * 256 + q) * 256 + r) * 256 + s ≡ p * 16777216 + q * 65536 + r * 256 + s =
+    λ p q r s. omega arith in
+    rw (← same a b c d, ← same e f g h, ← last, ← third, ← second, then_assoc, then_assoc, then_assoc)
+    refl
+four_first _ _ more rest long too xs_bytes ys_bytes = absurd (omega (arith, long, too))

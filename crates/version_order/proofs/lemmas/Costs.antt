@@ -1,5 +1,5 @@
 -- How many bytes a key has at most: so many for each byte of its text, and so many beside.
-use Rattle.std.proofs.Common.{◌≡◌, ◌∙◌, ◌<◌, ◌≤◌, ◌+◌, ◌*◌, ◌-◌, ◌⊎◌, [], ℕ, zero, suc, inl, inr, length-append, Bool, List, ◌∷◌, Option, None, Some, IfSome, false, true, ap, arith, if◌then◌else◌, length, refl, ◌==◌, drop, sym, take}
+use Rattle.std.proofs.Common.{◌≡◌, ◌∙◌, ◌<◌, ◌≤◌, ◌+◌, ◌*◌, ◌⊎◌, [], ℕ, zero, suc, inl, inr, length-append, Bool, List, ◌∷◌, Option, None, Some, IfSome, false, true, ap, arith, if◌then◌else◌, length, refl, ◌==◌, drop, sym, take}
 use Rattle.std.proofs.Math.Nat.{mul-le-mul_left}
 use Rattle.version_order.proofs.lemmas.{Codes.ends_within, Cuts.cut_last-length, Cuts.epoch_length, Front.list_all-take_while, NumberBytes.number_length, Runs.run_cons}
 use Rattle.version_order.specs.texts.Front.{behind_digits, number_front, run_value, starts_with_digit, Front, behind, begins, map_value, optional, repeated, whole}

@@ -1,4 +1,4 @@
--- Numerals: the front of an unsigned number reads what is spelled, and nothing else.
+-- Numerals and operators: the front of each reads what is spelled, and nothing else.
 use Rattle.std.proofs.Common.{◌≡◌, ◌+◌, ◌*◌, ◌-◌, ◌<◌, ◌^◌, ℕ, true, List, get_or, length, take, arith, Result, Ok, Err, OkIff, Option, SomeIff, rules, ◌==◌, false, [], ◌∷◌, ◌++◌, Some, None, nat_lt, refl, sym, ap, ◌∙◌, inl, inr, ◌%◌, Bool, ◌||◌, ◌⊎◌, codes}
 use Rattle.std.proofs.lemmas.List.{append-nil, drop_all, drop_at, take_all, take_at}
 use Rattle.std.proofs.lemmas.{Bool.cases_Bool, Bool.eqb-true, Bool.ltb-true, Bool.lt-ltb, Bool.Decides.nat_tests, Fmt.decimal-digits_value, Fmt.decimal_by_steps, Int.Digits.digits_value_more}

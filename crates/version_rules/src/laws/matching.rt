@@ -4,15 +4,12 @@ ghost use Rattle.std.specs.Prelude.{◌⊎◌, ◌↔◌, IsTrue, List};
 ghost use Rattle.version_rules.specs.{grammar.Versioning.PlainVersioning, requirement.Matching.MatchesAll, requirement.Range.inexact_members, requirement.Range.IsIn, requirement.Range.range_of, requirement.Requirement.PlainRequirement};
 ghost use Rattle.version_rules.specs.worked.Ranges.{WorkedRanges};
 
-// For every list of requirements and every version, the list matches the version or does not.
-fn requirements_told()
-    ensures { (list : List PlainRequirement) (v : PlainVersioning)
-        → MatchesAll list v ⊎ (¬ (MatchesAll list v)) }
-{}
-
-// Each version that a list of requirements matches is in the range of the list. If the range is exact, the list
-// matches each version in it. Otherwise the members that need not match each version in their range decide.
+// A list of requirements matches a version or does not. Each version that it matches is in its range. If the range is
+// exact, the list matches each version in it. Otherwise the members that need not match each version in their range
+// decide.
 fn ranges()
+    ensures told { (list : List PlainRequirement) (v : PlainVersioning)
+        → MatchesAll list v ⊎ (¬ (MatchesAll list v)) }
     ensures within { (list : List PlainRequirement) (v : PlainVersioning)
         → MatchesAll list v → IsIn (range_of list) v }
     ensures exact { (list : List PlainRequirement) (v : PlainVersioning)

@@ -31,18 +31,15 @@ fn parts()
     ensures printed { IsPrinted SpellsPart chunk_text }
 {}
 
-// A part that stands last is exactly one last part, which prints as the part does.
-fn last_parts()
-    ensures rule { (part : PlainChunk) (last : PlainLast)
-        → (last_of part ≡ last) ↔ IsLastOf part last }
-    ensures printed { (part : PlainChunk) → last_text (last_of part) ≡ chunk_text part }
-{}
-
-// The body of a general version parses as bodies are spelled, and prints as its text.
+// The body of a general version parses as bodies are spelled, and prints as its text. A part that stands last is exactly
+// one last part, which prints as the part does.
 fn bodies()
     ensures sound { IsSound SpellsBody body_front }
     ensures complete { IsComplete SpellsBody (EndsList (EndsRun is_ascii_alphanumeric)) body_front }
     ensures printed { IsPrinted SpellsBody body_text }
+    ensures last { (part : PlainChunk) (last : PlainLast)
+        → (last_of part ≡ last) ↔ IsLastOf part last }
+    ensures last_printed { (part : PlainChunk) → last_text (last_of part) ≡ chunk_text part }
 {}
 
 // A release parses after its hyphen as releases are spelled, and prints as its text.

@@ -4,7 +4,6 @@ use Rattle.std.proofs.lemmas.Grind.{common_steps}
 use Rattle.std.specs.{Cmp.nat_cmp_total, Cmp.tied_itself, List.Sorted.IsStrictlySortedBy, Ordering.nat_cmp, declared.cmp.Ordering.TheVariants.Less}
 use Rattle.version_order.specs.{Keyed.BeginsKey, Keyed.PlainKeyed, declared.ends.Kept.Kept, keys.Lists.bytes_cmp}
 use Rattle.version_sets.specs.{Comparison.asks_parts, Comparison.ends_with, Form.Rise, declared.read.comparison.Comparison.Comparison}
-use Rattle.version_order.specs.declared.ends.Kept.TheVariants as kept
 
 begins_less : (bytes : List ℕ) (b : ℕ) (more : List ℕ) → bytes_cmp bytes (bytes ++ b ∷ more) ≡ Less
 begins_less [] b more = refl

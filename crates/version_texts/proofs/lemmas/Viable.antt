@@ -12,6 +12,7 @@ use Rattle.version_texts.specs.Scan.{is_chunk, is_messy, is_metadata_tail, is_no
 use Rattle.version_texts.proofs.lemmas.scan.{Section.no_mark_in_run, Section.no_dot_in_run, Section.chunk_digits, Shape.has_epoch-append, TextKind.kind_law}
 use Rattle.version_rules.specs.grammar.Versioning.{versioning_of}
 use Rattle.version_rules.specs.declared.kind.Kind.TheVariants as kind
+use Rattle.version_pieces.proofs.lemmas.Pieces.{no_digits, some_bytes}
 
 -- ---- what is left of a text as a version of each kind, piece by piece
 
@@ -69,14 +70,6 @@ some_metadata text more run rest cut run_is rest_is =
     (run_left is_metadata_byte refl more run rest run_is rest_is))
 
 -- ---- chunks
-
-pub no_digits : (run : List ℕ) → list_all is_ascii_digit (run ++ 97 ∷ []) ≡ false
-no_digits [] = refl
-no_digits (b ∷ run) = and-false (is_ascii_digit b) _ (no_digits run)
-
-pub some_bytes : (run : List ℕ) → (length (run ++ 97 ∷ []) == 0) ≡ false
-some_bytes [] = refl
-some_bytes (b ∷ run) = eqb-suc-zero (length (run ++ 97 ∷ []))
 
 -- with a letter behind it, any run is a chunk
 pub word : (test : ℕ → Bool) → test 97 ≡ true → (run : List ℕ) → list_all test run ≡ true

@@ -1,7 +1,6 @@
 pub mod Difference
 pub mod Kept
 pub mod Lasts
-pub mod Piece
 pub mod Places
 pub mod Ties
 pub mod Variants

@@ -4,11 +4,11 @@ ghost use Rattle.std.specs.Prelude.{◌≡◌};
 ghost use Rattle.version_texts.specs.{Key.parts_of, Key.text_key, Order.first_differing, Order.key_difference, Scan.Fits};
 
 use crate::key::body_at;
-use crate::order::delimiters::Delimiters;
 use crate::order::part::compare_parts_to;
 use crate::order::{compare_epochs, compare_tails};
 use crate::scan::shape::Shape;
 use version_order::behind_first;
+use version_pieces::Delimiters;
 
 /// Where two versions differ first.
 #[derive(Clone, Copy, Debug, PartialEq, Eq)]

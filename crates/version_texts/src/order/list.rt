@@ -5,10 +5,10 @@ ghost use Rattle.std.specs.declared.cmp.Ordering.TheVariants.{Equal};
 ghost use Rattle.version_rules.specs.key.{Key.sections_cmp, PartKey.list_cmp, PartKey.part_cmp, PartKey.part_key};
 ghost use Rattle.version_texts.specs.Key.{lists_of, parts_of, sections_of};
 
-use crate::order::delimiters::Delimiters;
 use crate::order::part::compare_parts_to;
 use std::cmp::Ordering;
 use version_order::{Class, after_byte, begins_with, behind_first, compare_if_numbers};
+use version_pieces::Delimiters;
 
 // Compares two lists of parts. The first place where they differ decides:
 // word < end of the list < number.

@@ -2,14 +2,14 @@
 
 ghost use Rattle.std.specs.Prelude.{◌≡◌, Some, false};
 ghost use Rattle.std.specs.{List.before_first, Option.option_cmp, declared.cmp.Ordering.TheVariants.Equal};
-ghost use Rattle.version_order.specs.{keys.Lists.bytes_cmp, keys.Lists.none_last_cmp, texts.Cuts.from_first, texts.Front.number_front, texts.Front.begins};
+ghost use Rattle.version_order.specs.{keys.Lists.none_last_cmp, texts.Cuts.from_first, texts.Front.number_front, texts.Front.begins};
 ghost use Rattle.version_rules.specs.key.PartKey.{part_cmp, part_key, suffix_of, numbered_cmp, split_cmp, split_of};
-ghost use Rattle.version_texts.specs.{Key.delimits, Key.in_run, declared.order.delimiters.Run.TheVariants.Word};
+ghost use Rattle.version_pieces.specs.Pieces.{delimits, in_run};
+ghost use Rattle.version_pieces.specs.declared.runs.Run.TheVariants.{Word};
 
-use crate::order::delimiters::{Delimiters, Run};
-use crate::order::run::compare_runs;
 use std::cmp::Ordering;
 use version_order::{Class, Compared, begins_with, compare_numbers};
+use version_pieces::{Delimiters, Run, compare_runs, compare_texts};
 
 // Compares two texts by their first parts, which go to the ends that are given. If these are equal, returns what
 // follows them.
@@ -37,7 +37,7 @@ pub(crate) fn compare_parts_to<'a>(delimiters: Delimiters, a: &'a [u8], b: &'a [
 
 // Compares what follows two numbers, up to the ends of the parts. An empty suffix comes last.
 #[inline(always)]
-#[tactic(auto, using(crate::proofs::lemmas::order::Piece::no_bytes, crate::proofs::lemmas::order::Piece::no_suffix, crate::proofs::lemmas::order::Piece::some_suffix))]
+#[tactic(auto, using(version_pieces::proofs::lemmas::Pieces::no_bytes, version_pieces::proofs::lemmas::Pieces::no_suffix, version_pieces::proofs::lemmas::Pieces::some_suffix))]
 fn compare_suffixes<'a>(delimiters: Delimiters, a: &'a [u8], b: &'a [u8]) -> Compared<'a>
     ensures order { result.order
         ≡ none_last_cmp split_cmp (suffix_of (before_first (delimits delimiters) a.now))
@@ -99,17 +99,4 @@ fn compare_numbered<'a>(delimiters: Delimiters, a: &'a [u8], b: &'a [u8]) -> Com
         (false, true) => Compared::new(Ordering::Less, a, b),
         (false, false) => Compared::new(Ordering::Equal, a, b),
     }
-}
-
-// Compares two texts by the bytes before their first ends.
-#[inline(always)]
-#[tactic(auto, using(crate::proofs::lemmas::order::Piece::run_is_piece))]
-pub(crate) fn compare_texts<'a>(delimiters: Delimiters, a: &'a [u8], b: &'a [u8]) -> Compared<'a>
-    ensures order { result.order
-        ≡ bytes_cmp (before_first (delimits delimiters) a.now) (before_first (delimits delimiters) b.now) }
-    ensures rest { result.order ≡ Equal → result.rest.now ≡ from_first (delimits delimiters) a.now }
-    ensures other_rest { result.order ≡ Equal
-        → result.other_rest.now ≡ from_first (delimits delimiters) b.now }
-{
-    compare_runs(a, b, Run::Part(delimiters))
 }

@@ -9,13 +9,13 @@ ghost use Rattle.version_texts.specs.{Key.parts_behind, Key.parts_of, Key.text_k
 
 use crate::key::body_at;
 use crate::key::whole::compare_end;
-use crate::order::delimiters::Delimiters;
 use crate::order::part::compare_parts_to;
 use crate::order::{compare, compare_epochs};
 use crate::requirement::range::kept_parts;
 use crate::scan::shape::Shape;
 use std::cmp::Ordering;
 use version_order::{Class, End, Kept, begins_with, behind_first};
+use version_pieces::Delimiters;
 
 /// Compares two ends of ranges by the texts and the shapes of their versions.
 pub fn compare_ends(

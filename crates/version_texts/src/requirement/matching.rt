@@ -72,7 +72,7 @@ fn general_match_caret(wanted: &[u8], wanted_shape: Shape, text: &[u8], shape: S
 
 // The parts of the body of a version.
 #[inline(always)]
-#[tactic(auto, using(crate::proofs::lemmas::order::Piece::parts_begin))]
+#[tactic(auto, using(crate::proofs::lemmas::key::Pieces::parts_begin))]
 fn body_parts(text: &[u8], shape: Shape) -> TextParts<'_>
     requires { Fits text.now shape }
     ensures { first_part result.0.now ∷ more_parts result.0.now ≡ parts_of (body_in text.now shape) }

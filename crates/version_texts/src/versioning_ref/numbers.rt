@@ -66,7 +66,7 @@ pub fn from_piece(text: &[u8], n: usize) -> Option<&[u8]>
 }
 
 // The first section of a text that no colon follows.
-#[tactic(auto, using(crate::proofs::lemmas::versioning_ref::Section::section_is, crate::proofs::lemmas::versioning_ref::Section::section_passed, crate::proofs::lemmas::order::Piece::run_is_piece, crate::proofs::lemmas::scan::Shape::is_colon))]
+#[tactic(auto, using(crate::proofs::lemmas::versioning_ref::Section::section_is, crate::proofs::lemmas::versioning_ref::Section::section_passed, version_pieces::proofs::lemmas::Pieces::run_is_piece, crate::proofs::lemmas::scan::Shape::is_colon))]
 fn section(text: &[u8]) -> &[u8]
     ensures { result.now ≡ section_in text.now }
 {

@@ -1,15 +1,15 @@
 -- What the words of a run mean, and their faults.
-use Rattle.version_grammar.specs.Grammar.{program_app}
+use Rattle.version_usage.specs.Grammar.{program_app}
 use Rattle.version_words.specs.Words.{command_of, faults, shows, AreWrong, HasAnswer, IsMistake, IsTaskIn, IsWrongIn, Means, Shows}
-use Rattle.version_grammar.specs.Rows.{command_in}
+use Rattle.version_usage.specs.Rows.{command_in}
 use Rattle.version_words.specs.Task.{IsTaskOf}
-use Rattle.version_grammar.specs.declared.faults.WordsFault.{WordsFault}
-use Rattle.version_grammar.specs.declared.named.Verb.{Verb}
+use Rattle.version_usage.specs.declared.faults.WordsFault.{WordsFault}
+use Rattle.version_usage.specs.declared.named.Verb.{Verb}
 use Rattle.clap.specs.Words.{is_simple, is_simple_and_free, App, fault_of, kind_of, subcommand_rows_of, HasKind, HasMatchesOf, Row}
 use Rattle.clap.specs.{declared.error.Error.Error, declared.error.kind.ErrorKind.ErrorKind, declared.parser.matches.ArgMatches.ArgMatches}
 use Rattle.version_commands.specs.declared.options.{Task.Task, Task.TheVariants.Say}
 use Rattle.std.proofs.Common.{◌≡◌, ℕ, true, false, List, [], ◌∷◌, refl, ◌++◌, String, Global, inl, inr, ap, sym, subst, ◌∙◌, ◌<◌, ◌+◌, Option, None, Some}
-use Rattle.version_grammar.specs.declared.named.Verb.TheVariants as verb
+use Rattle.version_usage.specs.declared.named.Verb.TheVariants as verb
 
 -- it is a command whose matches and faults `clap` tells
 pub program-is-simple : is_simple program_app ≡ true

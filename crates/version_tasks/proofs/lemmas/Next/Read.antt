@@ -10,7 +10,8 @@ use Rattle.version_order.specs.texts.Bytes.{dot}
 use Rattle.version_rules.proofs.lemmas.{Body.body_printed, Chunk.digit_alphanumeric, Numeral.numeral_printed, Versioning.strict_is_general}
 use Rattle.version_texts.specs.{Scan.is_numeral, VersioningRef.epoch_and_parts, VersioningRef.numbers_alone, VersioningRef.numeral_value, VersioningRef.version_in}
 use Rattle.version_texts.proofs.lemmas.scan.Spelled.{NonePass, body_pieces, chunk_bytes, none_pass, numeral_passes, numeral_spells, no_numeral, pieces_give}
-use Rattle.version_texts.proofs.lemmas.{order.Piece.pieces_are, scan.Section.digits_not}
+use Rattle.version_texts.proofs.lemmas.{scan.Section.digits_not}
+use Rattle.version_pieces.proofs.lemmas.Pieces.{pieces_are}
 use Rattle.version_order.proofs.lemmas.Bytes.{alphanumeric_no_dot}
 use Rattle.version_tasks.specs.Next.{IsNext, NoNext, all_of, last_number, last_place, numbers_of}
 use Rattle.version_tasks.specs.NextText.{is_zero, is_zero_number, next_text, zeros_text}

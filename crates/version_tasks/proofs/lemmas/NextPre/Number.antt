@@ -8,12 +8,14 @@ use Rattle.version_order.specs.texts.Cuts.{is_dot, pieces, behind_piece, first_p
 use Rattle.version_order.specs.{keys.Codes.then_equal, texts.Bytes.dot, texts.Bytes.is_identifier_byte, texts.Front.begins, texts.Front.is_run, texts.Grammar.SpellsDotted}
 use Rattle.version_tasks.specs.NextPreText.{word_text, IsLeastNumber, NonePass, Passes, is_release, is_word, word_chunks}
 use Rattle.version_tasks.specs.NextPre.{AreNamed}
-use Rattle.version_texts.proofs.lemmas.{order.Piece.pieces_are, scan.Spelled.release_chunks, scan.Spelled.split-append, scan.Spelled.split_run, scan.Spelled.numeral_spells}
+use Rattle.version_texts.proofs.lemmas.{scan.Spelled.release_chunks, scan.Spelled.split-append, scan.Spelled.split_run, scan.Spelled.numeral_spells}
+use Rattle.version_pieces.proofs.lemmas.Pieces.{pieces_are}
 use Rattle.std.proofs.lemmas.{Bool.and_parts, Bool.cases_Bool, Bool.not-true, List.drop_at, List.take-append-drop, List.take_at, List.Folds.list_all-append, Slice.Eq.bytes_eq-Decides}
 use Rattle.version_tasks.proofs.lemmas.{Next.Order.three_ways, NextPre.Text.dotted, NextPre.Text.chunks_joined, NextPre.Text.release_spelled}
 use Rattle.version_rules.proofs.lemmas.Chunk.{release_printed}
 use Rattle.version_order.proofs.lemmas.NumberBytes.{above, below}
-use Rattle.version_texts.specs.{Key.chunk_of, Key.chunks_of, Scan.is_chunk, Scan.is_numeral, VersioningRef.numeral_value}
+use Rattle.version_texts.specs.{Scan.is_chunk, Scan.is_numeral, VersioningRef.numeral_value}
+use Rattle.version_pieces.specs.Pieces.{chunk_of, chunks_of}
 
 -- ---- chunks and a number after them, compared with the chunks of a pre-release
 

@@ -10,7 +10,8 @@ use Rattle.version_tasks.proofs.lemmas.Next.Text.{ascii_left, ascii_right, decim
 use Rattle.version_tasks.specs.NextPreText.{is_own, is_release, is_word, numbers_text, own_chunks, pre_text, pre_version, word_chunks, word_text}
 use Rattle.version_texts.proofs.lemmas.scan.Spelled.{release_chunks, both_pass, dotted_one, split-append, dotted_passes, dotted_spells}
 use Rattle.version_order.proofs.lemmas.Bytes.{digit_identifier, identifier_no_dot}
-use Rattle.version_texts.specs.{Key.chunk_of, Key.chunks_of, Scan.is_chunk}
+use Rattle.version_texts.specs.{Scan.is_chunk}
+use Rattle.version_pieces.specs.Pieces.{chunk_of, chunks_of}
 
 -- a text passes the test exactly if it spells its chunks
 pub release_spelled : (text : List ℕ) → is_release text ≡ true → SpellsRelease text (chunks_of text)

@@ -1,6 +1,7 @@
 use Rattle.std.proofs.Common.{◌≡◌, ◌⊎◌, ◌∙◌, ℕ, List, ◌∷◌, ap, inl, inr, refl, sym, [], arith}
 use Rattle.version_rules.specs.{key.Key.held_bytes, key.Key.tail_bytes, key.Key.tail_rank, order.Parts.release_bytes}
-use Rattle.version_texts.specs.{Key.chunks_of, Key.tail_of, declared.scan.shape.TailKind.TailKind}
+use Rattle.version_texts.specs.{Key.tail_of, declared.scan.shape.TailKind.TailKind}
+use Rattle.version_pieces.specs.Pieces.{chunks_of}
 use Rattle.version_texts.specs.declared.scan.shape.TailKind.TheVariants.{PreRelease, Release, Sections}
 use Rattle.version_texts.proofs.lemmas.key.Pieces.{sections_held}
 use Rattle.version_order.proofs.lemmas.Sinks.{next_fits, owes_all, owes_rest}

@@ -1,28 +1,20 @@
 -- The pieces of a text between marks, and the bytes of lists of them, piece by piece.
-use Rattle.std.proofs.Common.{◌≡◌, ◌==◌, ◌∙◌, ℕ, Bool, true, false, not, List, [], ◌∷◌, ◌++◌, drop, map, Option, Some, None, refl, sym, ap, inl, inr, arith, append-nil, append_assoc, ◌||◌}
-use Rattle.std.proofs.lemmas.{Bool.cases_Bool, Bool.eqb-true, Bool.and_from, Bool.Decides.nat_tests, List.Concat.flat_map-cons}
+use Rattle.std.proofs.Common.{◌≡◌, ◌≢◌, ◌==◌, ◌∙◌, ℕ, Bool, true, false, List, [], ◌∷◌, ◌++◌, drop, map, Some, refl, sym, ap, inl, inr, arith, append-nil, append_assoc, ◌||◌}
+use Rattle.std.proofs.lemmas.{Bool.cases_Bool, Bool.eqb-true, Bool.and_from, List.Concat.flat_map-cons}
 use Rattle.std.specs.List.{list_all, prefix_len, take_while, list_any, slice_split}
 use Rattle.std.specs.{Char.is_ascii_alphanumeric, Char.is_ascii_digit, Char.is_ascii_alphabetic, Cmp.first_so, Cmp.second_so}
-use Rattle.version_order.specs.keys.{Codes.items_bytes, Codes.list_bytes, Codes.number_bytes, Codes.text_bytes, Lists.with_end}
-use Rattle.version_order.specs.texts.{Bytes.dot, Bytes.is_identifier_byte, Bytes.is_metadata_byte, Bytes.is_section_byte, Cuts.pieces, Front.run_value, Front.is_digits, Front.begins, Grammar.is_sep}
+use Rattle.version_order.specs.keys.{Codes.items_bytes, Codes.list_bytes, Codes.number_bytes, Codes.text_bytes}
+use Rattle.version_order.specs.texts.{Bytes.dot, Bytes.is_section_byte, Cuts.behind_piece, Cuts.first_piece, Cuts.further_pieces, Cuts.is_dot, Cuts.pieces, Front.run_value, Front.is_digits, Front.begins, Grammar.is_sep}
 use Rattle.version_rules.specs.key.PartKey.{part_bytes, part_key, PartKey, suffix_bytes, suffix_of, parts_bytes, split_bytes, split_of}
-use Rattle.version_rules.specs.{key.Key.held_bytes, key.Key.section_bytes, order.Parts.chunk_bytes, order.Parts.release_bytes}
-use Rattle.version_order.proofs.lemmas.Runs.{last_piece, next_piece, not_false, not_true, run_cons, run_none, split_end, split_mark, all_behind, split_some, no_run, rest_within, begins_inner, begins_neither, digit_alphanumeric, letter_alphanumeric, run_and_more}
-use Rattle.version_order.proofs.lemmas.{Bytes.alphanumeric_no_dot, Bytes.alphanumeric_section, Bytes.alphanumeric_identifier, Bytes.letter_other, Front.take_while-all, Front.begins-drop, Front.list_all-take_while, Front.all_weaker}
-use Rattle.version_order.proofs.lemmas.NumberBytes.{text_of_run}
-use Rattle.version_texts.specs.Key.{chunk_of, chunks_of, parts_of, sections_of, tail_of, tail_of_sections}
+use Rattle.version_rules.specs.{key.Key.held_bytes, key.Key.section_bytes, key.Key.tail_rank}
+use Rattle.version_order.proofs.lemmas.Runs.{last_piece, next_piece, run_cons, split_end, split_mark, all_behind, split_some, no_run, rest_within, begins_inner, begins_neither, digit_alphanumeric, letter_alphanumeric, run_and_more}
+use Rattle.version_order.proofs.lemmas.{Bytes.alphanumeric_no_dot, Bytes.alphanumeric_section, Bytes.alphanumeric_identifier, Bytes.letter_other, Front.begins-drop, Front.list_all-take_while, Front.all_weaker}
+use Rattle.version_order.proofs.lemmas.NumberBytes.{number_of_digit, text_of_run}
+use Rattle.version_texts.specs.Key.{parts_of, sections_of, tail_of, tail_of_sections}
 use Rattle.version_texts.specs.{Scan.is_tail_byte, declared.scan.shape.TailKind.TheVariants.Sections}
 use Rattle.version_rules.proofs.lemmas.{Key.part_key-digits, Key.part_key-word, Numeral.split_of-digits, Numeral.split_of-no_digit}
 use Rattle.version_texts.proofs.lemmas.scan.Complex.{section_no_sep}
-
--- the bytes of an item and more items, and of one item alone
-pub more_items : {A : Type 0} (code : Option A → List ℕ) (x : A) (xs : List A)
-    → list_bytes code (x ∷ xs) ≡ code (Some x) ++ list_bytes code xs
-more_items code x xs = flat_map-cons code (Some x) (with_end xs)
-
-pub last_item : {A : Type 0} (code : Option A → List ℕ) (x : A)
-    → list_bytes code (x ∷ []) ≡ code (Some x) ++ code None
-last_item code x = grind (arith, more_items, flat_map-cons, append-nil)
+use Rattle.version_pieces.proofs.lemmas.{Pieces.pieces_are, Pieces.last_item, Pieces.more_items}
 
 -- ---- the classes
 
@@ -102,81 +94,6 @@ first_part text (b ∷ behind) r = elim (cases_Bool (b == dot)) [
       )
   | inr other ↦ ([], last_part text (b ∷ behind) r other ∙ sym (append-nil _))
 ]
-
--- ---- releases
-
--- a chunk of digits
-pub number_chunk : (text : List ℕ) → list_all is_ascii_digit text ≡ true
-    → chunk_bytes (Some (chunk_of text)) ≡ (2 ∷ []) ++ number_bytes (run_value text)
-number_chunk text all = grind (arith, take_while-all)
-
--- any other chunk
-pub text_chunk : (text : List ℕ) → list_all is_ascii_digit text ≡ false
-    → list_all is_identifier_byte text ≡ true
-    → chunk_bytes (Some (chunk_of text)) ≡ ((3 ∷ []) ++ text) ++ 0 ∷ []
-text_chunk text other all = rw other (ap (λ (l : List ℕ). 3 ∷ l) (text_of_run text all))
-
-abbrev pub not_dot : ℕ → Bool
-not_dot b = not (b == dot)
-
-not_dot_apart : (b : ℕ) → not_dot b ≡ true → (b == dot) ≡ false
-not_dot_apart b = not_true (b == dot)
-
-metadata_chunk : (b : ℕ) → is_metadata_byte b ≡ true → not_dot b ≡ true
-    → is_identifier_byte b ≡ true
-metadata_chunk b h k = grind (arith, nat_tests)
-
--- the bytes of a chunk of metadata are letters, digits and hyphens
-pub chunk_of_metadata : (text : List ℕ) → list_all is_metadata_byte text ≡ true
-    → list_all is_identifier_byte (take_while not_dot text) ≡ true
-chunk_of_metadata [] all = refl
-chunk_of_metadata (b ∷ text) all = elim (cases_Bool (not_dot b)) [
-  | inl passes ↦
-      let left = chunk_of_metadata text (second_so _ _ all) in
-      let here = metadata_chunk b (first_so _ _ all) passes in
-      ap (list_all is_identifier_byte) (run_cons not_dot b text passes).0 ∙ rw here left
-  | inr fails ↦ ap (list_all is_identifier_byte) (run_none not_dot b text fails).0
-]
-
--- what follows a chunk is metadata too
-pub rest_of_metadata : (text rest behind : List ℕ) (b : ℕ) → list_all is_metadata_byte text ≡ true
-    → rest ≡ drop (prefix_len not_dot text) text → rest ≡ b ∷ behind
-    → list_all is_metadata_byte behind ≡ true
-rest_of_metadata text rest behind b all r d =
-    second_so _ _
-    (ap (list_all is_metadata_byte) (sym d ∙ r) ∙ all_behind is_metadata_byte _ text all)
-
--- a chunk and a dot, and the chunks after them
-pub chunk_and_more : (text chunk rest behind : List ℕ) (b : ℕ) → chunk ≡ take_while not_dot text
-    → rest ≡ drop (prefix_len not_dot text) text → rest ≡ b ∷ behind
-    → release_bytes (chunks_of text)
-    ≡ chunk_bytes (Some (chunk_of chunk)) ++ release_bytes (chunks_of behind)
-chunk_and_more text chunk rest behind b c r d =
-    let ended : not_dot b ≡ false = ap (begins not_dot) (sym d ∙ r) ∙ begins-drop not_dot text in
-    let cut : pieces text ≡ chunk ∷ pieces behind =
-    split_mark not_dot (λ b. b == dot) not_dot_apart text b behind (sym r ∙ d)
-    (not_false (b == dot) ended)
-    ∙ ap (λ (l : List ℕ). l ∷ pieces behind) (sym c) in
-    ap (λ (l : List (List ℕ)). release_bytes (map chunk_of l)) cut
-    ∙ more_items chunk_bytes (chunk_of chunk) (chunks_of behind)
-
--- the last chunk
-pub last_chunk : (text chunk rest : List ℕ) → chunk ≡ take_while not_dot text
-    → rest ≡ drop (prefix_len not_dot text) text → rest ≡ []
-    → release_bytes (chunks_of text) ≡ chunk_bytes (Some (chunk_of chunk)) ++ 1 ∷ []
-last_chunk text chunk rest c r none = grind (arith, split_end, not_dot_apart, last_item)
-
--- a release begins with its first chunk, whatever follows
-pub first_chunk : (text chunk : List ℕ) → chunk ≡ take_while not_dot text
-    → (more : List ℕ)
-    × (release_bytes (chunks_of text) ≡ chunk_bytes (Some (chunk_of chunk)) ++ more)
-first_chunk text chunk c = by (drop (prefix_len not_dot text) text) refl
-  where
-    by : (rest : List ℕ) → rest ≡ drop (prefix_len not_dot text) text
-        → (more : List ℕ)
-        × (release_bytes (chunks_of text) ≡ chunk_bytes (Some (chunk_of chunk)) ++ more)
-    by [] r = (1 ∷ [], last_chunk text chunk [] c r refl)
-    by (b ∷ behind) r = (_, chunk_and_more text chunk (b ∷ behind) behind b c r refl)
 
 -- ---- the bytes of parts whose texts are runs of letters and digits
 
@@ -317,6 +234,30 @@ plain_of_run text rest digit r other =
     number_and_suffix text rest digit r
     ∙ ap (λ (xs : List ℕ). 3 ∷ (number_bytes (run_value text) ++ suffix_bytes (suffix_of xs))) none
 
+-- a digit with neither a letter nor a digit behind it is a part
+lone_digit : (text rest : List ℕ) (digit : ℕ) → text ≡ digit ∷ rest
+    → is_ascii_digit digit ≡ true → begins is_ascii_alphanumeric rest ≡ false
+    → take_while is_ascii_alphanumeric text ≡ digit ∷ []
+lone_digit text rest digit t passes ends =
+    ap (take_while is_ascii_alphanumeric) t
+    ∙ (run_cons is_ascii_alphanumeric digit rest (digit_alphanumeric digit passes)).0
+    ∙ ap (λ (l : List ℕ). digit ∷ l) (no_run is_ascii_alphanumeric rest ends).0
+
+-- the bytes of the part 0
+pub bytes_of_zero : (digit : ℕ) → digit ≡ 48
+    → part_bytes (Some (part_key (digit ∷ []))) ≡ 3 ∷ 0 ∷ 2 ∷ []
+bytes_of_zero digit zero = rw zero refl
+
+-- the bytes of a part of one digit other than 0
+pub bytes_of_digit : (digit : ℕ) → is_ascii_digit digit ≡ true → digit ≢ 48
+    → part_bytes (Some (part_key (digit ∷ []))) ≡ 3 ∷ 1 ∷ digit ∷ 2 ∷ []
+bytes_of_digit digit passes other =
+    ap (λ (l : List ℕ). part_bytes (Some (part_key l)))
+    (sym (lone_digit (digit ∷ []) [] digit refl passes refl))
+    ∙ plain_of_run (digit ∷ []) [] passes (sym (run_cons is_ascii_digit digit [] passes).1) refl
+    ∙ ap (λ (l : List ℕ). 3 ∷ (l ++ 2 ∷ []))
+    (number_of_digit (digit ∷ []) [] digit refl passes other refl)
+
 pub rest_of_plain : (text rest : List ℕ) → rest ≡ drop (prefix_len is_ascii_digit text) text
     → begins is_ascii_alphabetic rest ≡ false
     → drop (prefix_len is_ascii_alphanumeric rest) rest ≡ rest
@@ -412,3 +353,12 @@ sections_held text =
     ap (λ (l : List (List ℕ)). map parts_of l) some.2 in
     ap (λ (l : List (List PartKey)). held_bytes (tail_of_sections l)) all
     ∙ ap (λ (l : List (List PartKey)). list_bytes section_bytes l) (sym all)
+
+-- the parts of a text are that of its first piece, and further ones
+pub parts_begin : (text : List ℕ) → parts_of text
+    ≡ part_key (first_piece text) ∷ map part_key (further_pieces is_dot (behind_piece text))
+parts_begin text = ap (map part_key) (pieces_are is_dot text)
+
+-- the rank of a tail that has sections
+pub rank_of_sections : (text : List ℕ) → 4 ≡ tail_rank (tail_of_sections (sections_of text))
+rank_of_sections text = grind (arith, pieces_are)

@@ -5,7 +5,9 @@ use Rattle.std.specs.{Cmp.Equal-is, Cmp.IsTotalOrder, Cmp.tied_itself, List.posi
 use Rattle.std.specs.declared.cmp.Ordering.TheVariants.{Less, Equal, Greater}
 use Rattle.version_rules.specs.{grammar.Versioning.PlainVersioning, grammar.Versioning.versioning_plain_cmp, grammar.Versioning.SameVersioning, key.Key.Key, key.Key.key_of, key.Key.precedence, key.Key.tail_cmp}
 use Rattle.version_rules.specs.{key.PartKey.part_cmp, key.PartKey.PartKey, laws.Key.tail_total, laws.Key.keys_tied, laws.Part.part_total, laws.Part.parts_same, laws.Versioning.versioning_plain_total}
-use Rattle.version_texts.proofs.lemmas.{order.Piece.pieces_are, order.Piece.further_of_more, order.Piece.further_of_none, order.Piece.chain, requirement.EndOrder.further, requirement.EndOrder.parts_are}
+use Rattle.version_texts.proofs.lemmas.{requirement.EndOrder.further, requirement.EndOrder.parts_are}
+use Rattle.version_pieces.proofs.lemmas.Pieces.{pieces_are, further_of_more, further_of_none}
+use Rattle.version_texts.proofs.lemmas.requirement.Matching.{chain}
 use Rattle.version_texts.specs.declared.order.difference.Difference.TheVariants.{Same, Tie, Epoch, Part, Tail}
 use Rattle.version_texts.specs.{Key.first_part, Key.parts_of, Order.difference_of, Order.first_differing, Order.key_difference, declared.order.difference.Difference.Difference}
 use Rattle.version_order.specs.texts.Cuts.{behind_piece, is_dot}

@@ -6,7 +6,9 @@ use Rattle.version_rules.specs.{key.PartKey.PartKey, key.PartKey.part_key, requi
 use Rattle.version_rules.proofs.lemmas.Grammar.{split_last-append}
 use Rattle.version_order.specs.texts.Cuts.{behind_piece, first_piece, is_dot, pieces}
 use Rattle.version_texts.specs.Key.{parts_of}
-use Rattle.version_texts.proofs.lemmas.{order.Piece.parts_begin, order.Piece.piece_ends, order.Piece.piece_grows, scan.Spelled.NonePass, scan.Spelled.split-append}
+use Rattle.version_texts.proofs.lemmas.{scan.Spelled.NonePass, scan.Spelled.split-append}
+use Rattle.version_texts.proofs.lemmas.key.Pieces.{parts_begin}
+use Rattle.version_pieces.proofs.lemmas.Pieces.{piece_ends, piece_grows}
 
 -- a text without dots is one part
 pub one_part : (text : List ℕ) → NonePass is_dot text → parts_of text ≡ part_key text ∷ []

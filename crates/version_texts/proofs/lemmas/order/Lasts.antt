@@ -15,7 +15,8 @@ use Rattle.version_order.proofs.lemmas.{Bytes.letter_other, Front.list_all-take_
 use Rattle.version_texts.specs.Order.{is_lettered, is_numbered, last_tie, bodies_tie, messy_tie, parts_tie, after_letters}
 use Rattle.version_texts.specs.Scan.{is_numeral}
 use Rattle.version_texts.proofs.lemmas.key.Pieces.{next_part, only_part, rest_and_more, rest_of_last, no_digits}
-use Rattle.version_texts.proofs.lemmas.{order.Piece.pieces_are, order.Variants.number_key, scan.Spelled.digits_from, scan.Spelled.numeral_passes, scan.Spelled.numeral_spells}
+use Rattle.version_texts.proofs.lemmas.{order.Variants.number_key, scan.Spelled.digits_from, scan.Spelled.numeral_passes, scan.Spelled.numeral_spells}
+use Rattle.version_pieces.proofs.lemmas.Pieces.{pieces_are}
 use Rattle.version_rules.specs.grammar.Chunk as chunk
 
 -- ---- the keys of decomposed parts

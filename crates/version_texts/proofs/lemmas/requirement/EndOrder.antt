@@ -1,5 +1,6 @@
 -- The ends of ranges, compared by their epochs, their parts and what follows these.
-use Rattle.version_texts.proofs.lemmas.{key.KeyRoom.enough_room, key.KeyRoom.end_length, order.Piece.pieces_are, order.Piece.decided, order.Piece.further_of_more, order.Piece.further_of_none}
+use Rattle.version_texts.proofs.lemmas.{key.KeyRoom.enough_room, key.KeyRoom.end_length}
+use Rattle.version_pieces.proofs.lemmas.Pieces.{pieces_are, decided, further_of_more, further_of_none}
 use Rattle.version_texts.specs.Range.{Begins, IsOfPart, after_key, behind_parts, fixed_bytes, is_key, kept_of, mark_of}
 use Rattle.version_texts.specs.{Key.parts_behind, Key.parts_of, Key.room_for, Mixed.mixed}
 use Rattle.version_order.specs.{Keyed.AreWithin, Keyed.end_of, declared.ends.End.End, keys.Codes.number_bytes, keys.Codes.items_bytes, keys.Lists.bytes_cmp}

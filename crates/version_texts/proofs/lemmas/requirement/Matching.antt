@@ -230,3 +230,11 @@ module _ (wanted text : List ℕ) (wanted_shape shape : Shape)
       (general_match w v general.0 general.1)
 
 pub ruleset kinds = (kind_is)
+
+-- a match that holds exactly if another does
+pub chain : {P Q R : Type 0} → (P ↔ Q) → (Q ↔ R) → (P ↔ R)
+chain first second = (λ p. second.0 (first.0 p), λ r. first.1 (second.1 r))
+
+-- no match
+pub refused : {P : Type 0} → (¬ P) → (IsTrue false ↔ P)
+refused none = (λ e. cc e, λ p. absurd (none p))

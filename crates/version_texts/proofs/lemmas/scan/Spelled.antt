@@ -10,7 +10,8 @@ use Rattle.version_rules.specs.key.PartKey.{chunk_parts, part_key, section_parts
 use Rattle.version_order.specs.texts.{Bytes.dot, Bytes.is_identifier_byte, Bytes.is_metadata_byte, Bytes.is_section_byte, Cuts.is_dot, Cuts.pieces, Front.is_digits, Front.begins, Front.is_run, Grammar.SpellsDotted}
 use Rattle.version_rules.proofs.lemmas.{Chunk.digit_alphanumeric, Chunk.part_printed, Last.last_printed, MChunk.mchunk_printed, MChunk.spelled_run, Numeral.nine_digits}
 use Rattle.version_order.proofs.lemmas.{Bytes.digit_identifier, Bytes.identifier_no_dot, Bytes.alphanumeric_no_dot, Bytes.alphanumeric_section, Front.all_weaker, Runs.and-false}
-use Rattle.version_texts.specs.{Key.chunk_of, Key.chunks_of, Key.parts_of, Scan.is_numeral, Scan.is_chunk}
+use Rattle.version_texts.specs.{Key.parts_of, Scan.is_numeral, Scan.is_chunk}
+use Rattle.version_pieces.specs.Pieces.{chunk_of, chunks_of}
 
 -- ---- the pieces of a text between its dots are the texts of the elements of a list that it spells
 

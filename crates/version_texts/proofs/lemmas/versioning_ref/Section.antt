@@ -12,7 +12,8 @@ use Rattle.version_order.proofs.lemmas.Front.{cases_Option, begins-drop, list_al
 use Rattle.version_order.proofs.lemmas.{Bytes.alphanumeric_no_dot, Runs.not_false, Runs.run_and_more}
 use Rattle.version_rules.proofs.lemmas.MChunk.{spelled_run, spelled_variant}
 use Rattle.version_texts.specs.VersioningRef.{chunk_number, is_other_sign, last_piece, section_in, body_number, last_number}
-use Rattle.version_texts.proofs.lemmas.{order.Piece.piece_ends, order.Piece.piece_grows, order.Piece.pieces_are, scan.Complex.further_text-is, scan.Complex.no_further, scan.Complex.section_no_sep, scan.Complex.sign_bytes}
+use Rattle.version_texts.proofs.lemmas.{scan.Complex.further_text-is, scan.Complex.no_further, scan.Complex.section_no_sep, scan.Complex.sign_bytes}
+use Rattle.version_pieces.proofs.lemmas.Pieces.{piece_ends, piece_grows, pieces_are}
 use Rattle.version_texts.proofs.lemmas.scan.{Shape.is_colon, Spelled.NonePass, Spelled.none_pass, Spelled.pieces_give, Spelled.section_bytes}
 use Rattle.std.proofs.Math.{Dec.eqb-suc-zero, Seq.drop-nil}
 

@@ -6,7 +6,8 @@ use Rattle.version_rules.specs.key.Key.{key_tie_cmp, Key, key_of, key_of_mess, k
 use Rattle.version_rules.specs.{declared.kind.Kind.Kind, grammar.Chunk.PlainChunk, grammar.Conversions.version_of_semver, grammar.Last.last_text, grammar.Mess.PlainMess, grammar.Mess.SpellsMess}
 use Rattle.version_rules.specs.{grammar.SemVer.PlainSemVer, grammar.SemVer.SpellsSemVer, grammar.Version.PlainVersion, grammar.Version.SpellsVersion, key.PartKey.parts_bytes, key.PartKey.chunk_parts, key.PartKey.part_key}
 use Rattle.version_rules.specs.requirement.{Matching.Matches, Matching.MatchesCaret, Matching.MatchesTilde, Requirement.PlainRequirement, Requirements.Keeps, SemVerMatch.Numbers, SemVerMatch.numbers}
-use Rattle.version_texts.specs.Key.{front_bytes, chunks_of, parts_of, tail_of, text_key}
+use Rattle.version_texts.specs.Key.{front_bytes, parts_of, tail_of, text_key}
+use Rattle.version_pieces.specs.Pieces.{chunks_of}
 use Rattle.version_texts.specs.Scan.{Fits, body_in, shape_at, tail_in, behind_body, shape_of, tail_kind}
 use Rattle.version_texts.specs.{Requirement.IsFront, VersioningRef.version_in, VersioningRef.major_text, declared.scan.shape.Shape.Shape, declared.scan.shape.TailKind.TailKind}
 use Rattle.version_texts.specs.declared.scan.shape.TailKind.TheVariants.{PreRelease, Release, Nothing, Sections}

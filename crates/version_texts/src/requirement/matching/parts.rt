@@ -4,11 +4,11 @@ ghost use Rattle.std.specs.Prelude.{◌≡◌, ◌∷◌, ◌↔◌, IsTrue};
 ghost use Rattle.version_rules.specs.{key.Key.strict_body, requirement.SemVerMatch.MatchesCaret, requirement.SemVerMatch.Numbers};
 ghost use Rattle.version_texts.specs.Key.{first_part, more_parts};
 
-use crate::order::delimiters::Delimiters;
 use crate::order::list::compare_parts;
 use crate::order::part::compare_parts_to;
 use std::cmp::Ordering;
 use version_order::{behind_first, split_piece};
+use version_pieces::Delimiters;
 use version_rules::{Parts, parts_match_caret};
 
 // The parts of a text, with dots between them.
@@ -33,7 +33,7 @@ impl<'a> Parts for TextParts<'a> {
     }
 
     #[inline(always)]
-    #[tactic(auto, using(crate::proofs::lemmas::order::Piece::parts_begin))]
+    #[tactic(auto, using(crate::proofs::lemmas::key::Pieces::parts_begin))]
     fn rest(self) -> Option<TextParts<'a>> {
         Some(TextParts(behind_first(split_piece(self.0).1)?))
     }
@@ -41,7 +41,7 @@ impl<'a> Parts for TextParts<'a> {
 
 // Whether `^wanted` matches, of three plain numbers each: the same major, and then a minor and patch that are not less;
 // but as lists of parts if the wanted major is 0.
-#[tactic(auto, using(crate::proofs::lemmas::order::Piece::chain, crate::proofs::lemmas::order::Piece::parts_begin, crate::proofs::lemmas::order::Piece::refused, crate::proofs::lemmas::requirement::Matching::caret_differs, crate::proofs::lemmas::requirement::Matching::caret_of_major, crate::proofs::lemmas::requirement::Matching::caret_of_zero))]
+#[tactic(auto, using(crate::proofs::lemmas::requirement::Matching::chain, crate::proofs::lemmas::key::Pieces::parts_begin, crate::proofs::lemmas::requirement::Matching::refused, crate::proofs::lemmas::requirement::Matching::caret_differs, crate::proofs::lemmas::requirement::Matching::caret_of_major, crate::proofs::lemmas::requirement::Matching::caret_of_zero))]
 pub(crate) fn numbers_match_caret(wanted: TextParts<'_>, numbers: TextParts<'_>) -> bool
     ensures { (w v : Numbers)
         → first_part wanted.entry.0.now ∷ more_parts wanted.entry.0.now ≡ strict_body w.0 w.1 w.2

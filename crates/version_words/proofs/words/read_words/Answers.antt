@@ -1,7 +1,7 @@
 use Rattle.std.proofs.Common.{map, string_bytes}
 use Rattle.std.proofs.lemmas.Result.{IfErr-weaker, IfOk-weaker}
 use Rattle.version_words.proofs.lemmas.Words.{rows-wrong, task-meant, text-meant, words-wrong}
-use Rattle.version_grammar.proofs.lemmas.Words.{wrong_so}
+use Rattle.version_usage.proofs.lemmas.Words.{wrong_so}
 use Rattle.version_words.proofs.words.read_words.Goals as goal
 
 pub returns-in-Ok-clause-task : goal.returns-in-Ok-clause-task

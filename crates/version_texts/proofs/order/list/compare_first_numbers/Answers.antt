@@ -2,7 +2,7 @@ use Rattle.std.proofs.Common.{◌≡◌, ◌∙◌, ◌==◌, ℕ, List, true, O
 use Rattle.std.specs.Ordering.{nat_cmp, ordering_index, ordering_then}
 use Rattle.version_order.specs.texts.Front.{run_value, starts_with_digit}
 use Rattle.version_rules.specs.key.PartKey.{list_cmp}
-use Rattle.version_texts.proofs.lemmas.order.Piece.{pieces_are, decided, numbers_compared}
+use Rattle.version_pieces.proofs.lemmas.Pieces.{pieces_are, decided, numbers_compared}
 use Rattle.version_order.proofs.lemmas.Bytes.{digit_no_dot}
 use Rattle.version_texts.specs.Key.{parts_of}
 use Rattle.version_texts.proofs.order.list.compare_first_numbers.Goals as goal

@@ -1,6 +1,7 @@
 use Rattle.std.proofs.Common.{◌≡◌, ℕ, List, [], ◌∷◌, Ordering, map, ap, refl, false, arith}
 use Rattle.std.specs.{List.onto_first, List.slice_split, Ordering.ordering_then, declared.cmp.Ordering.TheVariants.Less, declared.cmp.Ordering.TheVariants.Equal}
-use Rattle.version_texts.specs.{Key.lists_of, Key.parts_of, declared.order.delimiters.Delimiters.TheVariants.Dots}
+use Rattle.version_texts.specs.{Key.lists_of, Key.parts_of}
+use Rattle.version_pieces.specs.declared.runs.Delimiters.TheVariants.{Dots}
 use Rattle.version_texts.proofs.order.list.compare_in_turn.Goals as goal
 
 one_piece : (text : List ℕ) → slice_split (λ (b : ℕ). false) text ≡ text ∷ []

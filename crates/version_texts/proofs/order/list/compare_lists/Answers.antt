@@ -1,12 +1,14 @@
 use Rattle.std.proofs.Common.{◌∙◌, ap, sym, arith, ◌≡◌, ◌==◌, ℕ, Bool, true, false, List, [], ◌∷◌, map, None, Some, not, Ordering, refl, inl, inr}
 use Rattle.std.specs.{List.before_first, List.slice_split, Ordering.ordering_reverse, Ordering.ordering_index, Ordering.ordering_then}
 use Rattle.std.specs.declared.cmp.Ordering.TheVariants.{Less, Equal, Greater}
-use Rattle.version_texts.proofs.lemmas.order.Piece.{decides, digit_no_end, dot_no_sign, dot_or_sign, leaves, tied, run_is_piece, part_of_number, part_of_word, piece_ends, piece_grows, pieces_are}
+use Rattle.version_pieces.proofs.lemmas.Pieces.{decides, digit_no_end, dot_no_sign, dot_or_sign, leaves, tied, run_is_piece, part_of_number, part_of_word, piece_ends, piece_grows, pieces_are}
 use Rattle.std.proofs.lemmas.Bool.{cases_Bool, eqb-true}
 use Rattle.version_order.specs.texts.{Bytes.dot, Cuts.from_first, Cuts.further_pieces, Cuts.is_dot, Front.begins}
 use Rattle.version_rules.specs.key.{Key.sections_cmp, PartKey.PartKey, PartKey.list_cmp, PartKey.part_cmp, PartKey.part_key}
 use Rattle.version_order.proofs.lemmas.{Front.begins-drop, Runs.not_false}
-use Rattle.version_texts.specs.{Key.delimits, Key.sign_of, Key.parts_of, declared.order.delimiters.Delimiters.Delimiters}
+use Rattle.version_texts.specs.{Key.parts_of}
+use Rattle.version_pieces.specs.Pieces.{delimits, sign_of}
+use Rattle.version_pieces.specs.declared.runs.Delimiters.{Delimiters}
 use Rattle.version_texts.proofs.order.list.compare_lists.Goals as goal
 
 -- Two lists of sections, by their first parts and what follows these.

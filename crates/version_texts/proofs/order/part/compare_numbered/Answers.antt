@@ -1,8 +1,8 @@
 use Rattle.std.proofs.Common.{◌∙◌, ap, sym, arith}
 use Rattle.std.specs.List.{before_first}
 use Rattle.version_order.specs.{keys.Lists.bytes_cmp, texts.Cuts.from_first}
-use Rattle.version_texts.proofs.lemmas.order.Piece.{digits_same, digit_no_end, decides, leaves, numbered_compared, tied}
-use Rattle.version_texts.specs.Key.{delimits}
+use Rattle.version_pieces.proofs.lemmas.Pieces.{digits_same, digit_no_end, decides, leaves, numbered_compared, tied}
+use Rattle.version_pieces.specs.Pieces.{delimits}
 use Rattle.version_texts.proofs.order.part.compare_numbered.Goals as goal
 
 pub returns-then-ne-clause-order : goal.returns-then-ne-clause-order

@@ -2,8 +2,8 @@ use Rattle.std.proofs.Common.{◌∙◌, ap, sym, arith}
 use Rattle.std.specs.List.{before_first}
 use Rattle.version_order.specs.{keys.Lists.none_last_cmp, texts.Cuts.from_first}
 use Rattle.version_rules.specs.key.PartKey.{suffix_of, split_cmp}
-use Rattle.version_texts.proofs.lemmas.order.Piece.{digits_same, digit_no_end, decides, leaves, number_above_word, numbers_compared, tied, word_below_number, words_compared}
-use Rattle.version_texts.specs.Key.{delimits}
+use Rattle.version_pieces.proofs.lemmas.Pieces.{digits_same, digit_no_end, decides, leaves, number_above_word, numbers_compared, tied, word_below_number, words_compared}
+use Rattle.version_pieces.specs.Pieces.{delimits}
 use Rattle.version_texts.proofs.order.part.compare_parts_to.Goals as goal
 
 pub returns-then-ne-clause-order : goal.returns-then-ne-clause-order

@@ -3,8 +3,10 @@ use Rattle.std.specs.{List.before_first, List.prefix_len, List.take_while, Optio
 use Rattle.version_order.proofs.lemmas.Front.{begins-drop}
 use Rattle.version_order.specs.{keys.Lists.bytes_cmp, texts.Cuts.from_first, texts.Front.number_front}
 use Rattle.version_rules.specs.key.PartKey.{numbered_cmp, split_cmp, split_of}
-use Rattle.version_texts.specs.{Key.delimits, Key.in_run, declared.order.delimiters.Delimiters.Delimiters, declared.order.delimiters.Run.TheVariants.Word}
-use Rattle.version_texts.proofs.lemmas.order.Piece.{decides, leaves, tied, run_is_word}
+use Rattle.version_pieces.specs.Pieces.{delimits, in_run}
+use Rattle.version_pieces.specs.declared.runs.Delimiters.{Delimiters}
+use Rattle.version_pieces.specs.declared.runs.Run.TheVariants.{Word}
+use Rattle.version_pieces.proofs.lemmas.Pieces.{decides, leaves, tied, run_is_word}
 use Rattle.version_texts.proofs.order.part.compare_words.Goals as goal
 
 abbrev behind_word : Delimiters → List ℕ → List ℕ

@@ -1,6 +1,6 @@
 use Rattle.std.proofs.Common.{arith}
 use Rattle.version_texts.proofs.lemmas.requirement.EndOrder.{begins_with_mark, by_keys, epochs_decide, fronts_decide, same_marks}
-use Rattle.version_texts.proofs.lemmas.order.Piece.{tied}
+use Rattle.version_pieces.proofs.lemmas.Pieces.{tied}
 use Rattle.version_texts.proofs.requirement.end_order.compare_ends.Goals.{else-is_key-via-else-is_key, else-is_key-via-then-is_key+else-is_key-2}
 use Rattle.version_texts.proofs.requirement.end_order.compare_ends.Goals as goal
 

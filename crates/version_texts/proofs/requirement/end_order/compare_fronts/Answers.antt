@@ -1,6 +1,6 @@
 use Rattle.std.proofs.Common.{◌∙◌, sym, arith}
 use Rattle.version_texts.proofs.lemmas.requirement.EndOrder.{by_marks, front, fronts_compare, further_is, left_is_shorter, one_ended}
-use Rattle.version_texts.proofs.lemmas.order.Piece.{decided, tied}
+use Rattle.version_pieces.proofs.lemmas.Pieces.{decided, tied}
 use Rattle.version_texts.specs.Key.{parts_behind}
 use Rattle.version_texts.proofs.requirement.end_order.compare_fronts.Goals as goal
 

@@ -1,4 +1,5 @@
-use Rattle.version_texts.proofs.lemmas.{order.Piece.chain, requirement.Matching.match_of_general, requirement.Matching.caret_of_strict, versioning_ref.VersioningRef.shape_fits}
+use Rattle.version_texts.proofs.lemmas.{requirement.Matching.match_of_general, requirement.Matching.caret_of_strict, versioning_ref.VersioningRef.shape_fits}
+use Rattle.version_texts.proofs.lemmas.requirement.Matching.{chain}
 use Rattle.version_texts.proofs.requirement.matching.matches_caret.Goals as goal
 
 pub body_parts-requires : goal.body_parts-requires

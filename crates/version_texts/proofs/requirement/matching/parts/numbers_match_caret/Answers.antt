@@ -1,6 +1,7 @@
 use Rattle.std.proofs.Common.{◌∙◌, ap, sym}
 use Rattle.std.specs.Ordering.{is_eq, is_ge}
-use Rattle.version_texts.proofs.lemmas.{order.Piece.parts_begin, requirement.Matching.caret_of_major}
+use Rattle.version_texts.proofs.lemmas.{requirement.Matching.caret_of_major}
+use Rattle.version_texts.proofs.lemmas.key.Pieces.{parts_begin}
 use Rattle.version_texts.proofs.requirement.matching.parts.numbers_match_caret.Goals as goal
 
 pub returns-then-is_eq : goal.returns-then-is_eq

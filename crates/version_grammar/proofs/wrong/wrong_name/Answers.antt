@@ -1,5 +1,0 @@
-use Rattle.version_grammar.proofs.lemmas.Words.{fault_quotes}
-use Rattle.version_grammar.proofs.wrong.wrong_name.Goals as goal
-
-pub returns : goal.returns
-returns c = fault_quotes c.args.word.now c.text_of_names.result c.fault_of.result c.text_of_names.ensures c.fault_of.ensures
