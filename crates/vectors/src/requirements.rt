@@ -5,7 +5,8 @@ use crate::owned::range_of;
 use crate::tasks;
 use crate::text::{agreed, bytes_of, first_word, put_word};
 use std::alloc::Global;
-use version_texts::{RangeRef, RequirementRef, RequirementsRef, VersioningRef, list_matches};
+use version_requirements::{RangeRef, RequirementRef, RequirementsRef, list_matches};
+use version_texts::VersioningRef;
 use versions::{Op, Range, Requirement, Requirements, Versioning};
 
 // Members that match everything.

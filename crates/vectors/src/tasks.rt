@@ -3,11 +3,9 @@
 use crate::answers::Written;
 use crate::text::{bytes_of, first_word, last_word, put_word};
 use std::alloc::Global;
-use version_tasks::{
-    Next, Stability, Texts, Wanted, newest_of, next_of, stability_of, version_after_prefix,
-    version_in_tag,
-};
-use version_texts::{RequirementsRef, VersioningRef, conflict_in, why_not};
+use version_requirements::{RequirementsRef, Texts, Wanted, conflict_in, newest_of, why_not};
+use version_tasks::{Next, Stability, next_of, stability_of, version_after_prefix, version_in_tag};
+use version_texts::VersioningRef;
 
 /// Writes the answer to a question.
 pub fn answer(alloc: Global, call: &str, given: &str, output: &mut String) -> Written {

@@ -1,9 +1,9 @@
 //! Sinks: a count of bytes, a buffer with room, and a comparison with given bytes.
 
-ghost use Rattle.std.specs.Prelude.{◌≡◌, ◌++◌, [], ⊤, List, ℕ};
+ghost use Rattle.std.specs.Prelude.{◌≡◌, ◌++◌, ◌+◌, ◌≤◌, [], ⊤, length, List, ℕ};
 ghost use Rattle.std.specs.Ordering.{ordering_then};
 ghost use Rattle.version_order.specs.keys.Lists.{bytes_cmp};
-ghost use Rattle.version_order.specs.keys.Sinks.{count_with, leads_both, leads_none, order_with, room_both, room_first, room_none, room_then, FitsRoom, Leads, TakesRoom};
+ghost use Rattle.version_order.specs.keys.Sinks.{count_with, leads_both, leads_none, order_with, put_at, room_both, room_first, room_none, room_then, FitsRoom, Leads, TakesRoom};
 
 use crate::sink::Sink;
 use std::cmp::Ordering;
@@ -66,6 +66,13 @@ impl<'a> Sink for Room<'a> {
         self.end += 1;
     }
 
+    // The four bytes are written at once.
+    #[inline(always)]
+    fn put_four(&mut self, first: u8, second: u8, third: u8, last: u8) {
+        write_four(self.room, self.end, &[first, second, third, last]);
+        self.end += 4;
+    }
+
     #[inline(always)]
     fn is_decided(&self) -> bool {
         false
@@ -78,6 +85,17 @@ impl<'a> Sink for Room<'a> {
     ghost takes_none = { room_none };
 
     ghost takes_both = { room_both };
+}
+
+// Writes four bytes into a buffer from a place on.
+#[inline(always)]
+fn write_four(room: &mut [u8], start: usize, bytes: &[u8; 4])
+    requires { start + 4 ≤ length room.old }
+    ensures { room.new ≡ put_at room.old start bytes.now }
+{
+    let (_, rest) = room.split_at_mut(start);
+    let (place, _) = rest.split_at_mut(4);
+    place.copy_from_slice(bytes);
 }
 
 /// A comparison of the bytes written with given ones, of which these are left, as far as no byte differed.

@@ -69,17 +69,18 @@ module _ (read_as : List ℕ → Option PlainKeyed) (words : Operators) where
       by None = Not NotVersion
       by (Some version) = unless_slip (slip_of read_as version text) (allowed c version)
 
+  -- the same by what a comparison is with `.*` behind its version, if that may be
+  abbrev pub with_prefix : Option Comparison → List ℕ → Asked
+  with_prefix None text = Not StarBehind
+  with_prefix (Some prefix) text = with_version prefix text
+
   -- a comparison with the text of its version, behind which `.*` may stand
   abbrev pub asked : Comparison → List ℕ → Asked
   asked c text = by (before_star text)
     where
-      of_star : Option Comparison → List ℕ → Asked
-      of_star None front = Not StarBehind
-      of_star (Some prefix) front = with_version prefix front
-
       by : Option (List ℕ) → Asked
       by None = with_version c text
-      by (Some front) = of_star (starred c) front
+      by (Some front) = with_prefix (starred c) front
 
   -- a member from a place to another, with a version whose text begins between these, before what is read of
   -- the pieces behind it

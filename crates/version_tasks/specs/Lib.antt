@@ -1,4 +1,3 @@
-pub mod Newest
 pub mod Next
 pub mod NextPre
 pub mod NextPreText

@@ -1,18 +1,16 @@
 //! What people ask of versions beside their order. `version_in_tag` and `version_after_prefix` find the version in a
-//! tag of git, or in another name of a release; `stability_of` returns how stable a version is, by the words in it;
-//! `newest_of` finds the newest of several texts. `next_of` returns the version that comes next at a place,
-//! `next_release` at the last one, and `next_pre` the pre-release that comes next. Each answer is a definition of
-//! `specs/` on plain data. No call allocates, and each takes time at most linear in its texts.
+//! tag of git, or in another name of a release; `stability_of` returns how stable a version is, by the words in it.
+//! `next_of` returns the version that comes next at a place, `next_release` at the last one, and `next_pre` the
+//! pre-release that comes next. Each answer is a definition of `specs/` on plain data. No call allocates, and each takes
+//! time at most linear in its texts.
 #![tactic(auto)]
 
 mod laws;
-mod newest;
 mod next;
 mod pre;
 mod stability;
 mod tag;
 
-pub use newest::{Candidates, Texts, Wanted, newest_of};
 pub use next::{Next, next_of, next_release};
 pub use pre::{NextPre, next_pre};
 pub use stability::{Stability, stability_of, stability_of_text};

@@ -1,7 +1,14 @@
+pub mod Difference
+pub mod EndOrder
+pub mod Kept
+pub mod KeyRoom
+pub mod Lasts
 pub mod Library
+pub mod Matching
+pub mod Pieces
+pub mod Places
+pub mod Ties
+pub mod Variants
 pub mod Viable
-pub mod key
-pub mod order
-pub mod requirement
 pub mod scan
 pub mod versioning_ref

@@ -18,11 +18,12 @@ use version_order::compare_numbers;
 use version_pieces::compare_releases;
 
 /// Compares two versions by their texts, part by part, up to the first difference.
-pub fn compare(a: &[u8], a_shape: Shape, b: &[u8], b_shape: Shape) -> Ordering
-    requires a_fits { Fits a.now a_shape }
-    requires b_fits { Fits b.now b_shape }
-    ensures { result ≡ precedence (text_key a.now a_shape) (text_key b.now b_shape) }
+pub fn compare(a: &[u8], a_shape: &Shape, b: &[u8], b_shape: &Shape) -> Ordering
+    requires a_fits { Fits a.now a_shape.now }
+    requires b_fits { Fits b.now b_shape.now }
+    ensures { result ≡ precedence (text_key a.now a_shape.now) (text_key b.now b_shape.now) }
 {
+    let (a_shape, b_shape) = (*a_shape, *b_shape);
     let epochs = compare_epochs(a, a_shape, b, b_shape);
     if epochs != Ordering::Equal {
         return epochs;

@@ -9,12 +9,12 @@ ghost use Rattle.version_rules.specs.grammar.Versioning.{versioning_kind};
 pub(crate) mod field;
 pub(crate) mod numbers;
 
+use crate::asked::end_order::compare_ends;
+use crate::asked::{matching, range};
 use crate::key::length::{LONGEST_WITH_ROOM, length_with, room_for};
 use crate::key::ties::compare_key_ties;
 use crate::key::whole;
 use crate::order::difference::{Difference, key_difference};
-use crate::requirement::end_order::compare_ends;
-use crate::requirement::{matching, range};
 use crate::scan::scan;
 use crate::scan::shape::{Shape, TailKind};
 use crate::versioning_ref::field::Field;
@@ -101,9 +101,10 @@ impl<'a> VersioningRef<'a> {
         self.text
     }
 
-    // Returns the major number of a strict version as its text has it, and the dot behind it. Empty for other kinds.
+    /// Returns the major number of a strict version as its text has it, and the dot behind it. Empty for other kinds.
+    /// Does not allocate.
     #[tactic(auto, using(crate::proofs::lemmas::versioning_ref::VersioningRef::strict_major, crate::proofs::lemmas::versioning_ref::VersioningRef::other_major))]
-    pub(crate) fn major(&self) -> &'a [u8]
+    pub fn major(&self) -> &'a [u8]
         ensures { result.now ≡ major_text (plain_versioning_ref self.now) }
     {
         match self.shape.kind {
@@ -195,14 +196,14 @@ impl<'a> VersioningRef<'a> {
         ensures { result ≡ precedence (key_of (plain_versioning_ref self.now))
             (key_of (plain_versioning_ref other.now)) }
     {
-        order::compare(self.text, self.shape, other.text, other.shape)
+        order::compare(self.text, &self.shape, other.text, &other.shape)
     }
 
     /// Returns where two versions of any kind differ first, in what the order compares: in their epochs, in a part, or
     /// in their tails. A version whose parts end differs there from one that has more, as `1.2` in part 2 from `1.2.0`.
     /// `Same` and `Tie` come exactly where `precedence` is `Equal`: `Same` where `==` holds, otherwise `Tie`. Does not
     /// allocate.
-    #[tactic(auto, using(crate::proofs::lemmas::order::Difference::by_keys, crate::proofs::lemmas::versioning_ref::VersioningRef::shape_fits, crate::proofs::lemmas::versioning_ref::VersioningRef::key_read))]
+    #[tactic(auto, using(crate::proofs::lemmas::Difference::by_keys, crate::proofs::lemmas::versioning_ref::VersioningRef::shape_fits, crate::proofs::lemmas::versioning_ref::VersioningRef::key_read))]
     pub fn difference(&self, other: &VersioningRef<'_>) -> Difference
         ensures { result ≡ difference_of (plain_versioning_ref self.now)
             (plain_versioning_ref other.now) }
@@ -383,7 +384,7 @@ impl<'a> VersioningRef<'a> {
 
     // Returns a size that is enough for an end of a range.
     #[inline(always)]
-    #[tactic(auto, using(crate::proofs::lemmas::key::KeyRoom::end_length, crate::proofs::lemmas::versioning_ref::VersioningRef::spelled))]
+    #[tactic(auto, using(crate::proofs::lemmas::KeyRoom::end_length, crate::proofs::lemmas::versioning_ref::VersioningRef::spelled))]
     fn end_room(&self, end: End) -> usize
         ensures { saturated (length (end_bytes end (key_of (plain_versioning_ref self.now)))) ≤ result }
     {
@@ -414,14 +415,9 @@ impl<'a> VersioningRef<'a> {
         whole::compare_end(self.text, self.shape, end, bytes)
     }
 
-    // Compares the bytes of an end of a range with those of another, up to the first difference.
+    /// Compares the bytes of an end of a range with those of another, up to the first difference. Does not allocate.
     #[tactic(auto, using(crate::proofs::lemmas::versioning_ref::VersioningRef::shape_fits, crate::proofs::lemmas::versioning_ref::VersioningRef::key_read))]
-    pub(crate) fn compare_ends(
-        &self,
-        end: End,
-        other: &VersioningRef<'_>,
-        other_end: End,
-    ) -> Ordering
+    pub fn compare_ends(&self, end: End, other: &VersioningRef<'_>, other_end: End) -> Ordering
         ensures { result ≡ bytes_cmp (end_bytes end (key_of (plain_versioning_ref self.now)))
             (end_bytes other_end (key_of (plain_versioning_ref other.now))) }
     {

@@ -4,8 +4,9 @@ use Rattle.version_rules.specs.{grammar.Versioning.PlainVersioning, laws.Matchin
 use Rattle.version_rules.specs.requirement.{Requirement.PlainRequirement, Requirements.requirements_of}
 use Rattle.versions_c.specs.declared.status.TheConstants.{OK, NO_REQUIREMENTS, NO_VERSION, NO_WRONG_MEMBER, ALL_MATCH, NO_CONFLICT}
 use Rattle.versions_c.specs.{Written.IsWritten, declared.why.TheConstants.KIND, declared.why.TheConstants.BELOW, declared.why.TheConstants.ABOVE, declared.why.TheConstants.PARTS}
-use Rattle.version_texts.specs.{Range.IsEmpty, Requirement.IsExcluded, Requirement.excluded_text, declared.requirement.why.Excluded.Excluded, declared.requirement.why.Why.Why}
-use Rattle.version_texts.specs.declared.requirement.why.Why.TheVariants.{Kind, Below, Above, Parts}
+use Rattle.version_requirements.specs.{Requirement.IsExcluded, Requirement.excluded_text, declared.why.Excluded.Excluded, declared.why.Why.Why}
+use Rattle.version_requirements.specs.Range.{IsEmpty}
+use Rattle.version_requirements.specs.declared.why.Why.TheVariants.{Kind, Below, Above, Parts}
 
 -- 1 if something holds, otherwise 0
 abbrev pub bit : {Holds : Type 0} → Holds ⊎ ¬ Holds → ℕ

@@ -2,7 +2,8 @@
 use Rattle.std.specs.Prelude.{◌≡◌, ◌≤◌, ℕ, List, Some, ◌+◌, [], slice_index, slice_range, Option, None, ◌⊎◌, ℤ, ◌∷◌}
 use Rattle.std.specs.Option.{option_map_or}
 use Rattle.version_rules.specs.{grammar.Versioning.PlainVersioning, grammar.Versioning.versioning_text, requirement.Matching.MatchesAll, requirement.Requirement.PlainRequirement}
-use Rattle.version_tasks.specs.{Newest.IsNewest, Newest.given_version, Next.IsLeastAfter, Next.NoneAfter, Stability.rank, Stability.stability_of, Tag.version_in_tag}
+use Rattle.version_tasks.specs.{Next.IsLeastAfter, Next.NoneAfter, Stability.rank, Stability.stability_of, Tag.version_in_tag}
+use Rattle.version_requirements.specs.Newest.{IsNewest, given_version}
 use Rattle.versions_c.specs.{Ranges.has_flag, Written.text_at, Written.IsWritten, declared.newest.TheConstants.TAGS, declared.status.TheConstants.NO_NEXT, declared.status.TheConstants.NO_VERSION}
 
 -- ---- how stable versions are, by the numbers of stabilities

@@ -2,7 +2,7 @@
 use Rattle.std.specs.Prelude.{◌≡◌, ◌⊎◌, ◌&&◌, ℕ, ℤ, Bool, true, false, bit_and, eqb, not, nat_le, IfSome, IsTrue, List, length, Option, Some, None, if◌then◌else◌, [], ◌∷◌, is_some}
 use Rattle.std.specs.declared.cmp.{Ordering.Ordering, Ordering.TheVariants.Less, Ordering.TheVariants.Equal, Ordering.TheVariants.Greater}
 use Rattle.version_order.specs.keys.{Lists.bytes_cmp, Sinks.saturated}
-use Rattle.version_texts.specs.Range.{high_length}
+use Rattle.version_requirements.specs.Range.{high_length}
 use Rattle.version_rules.specs.requirement.Range.{IsIn, PlainRange, bytes_of, has_kind, range_of, inexact_text}
 use Rattle.version_rules.specs.{grammar.Versioning.versioning_kind, grammar.Versioning.PlainVersioning, laws.Matching.matches_all_or_not, requirement.Requirement.PlainRequirement, requirement.Requirements.requirements_of}
 use Rattle.versions_c.specs.declared.ranges.TheConstants.{COMPLEX, EXACT, GENERAL, HIGH, IDEAL}

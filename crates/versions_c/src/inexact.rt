@@ -9,7 +9,8 @@ ghost use Rattle.versions_c.specs.Matching.{match_code, match_status};
 
 use crate::ranges::code;
 use crate::status::{NO_REQUIREMENTS, NO_ROOM, NO_VERSION, OK};
-use version_texts::{VersioningRef, list_matches, write_inexact, wrong_member};
+use version_requirements::{list_matches, write_inexact, wrong_member};
+use version_texts::VersioningRef;
 
 /// Writes the members of a list that its range leaves open.
 #[unsafe(no_mangle)]

@@ -1,16 +1,17 @@
 //! Which versions a list of requirements matches.
 
 ghost use Rattle.std.specs.Prelude.{◌≡◌, ◌≢◌, ◌↔◌, ◌<◌, ℕ, length, slice_index, IfSome, IsTrue, None, Some};
-ghost use Rattle.version_texts.specs.{Range.plain_range_ref, Requirement.wrong_member, VersioningRef.plain_versioning_ref};
+ghost use Rattle.version_texts.specs.{VersioningRef.plain_versioning_ref};
+ghost use Rattle.version_requirements.specs.{Requirement.wrong_member};
+ghost use Rattle.version_requirements.specs.Range.{plain_range_ref};
 ghost use Rattle.version_rules.specs.{grammar.Versioning.versioning_of, requirement.Matching.MatchesAll, requirement.Requirements.requirements_of};
 ghost use Rattle.versions_c.specs.Matching.{list_status, match_code, match_status, wrong_status, Decide};
 ghost use Rattle.versions_c.specs.Written.{text_at, AreOffsets};
 
 use crate::offsets::{answer_each, are_offsets};
 use crate::status::{BAD_OFFSETS, NO_REQUIREMENTS, NO_VERSION, NO_WRONG_MEMBER, OK};
-use version_texts::{
-    RangeRef, RequirementsRef, VersioningRef, list_matches, write_inexact, wrong_member,
-};
+use version_requirements::{RangeRef, RequirementsRef, list_matches, write_inexact, wrong_member};
+use version_texts::VersioningRef;
 
 // The length of a list whose members are all kept as they are.
 const SHORT: usize = 64;

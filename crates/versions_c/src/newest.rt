@@ -2,14 +2,16 @@
 
 ghost use Rattle.std.specs.Prelude.{◌≡◌, ◌≢◌, ◌↔◌, ◌-◌, ◌+◌, ◌<◌, ◌≤◌, ℕ, length, IfNone, IfSome, List, None};
 ghost use Rattle.version_rules.specs.{grammar.Versioning.PlainVersioning, requirement.Requirements.requirements_of};
-ghost use Rattle.version_tasks.specs.{Newest.IsWanted, Newest.NoVersion, Stability.rank, declared.stability.Stability.Stability};
+ghost use Rattle.version_tasks.specs.{Stability.rank, declared.stability.Stability.Stability};
+ghost use Rattle.version_requirements.specs.Newest.{IsWanted, NoVersion};
 ghost use Rattle.versions_c.specs.{Newest.asked_at, Newest.IsAsked, Newest.IsNewestPlace, Written.text_at, Written.AreOffsets, declared.stabilities.TheConstants.STABLE};
 
 use crate::offsets::{are_offsets, text_at};
 use crate::stabilities::{ALPHA, BETA, RC, STABLE};
 use crate::status::{BAD_OFFSETS, NO_REQUIREMENTS, NO_VERSION, OK};
-use version_tasks::{Candidates, Stability, Wanted, newest_of};
-use version_texts::{RequirementsRef, VersioningRef};
+use version_requirements::{Candidates, RequirementsRef, Wanted, newest_of};
+use version_tasks::Stability;
+use version_texts::VersioningRef;
 
 /// Each text has its version as a tag has it.
 pub const TAGS: u32 = 1;

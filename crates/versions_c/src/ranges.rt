@@ -9,8 +9,9 @@ ghost use Rattle.versions_c.specs.{Fields.version_status, Written.text_at, Writt
 
 use crate::offsets::{answer_each, are_offsets};
 use crate::status::{BAD_OFFSETS, NO_REQUIREMENTS, NO_ROOM, NO_VERSION, OK};
+use version_requirements::RangeRef;
 use version_rules::Kinds;
-use version_texts::{RangeRef, VersioningRef};
+use version_texts::VersioningRef;
 
 /// Versions of the strict kind are in the range.
 pub const IDEAL: u32 = 1;

@@ -2,12 +2,14 @@
 
 ghost use Rattle.std.specs.Prelude.{◌≡◌, ◌≢◌, IfSome};
 ghost use Rattle.version_rules.specs.{grammar.Versioning.versioning_of, requirement.Range.range_of, requirement.Requirements.requirements_of};
-ghost use Rattle.version_texts.specs.{Range.IsCrossed, Requirement.ExcludeEachOther, Requirement.IsByEnds};
+ghost use Rattle.version_requirements.specs.{Requirement.ExcludeEachOther, Requirement.IsByEnds};
+ghost use Rattle.version_requirements.specs.Range.{IsCrossed};
 ghost use Rattle.versions_c.specs.Matching.{why_code, why_status, IsConflictStatus, IsExplained, IsToldWhy};
 
 use crate::matching::status_without_version;
 use crate::status::{ALL_MATCH, NO_CONFLICT, NO_REQUIREMENTS, NO_ROOM, OK};
-use version_texts::{Conflict, VersioningRef, Why, conflict_in, why_not};
+use version_requirements::{Conflict, Why, conflict_in, why_not};
+use version_texts::VersioningRef;
 
 /// The version's kind is not one of the requirement's.
 pub const KIND: u32 = 1;

@@ -5,10 +5,9 @@ use super::watch::Watch;
 use std::hash::{DefaultHasher, Hash, Hasher};
 use std::io;
 use std::io::ErrorKind;
+use version_requirements::{RangeRef, RequirementsRef, conflict_in, list_matches, why_not};
 use version_tasks::{Stability, next_of, stability_of, version_after_prefix, version_in_tag};
-use version_texts::{
-    Difference, RangeRef, RequirementsRef, VersioningRef, conflict_in, list_matches, why_not,
-};
+use version_texts::{Difference, VersioningRef};
 use versions::Versioning;
 use versions::key::compare_bytes;
 

@@ -14,7 +14,8 @@ use Rattle.version_rules.specs.grammar.{Body.SpellsRelease, Body.release_text, C
 use Rattle.version_rules.specs.{key.PartKey.PartKey, key.PartKey.list_cmp, key.PartKey.part_cmp, key.PartKey.part_key, laws.Part.parts_same, laws.Part.part_total}
 use Rattle.version_texts.proofs.lemmas.scan.Complex.{further_text-is, no_further, section_no_sep, sections_are, sign_bytes, mess_cut}
 use Rattle.version_texts.proofs.lemmas.scan.Shape.{IsCounted, body_taken, epoch_taken, no_epoch_taken, no_meta, version_cut, IsCut}
-use Rattle.version_texts.proofs.lemmas.{order.Difference.epoch_law, order.Difference.part_law, versioning_ref.Field.spelled_counts, versioning_ref.VersioningRef.versioning_fits, versioning_ref.VersioningRef.versioning_key}
+use Rattle.version_texts.proofs.lemmas.{versioning_ref.Field.spelled_counts, versioning_ref.VersioningRef.versioning_fits, versioning_ref.VersioningRef.versioning_key}
+use Rattle.version_texts.proofs.lemmas.Difference.{epoch_law, part_law}
 use Rattle.version_texts.specs.{Key.parts_of, Key.sections_of, Key.tail_of_sections, Order.difference_of, Scan.body_start, VersioningRef.field_text}
 use Rattle.version_texts.specs.declared.order.difference.Difference.TheVariants.{Epoch, Part}
 use Rattle.version_texts.specs.declared.versioning_ref.field.Field.TheVariants as field

@@ -1,7 +1,7 @@
 -- Hints that are so of a part of a run are so of the whole.
 use Rattle.std.proofs.Common.{◌≡◌, inl, inr, ◌+◌, ◌-◌, ℕ, Bool, true, List, [], ◌∷◌, Bor, length, Option, None, Some, arith, refl}
 use Rattle.std.specs.Option.{option_map}
-use Rattle.version_commands.proofs.lemmas.lines.Ordered.{lines-alike}
+use Rattle.version_commands.proofs.lemmas.Ordered.{lines-alike}
 use Rattle.version_commands.specs.Hints.{first_of, IfTags, IsOfArranged, IsOfArranging, IsOfBody, IsOfEach, IsOfInput, IsOfLines, IsOfRun, TagsMatter}
 use Rattle.version_commands.specs.declared.files.Hint.TheVariants.{NoFile, Tags, WholeLines, Repeated, NothingKept}
 use Rattle.version_commands.specs.{Cause.ComesOfArranging, Cause.ComesOfFirst, Files.inputs_of, Files.Reading, Lists.named_in, declared.faults.TaskFault.TaskFault, declared.files.Hint.Hint, declared.options.Arrangement.Arrangement}

@@ -8,7 +8,7 @@ use crate::lines::write::{whole_if, write_answers};
 use std::alloc::Global;
 use std::io::Write;
 use version_lines::{Answer, LineCommand, LineEnd, Source};
-use version_texts::RequirementsRef;
+use version_requirements::RequirementsRef;
 
 /// Writes those lines of the reader that are versions which the list matches that a word is.
 pub fn write_matched<'w, R: Source, W: Write>(

@@ -15,7 +15,7 @@ use Rattle.version_schemes.proofs.lemmas.Any.{any_precedence_total, any_total, i
 use Rattle.std.proofs.Math.Seq.{drop-append_seam}
 use Rattle.version_rules.specs.declared.kind.Kind.TheVariants.{Ideal}
 use Rattle.version_texts.specs.Order.{kind_on, marked_number, texts_tie}
-use Rattle.version_texts.proofs.lemmas.order.Ties.{texts_tie_total}
+use Rattle.version_texts.proofs.lemmas.Ties.{texts_tie_total}
 use Rattle.version_schemes.specs.any.Order.{PlainAny, any_precedence}
 use Rattle.version_order.proofs.lemmas.Bytes.{AreBytes, sixteen_first}
 

@@ -1,8 +1,8 @@
 -- Bytes written into a buffer.
 use Rattle.std.proofs.Common.{◌≡◌, ◌∙◌, ◌+◌, ◌-◌, ◌<◌, ◌≤◌, ℕ, zero, suc, List, [], ◌∷◌, ◌++◌, append-nil, drop, length, replicate, set, take, refl, ap, sym, arith, zero-add, subst}
-use Rattle.std.proofs.lemmas.List.{length-append, length-replicate, take_all}
+use Rattle.std.proofs.lemmas.{Grind.common_steps, List.length-append, List.length-replicate, List.take_all}
 use Rattle.std.proofs.Math.Seq.{take-append-add, take-append_seam}
-use Rattle.version_order.specs.keys.Sinks.{count_with, length-put, put_at, saturated, Leads}
+use Rattle.version_order.specs.keys.Sinks.{count_with, length-put, put_at, put_nothing, saturated, Leads}
 use Rattle.version_order.specs.declared.sinks.Count.{Count}
 
 -- the first byte, and then the others
@@ -28,6 +28,29 @@ pub put_behind : (list room bytes : List ℕ)
     → put_at (list ++ room) (length list) bytes ≡ list ++ put_at room 0 bytes
 put_behind [] room bytes = refl
 put_behind (x ∷ list) room bytes = ap (λ (l : List ℕ). x ∷ l) (put_behind list room bytes)
+
+-- bytes in the place of as many, and others behind them
+pub put_along : (place rest bytes others : List ℕ) → length place ≡ length bytes
+    → put_at (place ++ rest) 0 (bytes ++ others) ≡ bytes ++ put_at rest 0 others
+put_along [] rest [] others long = refl
+put_along [] rest (b ∷ bytes) others long = absurd (omega (arith, long))
+put_along (x ∷ place) rest [] others long = absurd (omega (arith, long))
+put_along (x ∷ place) rest (b ∷ bytes) others long =
+    ap (λ (l : List ℕ). b ∷ l) (put_along place rest bytes others (omega (arith, long)))
+
+pub put_over : (place rest bytes : List ℕ) → length place ≡ length bytes
+    → put_at (place ++ rest) 0 bytes ≡ bytes ++ rest
+put_over place rest bytes long =
+    ap (put_at (place ++ rest) 0) (sym (append-nil bytes)) ∙ put_along place rest bytes [] long
+    ∙ ap (λ (l : List ℕ). bytes ++ l) (put_nothing rest 0)
+
+pub put_whole : (place bytes : List ℕ) → length place ≡ length bytes → put_at place 0 bytes ≡ bytes
+put_whole place bytes long = grind (arith, common_steps, append-nil place, put_over place, append-nil bytes)
+
+pub put_between : (front place rest bytes : List ℕ) (start : ℕ) → length front ≡ start
+    → length place ≡ length bytes
+    → put_at (front ++ (place ++ rest)) start bytes ≡ front ++ (bytes ++ rest)
+put_between front place rest bytes start at long = grind (arith, common_steps, put_behind, put_over)
 
 -- bytes appended to a list: zeros are added to it, bytes are written over them, and the zeros that
 -- are left are cut off

@@ -6,7 +6,7 @@ use Rattle.version_rules.proofs.lemmas.{Order.key_bytes_alone, Versioning.versio
 use Rattle.version_rules.specs.{declared.kind.Kind.TheVariants.Ideal, grammar.Versioning.versioning_kind, grammar.Versioning.PlainVersioning, grammar.Versioning.versioning_of, grammar.Versioning.versioning_text}
 use Rattle.version_rules.specs.{key.Key.key_of, key.Key.precedence, order.Orders.versioning_cmp}
 use Rattle.version_order.specs.{Keyed.PlainKeyed, Rules.compared, keys.Codes.Writes, keys.Lists.bytes_cmp}
-use Rattle.version_texts.proofs.lemmas.order.Ties.{texts_alike, texts_tie_total}
+use Rattle.version_texts.proofs.lemmas.Ties.{texts_alike, texts_tie_total}
 use Rattle.version_texts.specs.{Mixed.mixed, Order.texts_tie}
 use Rattle.version_order.proofs.lemmas.Codes.{order_by_keys}
 use Rattle.version_schemes.proofs.lemmas.Table.{compare_by_keys, keys_some}

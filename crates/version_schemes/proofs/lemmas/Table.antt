@@ -16,7 +16,8 @@ use Rattle.version_order.proofs.lemmas.{Codes.writes_on, Codes.compares_by_keys,
 use Rattle.version_order.specs.{Facts.key_room, Keyed.AreWithin, Rules.ComparesByKeys, Viable.IsViable}
 use Rattle.version_rules.proofs.lemmas.Order.{key_writes}
 use Rattle.version_rules.specs.{grammar.Versioning.versioning_of, key.Key.key_of}
-use Rattle.version_texts.proofs.lemmas.{Viable.any_kind, requirement.EndOrder.mixed_within}
+use Rattle.version_texts.proofs.lemmas.{Viable.any_kind}
+use Rattle.version_texts.proofs.lemmas.EndOrder.{mixed_within}
 use Rattle.version_texts.specs.{Mixed.mixed, Mixed.mixed_facts, Mixed.mixed_some, Scan.is_general}
 use Rattle.version_schemes.specs.declared.scheme.Scheme.TheVariants.{Deb, Gem, Mixed, Pypi, Rpm, SemVer}
 use Rattle.version_schemes.specs.{Scheme.is_mixed, Scheme.names, Scheme.rules, Scheme.scheme_named, declared.scheme.Scheme.Scheme}

@@ -4,8 +4,8 @@ use Rattle.std.proofs.lemmas.Grind.{common_steps}
 use Rattle.std.specs.Ordering.{is_eq, is_ge, is_gt, is_le, is_lt, ordering_then}
 use Rattle.std.specs.{Cmp.nat_cmp_total, Cmp.tied_itself, FinMap.nat_cmp-IsAntisymmetric, List.concat, List.flat_map, declared.cmp.Ordering.Ordering}
 use Rattle.std.specs.declared.cmp.Ordering.TheVariants.{Less, Equal, Greater}
-use Rattle.version_order.specs.{Keyed.after, Keyed.BeginsKey, Keyed.PlainKeyed, keys.Codes.Writes, keys.Codes.items_bytes, keys.Codes.number_bytes, keys.Lists.bytes_cmp, keys.Sinks.put_at, keys.Sinks.put_both, keys.Sinks.put_nothing}
-use Rattle.version_order.proofs.lemmas.{Codes.writes_alone, NumberBytes.number_writes, Sinks.put_behind}
+use Rattle.version_order.specs.{Keyed.after, Keyed.BeginsKey, Keyed.PlainKeyed, keys.Codes.Writes, keys.Codes.items_bytes, keys.Codes.number_bytes, keys.Lists.bytes_cmp, keys.Sinks.put_at, keys.Sinks.put_both}
+use Rattle.version_order.proofs.lemmas.{Codes.writes_alone, NumberBytes.number_writes, Sinks.put_along, Sinks.put_behind}
 use Rattle.version_sets.specs.{Comparison.ends_with, Form.form_bytes, Form.number, Form.places, Form.has, Pile.AreByOrder, Pile.BeginsWith}
 use Rattle.version_sets.proofs.lemmas.Form.{number_length, row_size}
 use Rattle.version_rules.proofs.lemmas.{Key.lists_same, Key.part_writes, Order.key_writes}
@@ -14,29 +14,6 @@ use Rattle.version_rules.specs.key.PartKey.{PartKey, Number, Word, part_bytes, p
 use Rattle.version_rules.specs.{grammar.Versioning.PlainVersioning, laws.Part.part_total, requirement.Range.begun}
 
 -- ---- bytes written into a buffer, piece by piece
-
--- bytes in the place of as many, and others behind them
-pub put_along : (place rest bytes others : List ℕ) → length place ≡ length bytes
-    → put_at (place ++ rest) 0 (bytes ++ others) ≡ bytes ++ put_at rest 0 others
-put_along [] rest [] others long = refl
-put_along [] rest (b ∷ bytes) others long = absurd (omega (arith, long))
-put_along (x ∷ place) rest [] others long = absurd (omega (arith, long))
-put_along (x ∷ place) rest (b ∷ bytes) others long =
-    ap (λ (l : List ℕ). b ∷ l) (put_along place rest bytes others (omega (arith, long)))
-
-pub put_over : (place rest bytes : List ℕ) → length place ≡ length bytes
-    → put_at (place ++ rest) 0 bytes ≡ bytes ++ rest
-put_over place rest bytes long =
-    ap (put_at (place ++ rest) 0) (sym (append-nil bytes)) ∙ put_along place rest bytes [] long
-    ∙ ap (λ (l : List ℕ). bytes ++ l) (put_nothing rest 0)
-
-pub put_whole : (place bytes : List ℕ) → length place ≡ length bytes → put_at place 0 bytes ≡ bytes
-put_whole place bytes long = grind (arith, common_steps, append-nil place, put_over place, append-nil bytes)
-
-pub put_between : (front place rest bytes : List ℕ) (start : ℕ) → length front ≡ start
-    → length place ≡ length bytes
-    → put_at (front ++ (place ++ rest)) start bytes ≡ front ++ (bytes ++ rest)
-put_between front place rest bytes start at long = grind (arith, common_steps, put_behind, put_over)
 
 -- bytes, and then others behind them
 pub put_next : (room after : List ℕ) (start next : ℕ) (bytes others : List ℕ)

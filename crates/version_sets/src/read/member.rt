@@ -2,7 +2,7 @@
 
 ghost use Rattle.std.specs.Prelude.{◌≡◌, ◌+◌, ◌*◌, ◌≤◌, ◌∷◌, [], length, IfOk, IfSome, ℕ};
 ghost use Rattle.std.specs.{List.concat, List.flat_map, Option.option_map};
-ghost use Rattle.version_sets.specs.{Comparison.before_star, Comparison.bytes_of, Comparison.ends_with, Form.form_bytes, Form.number, Form.places, Form.Rise, Reading.asked, Reading.plain_asked, Reading.with_version, Reading.IsWithin};
+ghost use Rattle.version_sets.specs.{Comparison.before_star, Comparison.bytes_of, Comparison.ends_with, Comparison.starred, Form.form_bytes, Form.number, Form.places, Form.Rise, Reading.asked, Reading.plain_asked, Reading.with_prefix, Reading.with_version, Reading.IsWithin};
 ghost use Rattle.version_sets.specs.declared.read.comparison.Comparison.TheVariants.{Equal};
 ghost use Rattle.version_order.specs.{Facts.key_room, Keyed.end_of, keys.Sinks.put_at, keys.Sinks.saturated, keys.Sinks.IsWritten};
 
@@ -22,9 +22,23 @@ pub(crate) fn asked<'t, V: SchemeVersion<'t>>(
     ensures rise { IfOk result (λ member. Rise (ends_with member.0 (V.plain member.1))) }
 {
     match before_star(text) {
-        Some(front) => with_version(comparison.starred().ok_or(Reason::StarBehind)?, front),
+        Some(front) => with_prefix(comparison, front),
         None => with_version(comparison, text),
     }
+}
+
+// Returns what a comparison is with `.*` behind its version, with that version, or why there is none. Apart from the
+// others, since few members have a `.*`.
+#[inline(never)]
+fn with_prefix<'t, V: SchemeVersion<'t>>(
+    comparison: Comparison,
+    text: &'t [u8],
+) -> Result<(Comparison, V), Reason>
+    ensures asked { plain_asked V.plain result ≡ with_prefix V.rules.read_as V.rules.facts.operators (starred comparison) text.now }
+    ensures small { IfOk result (λ member. IsWithin (key_room V.rules.facts) (length text.now) (ends_with member.0 (V.plain member.1))) }
+    ensures rise { IfOk result (λ member. Rise (ends_with member.0 (V.plain member.1))) }
+{
+    with_version(comparison.starred().ok_or(Reason::StarBehind)?, text)
 }
 
 // Returns what stands before `.*` at the end of a text, or None without it.

@@ -12,7 +12,7 @@ pub(crate) const LONGEST_WITH_ROOM: usize = 256;
 
 /// Returns a size that is enough for the key of any text of a length. Does not allocate.
 #[inline(always)]
-#[tactic(auto, using(crate::proofs::lemmas::key::KeyRoom::enough_room))]
+#[tactic(auto, using(crate::proofs::lemmas::KeyRoom::enough_room))]
 pub fn room_for(text_len: usize) -> usize
     ensures room { result ≡ saturated (room_for text_len) }
 

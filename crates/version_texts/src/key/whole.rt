@@ -5,8 +5,8 @@ ghost use Rattle.version_rules.specs.{key.Key.key_bytes, key.Key.tail_bytes, req
 ghost use Rattle.version_order.specs.keys.{Lists.bytes_cmp, Sinks.put_at};
 ghost use Rattle.version_texts.specs.{Key.tail_of, Key.text_key, Scan.tail_in, Scan.Fits};
 
+use crate::asked::range::put_end;
 use crate::key::{put_front, put_tail, tail_at};
-use crate::requirement::range::put_end;
 use crate::scan::shape::Shape;
 use std::cmp::Ordering;
 use version_order::{Beside, End, Room};

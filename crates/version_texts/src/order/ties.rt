@@ -108,7 +108,7 @@ fn is_lettered(text: &[u8]) -> bool
 // Compares two messy versions byte by byte: signs in the order of declaration come before dots, and these before
 // digits and letters. A prefix comes before the longer text.
 #[inline(never)]
-#[tactic(auto, using(crate::proofs::lemmas::order::Lasts::bytes_end))]
+#[tactic(auto, using(crate::proofs::lemmas::Lasts::bytes_end))]
 pub(crate) fn compare_messy(x: &[u8], y: &[u8]) -> Ordering
     ensures { result ≡ messy_tie x.now y.now }
 {

@@ -22,7 +22,7 @@ pub enum TailKind {
 impl TailKind {
     /// Returns its place in the order of tails, which is the byte that a tail begins with in a key.
     #[inline(always)]
-    #[tactic(auto, using(crate::proofs::lemmas::key::Pieces::rank_of_sections))]
+    #[tactic(auto, using(crate::proofs::lemmas::Pieces::rank_of_sections))]
     pub fn rank(self) -> u8
         ensures { (text : List ℕ) → result ≡ tail_rank (tail_of self text) }
     {

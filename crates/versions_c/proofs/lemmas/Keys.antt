@@ -5,7 +5,7 @@ use Rattle.version_rules.specs.grammar.Versioning.{PlainVersioning, versioning_o
 use Rattle.version_texts.specs.{Key.room_for, Mixed.mixed}
 use Rattle.std.proofs.lemmas.{Bool.Decides.nat_tests, List.length-take, List.append-nil, List.get_or-set_other, List.get_or-set_same}
 use Rattle.versions_c.specs.{Keys.keys_before, Keys.spelled_key, Keys.saturated_signed, Sorting.IsMarked, Written.AreOffsets, Written.text_at}
-use Rattle.version_texts.proofs.lemmas.key.KeyRoom.{enough_room}
+use Rattle.version_texts.proofs.lemmas.KeyRoom.{enough_room}
 use Rattle.version_order.proofs.lemmas.Sinks.{put_fits}
 use Rattle.version_order.specs.keys.Sinks.{put_at, put_both, saturated, IsWritten}
 

@@ -8,9 +8,9 @@ use Rattle.std.proofs.lemmas.Bool.Decides.{nat_tests}
 use Rattle.std.specs.Option.{is_none, option_map}
 use Rattle.version_rules.proofs.lemmas.Inexact.{inexact_decide, inexact_parse, inexact_within, nothing_parses, inexact_none}
 use Rattle.version_rules.proofs.lemmas.Range.{list_in}
-use Rattle.version_texts.proofs.lemmas.requirement.{Members.part_is, RangeRef.written as first_bytes}
+use Rattle.version_requirements.proofs.lemmas.{Members.part_is, RangeRef.written as first_bytes}
 use Rattle.version_order.proofs.lemmas.Sinks.{put_fits}
-use Rattle.version_texts.specs.Requirement.{inexact_part}
+use Rattle.version_requirements.specs.Requirement.{inexact_part}
 use Rattle.version_order.specs.keys.Sinks.{put_at, saturated}
 use mir.Val.{bool_byte}
 

@@ -1,7 +1,8 @@
 -- The texts that are wanted are those that a caller asks for by numbers.
 use Rattle.std.proofs.Common.{◌≡◌, ◌↔◌, ◌≤◌, ◌+◌, ℕ, List, IfSome, arith, ◌<◌, ◌-◌, ◌∙◌, [], drop, take, length, slice_index, Option, Some, None, sym, ap}
 use Rattle.version_rules.specs.{grammar.Versioning.PlainVersioning, grammar.Versioning.versioning_text, requirement.Matching.MatchesAll, requirement.Requirement.PlainRequirement}
-use Rattle.version_tasks.specs.{Newest.IsWanted, Stability.rank, Tag.version_in_tag, declared.newest.Wanted.Wanted, declared.stability.Stability.Stability}
+use Rattle.version_tasks.specs.{Stability.rank, Tag.version_in_tag, declared.stability.Stability.Stability}
+use Rattle.version_requirements.specs.{Newest.IsWanted, declared.newest.Wanted.Wanted}
 use Rattle.versions_c.specs.{Newest.IsAsked, Newest.IsNewestPlace, Newest.IsStart, Ranges.has_flag, declared.newest.TheConstants.TAGS}
 use Rattle.std.proofs.lemmas.List.{drop-drop, drop-take, length-take}
 use Rattle.std.specs.{List.slice_range, Option.option_map, Option.option_map_or}

@@ -8,9 +8,11 @@ use Rattle.version_rules.specs.declared.op.Op.TheVariants.{Exact, Greater, Great
 use Rattle.version_rules.specs.requirement.Range.{PlainRange, alike_from, but_last, bytes_of, common, earlier_high, everything, later, op_range, range_of, range_without_version, requirement_range, series_range, through_other}
 use Rattle.version_rules.specs.{declared.op.Op.Op, grammar.Versioning.PlainVersioning, grammar.Versioning.Ideal, grammar.Versioning.General, grammar.Versioning.Complex, key.PartKey.PartKey}
 use Rattle.version_rules.specs.requirement.{Requirement.op_text, Requirement.PlainRequirement, Requirement.SpellsOperand, Requirement.SpellsRequirement, Requirements.comma, Requirements.requirements_of}
-use Rattle.version_texts.proofs.lemmas.key.KeyRoom.{spelled_length, begun_length, below_key, but_last_length, length_of, through_other_length}
-use Rattle.version_texts.proofs.lemmas.requirement.RangeRef.{narrowed}
-use Rattle.version_texts.specs.{Key.room_for, Range.high_length, Range.bound_bytes, Range.plain_range_ref, declared.requirement.range_ref.Bound.Bound, declared.requirement.range_ref.RangeRef.RangeRef}
+use Rattle.version_texts.proofs.lemmas.KeyRoom.{spelled_length, begun_length, below_key, but_last_length, length_of, through_other_length}
+use Rattle.version_requirements.proofs.lemmas.RangeRef.{narrowed}
+use Rattle.version_texts.specs.{Key.room_for}
+use Rattle.version_requirements.specs.{declared.range_ref.Bound.Bound, declared.range_ref.RangeRef.RangeRef}
+use Rattle.version_requirements.specs.Range.{high_length, bound_bytes, plain_range_ref}
 use Rattle.version_rules.proofs.lemmas.Requirement.{requirements_of-spells}
 use Rattle.versions_c.specs.{Ranges.range_status, Ranges.range_with, declared.status.TheConstants.OK}
 

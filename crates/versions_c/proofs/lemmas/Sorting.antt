@@ -19,7 +19,7 @@ use Rattle.versions_c.specs.Sorting.{AreInOrder, IsMarked, keyed_cmp, keys_cmp, 
 use Rattle.versions_c.specs.{Keys.keys_before, Keys.saturated_signed, Schemes.key_by, Written.AreOffsets, Written.text_at}
 use Rattle.version_schemes.specs.{Scheme.rules, Scheme.is_mixed, declared.scheme.Scheme.Scheme, declared.scheme.Scheme.TheVariants.Mixed}
 use Rattle.version_texts.specs.Order.{marked_number, texts_tie}
-use Rattle.version_texts.proofs.lemmas.order.Ties.{texts_alike, texts_tie_total}
+use Rattle.version_texts.proofs.lemmas.Ties.{texts_alike, texts_tie_total}
 use Rattle.version_schemes.proofs.lemmas.Table.{not_mixed}
 
 -- numbers that are each its own place

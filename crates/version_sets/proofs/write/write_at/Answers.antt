@@ -1,6 +1,6 @@
 use Rattle.std.proofs.Common.{◌∙◌, ◌++◌, List, ap, arith, refl, sym, ℕ}
 use Rattle.version_order.specs.keys.Sinks.{put_at}
-use Rattle.version_sets.proofs.lemmas.Members.{put_between}
+use Rattle.version_order.proofs.lemmas.Sinks.{put_between}
 use Rattle.version_sets.proofs.write.write_at.Goals.{then-start-room-via-then-start-room, then-start-room-via-else-start-room+then-bytes-room}
 use Rattle.version_sets.proofs.write.write_at.Goals as goal
 

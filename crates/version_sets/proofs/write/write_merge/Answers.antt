@@ -3,7 +3,8 @@ use Rattle.std.proofs.lemmas.Bool.{true≢false}
 use Rattle.std.specs.{List.concat, List.flat_map, Option.IfSome, Option.IsSome}
 use Rattle.version_order.specs.keys.Sinks.{put_at}
 use Rattle.version_sets.specs.{Form.form_bytes, Form.number, Form.places, Set.left}
-use Rattle.version_sets.proofs.lemmas.{Form.form_length, Form.row_size, Members.put_form, Members.put_whole}
+use Rattle.version_sets.proofs.lemmas.{Form.form_length, Form.row_size, Members.put_form}
+use Rattle.version_order.proofs.lemmas.Sinks.{put_whole}
 use Rattle.version_sets.proofs.write.write_merge.Goals as goal
 
 -- what holds whatever a value is holds where there is one

@@ -1,6 +1,6 @@
 use Rattle.std.proofs.Common.{ℕ, List, ◌∙◌, ap, drop, sym, ◌∷◌, [], refl, subst, arith}
 use Rattle.std.specs.{Char.is_ascii_alphanumeric, Char.is_ascii_digit, List.prefix_len, List.take_while}
-use Rattle.version_texts.proofs.lemmas.key.Pieces.{number_and_suffix, plain_of_run, rest_of_plain, suffixed_of_run, word_of_run}
+use Rattle.version_texts.proofs.lemmas.Pieces.{number_and_suffix, plain_of_run, rest_of_plain, suffixed_of_run, word_of_run}
 use Rattle.version_order.proofs.lemmas.{Runs.digit_alphanumeric, Runs.rest_within, Sinks.next_fits, Sinks.owes_all, Sinks.owes_rest}
 use Rattle.version_texts.proofs.key.put_any_part.Goals.{then-begins_with+else-not-begins_with, else-begins_with}
 use Rattle.version_rules.specs.key.PartKey.{split_bytes, split_of}

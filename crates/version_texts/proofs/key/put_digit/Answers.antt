@@ -1,6 +1,6 @@
 use Rattle.std.proofs.Common.{[], ◌∷◌}
 use Rattle.version_order.proofs.lemmas.Sinks.{next_fits, owes_all, owes_rest}
-use Rattle.version_texts.proofs.lemmas.key.Pieces.{bytes_of_digit, bytes_of_zero}
+use Rattle.version_texts.proofs.lemmas.Pieces.{bytes_of_digit, bytes_of_zero}
 use Rattle.version_texts.proofs.key.put_digit.Goals as goal
 
 pub put-requires : goal.put-requires

@@ -1,6 +1,6 @@
 use Rattle.std.proofs.Common.{◌∙◌, refl, rules, arith}
 use Rattle.std.specs.Char.{is_ascii_alphanumeric}
-use Rattle.version_texts.proofs.lemmas.key.Pieces.{first_part, last_part, part_and_more, rest_and_more, rest_of_last}
+use Rattle.version_texts.proofs.lemmas.Pieces.{first_part, last_part, part_and_more, rest_and_more, rest_of_last}
 use Rattle.version_pieces.proofs.lemmas.Pieces.{behind_shorter}
 use Rattle.version_order.proofs.lemmas.Sinks.{next_fits, owes_all, owes_rest, owes_same}
 use Rattle.version_texts.proofs.key.put_parts.Goals as goal

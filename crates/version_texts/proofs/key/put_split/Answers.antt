@@ -1,6 +1,6 @@
 use Rattle.std.proofs.Common.{ℕ, List, ◌∙◌, ap, drop, sym, ◌∷◌, [], refl, arith}
 use Rattle.std.specs.{Char.is_ascii_alphabetic, Char.is_ascii_alphanumeric, Char.is_ascii_digit, List.prefix_len}
-use Rattle.version_texts.proofs.lemmas.key.Pieces.{rest_of_letters, split_begun, split_of_letters, split_of_number}
+use Rattle.version_texts.proofs.lemmas.Pieces.{rest_of_letters, split_begun, split_of_letters, split_of_number}
 use Rattle.version_order.proofs.lemmas.{Runs.digit_alphanumeric, Runs.letter_alphanumeric, Runs.rest_within, Sinks.next_fits, Sinks.owes_all, Sinks.owes_rest}
 use Rattle.version_texts.proofs.key.put_split.Goals as goal
 

@@ -3,7 +3,7 @@ use Rattle.version_rules.specs.{key.Key.held_bytes, key.Key.tail_bytes, key.Key.
 use Rattle.version_texts.specs.{Key.tail_of, declared.scan.shape.TailKind.TailKind}
 use Rattle.version_pieces.specs.Pieces.{chunks_of}
 use Rattle.version_texts.specs.declared.scan.shape.TailKind.TheVariants.{PreRelease, Release, Sections}
-use Rattle.version_texts.proofs.lemmas.key.Pieces.{sections_held}
+use Rattle.version_texts.proofs.lemmas.Pieces.{sections_held}
 use Rattle.version_order.proofs.lemmas.Sinks.{next_fits, owes_all, owes_rest}
 use Rattle.version_texts.proofs.key.put_tail.Goals as goal
 

@@ -1,5 +1,5 @@
 -- The number at a place of a version is read off its text by its shape.
-use Rattle.version_texts.proofs.lemmas.order.Lasts.{letters_start, other_numbered, post_numbered, rc_numbered, run_cut}
+use Rattle.version_texts.proofs.lemmas.Lasts.{letters_start, other_numbered, post_numbered, rc_numbered, run_cut}
 use Rattle.version_texts.proofs.lemmas.scan.Spelled.{NonePass, chunk_bytes, none_pass, pieces_give, digits_from, numeral_passes}
 use Rattle.version_texts.proofs.lemmas.{scan.Section.digits_not, scan.Shape.body_taken, scan.Shape.version_cut, versioning_ref.Section.number_of_mess}
 use Rattle.version_texts.proofs.lemmas.versioning_ref.VersioningRef.{kind-is, spelled, spells-is}

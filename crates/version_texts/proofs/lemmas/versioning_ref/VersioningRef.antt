@@ -1,27 +1,26 @@
 -- What the text and the shape of a borrowed version say of the version that it is.
-use Rattle.std.proofs.Common.{◌≡◌, ◌++◌, ℕ, List, append_assoc, sym, ◌∙◌, [], ◌∷◌, Option, Some, None, refl, ap, arith, if◌then◌else◌, ◌==◌, Bool, true, false, length, ◌⊎◌, ◌+◌, suc, take, nat_eq, one-add, length-append, rules}
+use Rattle.std.proofs.Common.{◌≡◌, ◌++◌, ℕ, List, append_assoc, sym, ◌∙◌, [], ◌∷◌, Option, Some, None, refl, ap, arith, if◌then◌else◌, ◌==◌, Bool, true, false, length, ◌+◌, suc, take, one-add, length-append, rules}
 use Rattle.version_order.specs.{keys.Codes.number_bytes, texts.Bytes.dot, texts.Cuts.is_dot, texts.Front.begins}
 use Rattle.version_rules.specs.grammar.Versioning.{versioning_kind, PlainVersioning, Ideal, General, Complex, SpellsVersioning, versioning_of, is_prerelease, versioning_plain_cmp, versioning_text}
 use Rattle.version_rules.specs.key.Key.{key_tie_cmp, Key, key_of, key_of_mess, key_of_semver, key_of_version, strict_body, precedence, key_bytes, tail_bytes, Tail}
 use Rattle.version_rules.specs.{declared.kind.Kind.Kind, grammar.Chunk.PlainChunk, grammar.Conversions.version_of_semver, grammar.Last.last_text, grammar.Mess.PlainMess, grammar.Mess.SpellsMess}
 use Rattle.version_rules.specs.{grammar.SemVer.PlainSemVer, grammar.SemVer.SpellsSemVer, grammar.Version.PlainVersion, grammar.Version.SpellsVersion, key.PartKey.parts_bytes, key.PartKey.chunk_parts, key.PartKey.part_key}
-use Rattle.version_rules.specs.requirement.{Matching.Matches, Matching.MatchesCaret, Matching.MatchesTilde, Requirement.PlainRequirement, Requirements.Keeps, SemVerMatch.Numbers, SemVerMatch.numbers}
+use Rattle.version_rules.specs.requirement.{SemVerMatch.numbers}
 use Rattle.version_texts.specs.Key.{front_bytes, parts_of, tail_of, text_key}
 use Rattle.version_pieces.specs.Pieces.{chunks_of}
 use Rattle.version_texts.specs.Scan.{Fits, body_in, shape_at, tail_in, behind_body, shape_of, tail_kind}
-use Rattle.version_texts.specs.{Requirement.IsFront, VersioningRef.version_in, VersioningRef.major_text, declared.scan.shape.Shape.Shape, declared.scan.shape.TailKind.TailKind}
+use Rattle.version_texts.specs.{VersioningRef.version_in, VersioningRef.major_text, declared.scan.shape.Shape.Shape, declared.scan.shape.TailKind.TailKind}
 use Rattle.version_texts.specs.declared.scan.shape.TailKind.TheVariants.{PreRelease, Release, Nothing, Sections}
-use Rattle.std.specs.{Char.is_ascii_digit, Cmp.first_so, Cmp.second_so, Cmp.Lexicographic.other_text, Fmt.decimal, List.list_all, List.position_or_len, List.starts_with, Option.option_map_or, Option.is_some, Str.IsUtf8}
+use Rattle.std.specs.{Char.is_ascii_digit, Cmp.first_so, Cmp.second_so, Fmt.decimal, List.list_all, List.position_or_len, Option.option_map_or, Option.is_some, Str.IsUtf8}
 use Rattle.std.specs.declared.cmp.Ordering.TheVariants.{Equal}
 use Rattle.version_rules.proofs.lemmas.{Key.plain_number, Key.precedence_of_semvers, Numeral.numeral_printed, Versioning.versioning_of-spells, Versioning.versioning_ascii, Versioning.versioning_printed, Versioning.strict_is_general}
 use Rattle.version_texts.proofs.lemmas.scan.Shape.{IsDashed, body_taken, dashed_shape, general_fits, strict_fits, version_cut, version_dashed, version_epoch, is_hyphen}
 use Rattle.version_texts.proofs.lemmas.scan.{Complex.mess_cut, Complex.mess_fits, Complex.mess_tail-is, Spelled.body_parts, Spelled.release_chunks, Spelled.section_parts-is}
-use Rattle.std.proofs.lemmas.{Bool.cases_Bool, Bool.eqb-true, List.take_at, List.Elements.All-head, Str.IsUtf8-from_ascii}
+use Rattle.std.proofs.lemmas.{List.take_at, Str.IsUtf8-from_ascii}
 use Rattle.version_order.proofs.lemmas.{Bytes.digit_no_dot, Front.cases_Option}
 use Rattle.version_rules.specs.declared.kind.Kind.TheVariants as kind
 use Rattle.version_rules.specs.key.Key as tail
 use Rattle.version_rules.specs.declared.op.Op.TheVariants as op
-use Rattle.version_rules.specs.requirement.SemVerMatch as strict
 
 -- ---- the key of a version is the one that is read off its text by its shape
 
@@ -204,21 +203,7 @@ tied_plain (Ideal a) (General b) tied = refl
 tied_plain (Ideal a) (Complex b) tied = refl
 tied_plain a b tied = refl
 
--- ---- the versions that `~` or `^` matches begin as the wanted version does, if that is strict
-
--- the text of a strict version begins with its major number and a dot
-abbrev Begins : List ℕ → List ℕ → Type 0
-Begins front text = (rest : List ℕ) × (text ≡ front ++ rest)
-
-strict_begins : (text : List ℕ) (v : PlainSemVer) → SpellsSemVer text v
-    → Begins (decimal v.major ++ dot ∷ []) text
-strict_begins text v s =
-    let rest = s.minor ++ dot ∷ (s.patch ++ (s.pre_rel ++ s.meta)) in (
-      rest,
-      s.whole ∙ ap (λ (l : List ℕ). l ++ dot ∷ rest)
-          (sym (numeral_printed s.major v.major s.major_is))
-          ∙ sym (append_assoc (decimal v.major) (dot ∷ []) rest),
-    )
+-- ---- the major number of a strict version stands before the first dot of its text
 
 -- the first dot stands behind the digits
 dot_behind : (digits rest : List ℕ) → list_all is_ascii_digit digits ≡ true
@@ -261,45 +246,6 @@ module _ (text : List ℕ) (s : Shape) (shaped : shape_of text ≡ Some s) where
   pub other_major : ¬ (s.kind ≡ kind.Ideal) → [] ≡ major_text (version_in text)
   other_major e =
       no_major (version_in text) (λ ideal. e (kind-is text s shaped ∙ sym ideal))
-
--- a caret matches versions with the wanted major number
-caret_major : (w v : Numbers) → strict.MatchesCaret w v → w.0 ≡ v.0
-caret_major w v match = grind (arith, cases_Bool, eqb-true)
-
--- a version with the wanted major number begins as the wanted one does
-same_major : (w v : PlainSemVer) (text : List ℕ) → w.major ≡ v.major
-    → versioning_of text ≡ Some (Ideal v) → Begins (major_text (Ideal w)) text
-same_major w v text same e =
-    rw same (strict_begins text v (versioning_of-spells text (Ideal v) e))
-
-pub tilde_begins : (w v : PlainVersioning) (text : List ℕ) → versioning_of text ≡ Some v
-    → MatchesTilde w v → Begins (major_text w) text
-tilde_begins (Ideal w) (Ideal v) text e match = same_major w v text match.0 e
-tilde_begins (General w) v text e match = (text, refl)
-tilde_begins (Complex w) v text e match = (text, refl)
-tilde_begins (Ideal w) v text e match = absurd match
-
-pub caret_begins : (w v : PlainVersioning) (text : List ℕ) → versioning_of text ≡ Some v
-    → MatchesCaret w v → Begins (major_text w) text
-caret_begins (Ideal w) (Ideal v) text e match =
-    same_major w v text (caret_major (numbers w) (numbers v) match) e
-caret_begins (General w) v text e match = (text, refl)
-caret_begins (Complex w) v text e match = (text, refl)
-caret_begins (Ideal w) v text e match = absurd match
-
-pub front_begins : (r : PlainRequirement) (w v : PlainVersioning) (text : List ℕ)
-    → r.version ≡ Some w → (r.op ≡ op.Tilde) ⊎ (r.op ≡ op.Caret) → versioning_of text ≡ Some v
-    → Matches r v → Begins (major_text w) text
-front_begins r w v text some asks e match = grind (arith, tilde_begins, caret_begins)
-
--- a list keeps no text that does not begin as its first member asks
-unbegun : (front text : List ℕ) → starts_with nat_eq text front ≡ false → ¬ (Begins front text)
-unbegun front text differ begun = grind (arith, other_text, take_at)
-
-pub not_kept : (r : PlainRequirement) (more : List PlainRequirement) (front text : List ℕ)
-    → IsFront r front → starts_with nat_eq text front ≡ false
-    → ¬ (Keeps (r ∷ more) (versioning_of text))
-not_kept r more front text begins differ = grind (arith, cases_Option, unbegun, All-head)
 
 -- ---- by names that an attribute can write
 

@@ -1,5 +1,6 @@
 use Rattle.std.proofs.Common.{arith, take}
-use Rattle.version_texts.specs.{Range.plain_range_ref, Requirement.inexact_part}
+use Rattle.version_requirements.specs.{Requirement.inexact_part}
+use Rattle.version_requirements.specs.Range.{plain_range_ref}
 use Rattle.versions_c.proofs.lemmas.Matching.{decide, part_in}
 use Rattle.versions_c.proofs.matching.narrow.Goals as goal
 

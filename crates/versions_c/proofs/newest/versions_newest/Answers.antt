@@ -1,5 +1,5 @@
 use Rattle.std.proofs.Common.{◌≡◌, ◌-◌, arith, length}
-use Rattle.version_tasks.specs.Newest.{IsWanted}
+use Rattle.version_requirements.specs.Newest.{IsWanted}
 use Rattle.versions_c.proofs.lemmas.Newest.{newest_alike}
 use Rattle.versions_c.specs.{Newest.asked_at, Written.text_at}
 use Rattle.versions_c.proofs.newest.versions_newest.Goals as goal

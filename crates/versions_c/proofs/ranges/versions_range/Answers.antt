@@ -1,6 +1,6 @@
 use Rattle.std.proofs.Common.{◌≡◌, ◌∙◌, ◌<◌, ◌^◌, Some, ap, arith, length, sym, take}
 use Rattle.version_rules.specs.requirement.Requirements.{requirements_of}
-use Rattle.version_texts.specs.Range.{plain_range_ref}
+use Rattle.version_requirements.specs.Range.{plain_range_ref}
 use Rattle.versions_c.proofs.lemmas.Ranges.{fits_bound, fits_status, told_high, told_range}
 use Rattle.versions_c.proofs.ranges.versions_range.Goals.{then-low_len-low-via-else-low_len-low+then-high_len-high, then-low_len-low-via-then-low_len-low}
 use Rattle.versions_c.proofs.ranges.versions_range.Goals as goal

@@ -1,6 +1,6 @@
 use Rattle.std.proofs.Common.{List, Option, Some, None, IsSomeAnd, inl, refl}
 use Rattle.version_rules.specs.requirement.{Range.range_of, Requirement.PlainRequirement, Requirements.requirements_of}
-use Rattle.version_texts.specs.Range.{IsEmpty}
+use Rattle.version_requirements.specs.Range.{IsEmpty}
 use Rattle.versions_c.specs.{Matching.IsConflictStatus, declared.status.TheConstants.OK}
 use Rattle.versions_c.proofs.why.versions_conflict.Goals as goal
 

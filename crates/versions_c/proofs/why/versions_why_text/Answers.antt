@@ -2,7 +2,8 @@ use Rattle.std.proofs.Common.{◌≡◌, ◌<◌, ◌≤◌, ◌^◌, ℕ, List,
 use Rattle.std.proofs.lemmas.Bool.Decides.{nat_tests}
 use Rattle.version_rules.specs.grammar.Versioning.{PlainVersioning}
 use Rattle.version_order.specs.keys.Sinks.{put_at, saturated}
-use Rattle.version_texts.specs.{Requirement.IsExcluded, Requirement.excluded_text, VersioningRef.plain_versioning_ref, declared.requirement.why.Excluded.Excluded}
+use Rattle.version_texts.specs.{VersioningRef.plain_versioning_ref}
+use Rattle.version_requirements.specs.{Requirement.IsExcluded, Requirement.excluded_text, declared.why.Excluded.Excluded}
 use Rattle.version_order.proofs.lemmas.Sinks.{put_fits}
 use Rattle.versions_c.specs.{Matching.IsToldWhy, declared.status.TheConstants.OK}
 use Rattle.versions_c.proofs.why.versions_why_text.Goals as goal

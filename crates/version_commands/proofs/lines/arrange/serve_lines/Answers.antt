@@ -1,6 +1,7 @@
 use Rattle.std.proofs.Common.{◌∙◌, List, ap, map, subst}
 use Rattle.version_commands.specs.{Files.Leaves, Hints.IsOfInput, lines.Choice.is_kept}
-use Rattle.version_commands.proofs.lemmas.{Faults.ends-weaker, lines.Ordered.is-ordered, lines.Ordered.ordered-faults}
+use Rattle.version_commands.proofs.lemmas.{Faults.ends-weaker}
+use Rattle.version_commands.proofs.lemmas.Ordered.{is-ordered, ordered-faults}
 use Rattle.version_lines.specs.Inputs.{lines_left, lines_of_inputs, plain_input, plain_line, PlainLine}
 use Rattle.version_commands.proofs.lines.arrange.serve_lines.Goals as goal
 

@@ -1,7 +1,7 @@
 use Rattle.std.proofs.Common.{◌≡◌, ◌∙◌, [], ℕ, List, None, ap, rules}
 use Rattle.version_commands.specs.{Run.head_lines, lines.Choice.is_kept, lines.Ordered.first_unnamed, lines.Ordered.options_by, lines.Ordered.name_missing}
 use Rattle.version_lines.specs.Inputs.{lines_left}
-use Rattle.version_commands.proofs.lemmas.lines.Header.{finishes-in, header-is, missing-is, missing-not, unnamed-faults}
+use Rattle.version_commands.proofs.lemmas.Header.{finishes-in, header-is, missing-is, missing-not, unnamed-faults}
 use Rattle.version_commands.proofs.lemmas.{Faults.ends-at, Hints.hints-in}
 use Rattle.version_commands.proofs.lines.arrange.write_asked.Goals.{then-not-is_empty+in_ok-refuse_unnamed, else-not-is_empty}
 use Rattle.version_commands.proofs.lines.arrange.write_asked.Goals as goal

@@ -2,7 +2,7 @@ use Rattle.std.proofs.Common.{◌≡◌, ◌<◌, List, [], Some, None, true, le
 use Rattle.std.proofs.lemmas.List.{get_or-map, length-map}
 use Rattle.std.specs.Option.{option_map}
 use Rattle.version_commands.specs.lines.Arranged.{version_as}
-use Rattle.version_commands.proofs.lemmas.lines.Ordered.{as-read, line-added, line-left}
+use Rattle.version_commands.proofs.lemmas.Ordered.{as-read, line-added, line-left}
 use Rattle.version_commands.proofs.lines.by_schemes.lines_of_scheme.Goals.{in-Some+in_ok-add, in_default}
 use Rattle.version_lines.specs.Entry.{lines_in}
 use Rattle.version_schemes.specs.any.AnyVersion.{plain_any}

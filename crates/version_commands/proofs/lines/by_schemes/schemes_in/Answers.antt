@@ -1,7 +1,7 @@
 use Rattle.std.proofs.Common.{◌<◌, List, [], length, map, get_or, rules, sym, ap, ◌∙◌, arith, Bor, ℕ, drop, ◌+◌}
 use Rattle.std.proofs.lemmas.List.{get_or-map, length-map}
 use Rattle.version_commands.specs.lines.Arranged.{schemes_after}
-use Rattle.version_commands.proofs.lemmas.lines.Ordered.{schemes-next}
+use Rattle.version_commands.proofs.lemmas.Ordered.{schemes-next}
 use Rattle.version_schemes.specs.declared.scheme.Scheme.{Scheme}
 use Rattle.version_commands.proofs.lines.by_schemes.schemes_in.Goals as goal
 

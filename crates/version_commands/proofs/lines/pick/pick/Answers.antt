@@ -1,6 +1,6 @@
 use Rattle.std.proofs.Common.{◌≡◌, ◌∙◌, ◌∷◌, ◌++◌, [], None, ap, append-nil, false, is_some, map, refl, sym, true}
 use Rattle.std.proofs.lemmas.{List.map-append}
-use Rattle.version_commands.proofs.lemmas.lines.Picked.{picked-bad, picked-good, IsPicked}
+use Rattle.version_commands.proofs.lemmas.Picked.{picked-bad, picked-good, IsPicked}
 use Rattle.version_commands.specs.{declared.lines.pick.Picked.Picked, lines.Picked.kept_lines, lines.Picked.Versions}
 use Rattle.version_lines.specs.Inputs.{lines_left, plain_line}
 use Rattle.version_commands.proofs.lines.pick.pick.Goals.{in-Some-text+in_ok-pick_text+else-branch, in_default-text}

@@ -1,6 +1,6 @@
 -- The lines before those that are left are picked, and those that are kept were taken.
 use Rattle.std.proofs.Common.{◌≡◌, ℕ, List, length, map}
-use Rattle.version_commands.proofs.lemmas.lines.Picked.{IsPicked}
+use Rattle.version_commands.proofs.lemmas.Picked.{IsPicked}
 use Rattle.version_lines.specs.Inputs.{lines_left, plain_line}
 use Rattle.version_commands.proofs.lines.pick.pick.Given as goal
 

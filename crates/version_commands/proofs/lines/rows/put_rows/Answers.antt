@@ -1,7 +1,7 @@
 use Rattle.std.proofs.Common.{◌<◌, length, rules}
 use Rattle.std.proofs.lemmas.Result.{err_from_is_err_and}
 use Rattle.version_lines.proofs.lemmas.Lines.{AppendsProperBeginning-step, AppendsUpTo-step}
-use Rattle.version_commands.proofs.lemmas.lines.Ordered.{lines_output-next}
+use Rattle.version_commands.proofs.lemmas.Ordered.{lines_output-next}
 use Rattle.version_commands.proofs.lines.rows.put_rows.Goals as goal
 
 pub returns-in_err-put_line-clause-err : goal.returns-in_err-put_line-clause-err

@@ -1,6 +1,6 @@
 use Rattle.std.proofs.Common.{◌≡◌, ◌<◌, ◌++◌, ◌∷◌, ℕ, List, [], length, map, get_or, rules, sym, arith, None}
 use Rattle.std.proofs.lemmas.List.{get_or-map, length-map}
-use Rattle.version_commands.proofs.lemmas.lines.Ordered.{joined-next, lines_output-next}
+use Rattle.version_commands.proofs.lemmas.Ordered.{joined-next, lines_output-next}
 use Rattle.version_lines.specs.declared.inputs.Line.{Line}
 use Rattle.version_commands.proofs.lines.write.joined_lines.Goals as goal
 

@@ -1,6 +1,6 @@
 use Rattle.std.proofs.Common.{arith}
 use Rattle.std.proofs.lemmas.Result.{err_from_is_err_and, on_err_weaker, on_ok_weaker}
-use Rattle.version_commands.proofs.lemmas.lines.Ordered.{both-written, first-part, second-part}
+use Rattle.version_commands.proofs.lemmas.Ordered.{both-written, first-part, second-part}
 use Rattle.version_commands.proofs.lines.write.put_both.Goals as goal
 
 pub returns-in_err-put_rows-clause-err : goal.returns-in_err-put_rows-clause-err

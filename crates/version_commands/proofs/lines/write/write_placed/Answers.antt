@@ -3,7 +3,7 @@ use Rattle.std.proofs.lemmas.Result.{err_from_is_err_and, on_err_weaker, on_ok_w
 use Rattle.version_lines.specs.{Lines.lines_output, Lines.whole_line, Lines.AppendsProperBeginning, Lines.AppendsUpTo, declared.inputs.Line.Line}
 use Rattle.version_lines.proofs.lemmas.Lines.{AppendsProperBeginning-after}
 use Rattle.version_commands.specs.lines.Arranged.{placed}
-use Rattle.version_commands.proofs.lemmas.lines.Ordered.{all-appended, both-written, first-part, second-part}
+use Rattle.version_commands.proofs.lemmas.Ordered.{all-appended, both-written, first-part, second-part}
 use Rattle.version_commands.proofs.lines.write.write_placed.Goals as goal
 
 pub returns-in_err-put_rows-clause-err : goal.returns-in_err-put_rows-clause-err

@@ -3,7 +3,8 @@ use Rattle.std.proofs.lemmas.List.{length-map, nil_from_length}
 use Rattle.std.specs.List.{concat, flat_map}
 use Rattle.version_order.specs.{Keyed.end_of, keys.Sinks.length-put, keys.Sinks.put_at, keys.Sinks.put_nothing}
 use Rattle.version_sets.specs.{Comparison.bytes_of, Form.number, Form.places}
-use Rattle.version_sets.proofs.lemmas.{Form.number_length, Form.row_size, Members.put_next, Members.put_whole}
+use Rattle.version_sets.proofs.lemmas.{Form.number_length, Form.row_size, Members.put_next}
+use Rattle.version_order.proofs.lemmas.Sinks.{put_whole}
 use Rattle.version_sets.proofs.read.member.write_ends.Goals as goal
 
 pub loop-end-init : goal.loop-end-init

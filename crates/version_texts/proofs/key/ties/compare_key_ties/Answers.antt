@@ -1,5 +1,5 @@
 use Rattle.std.proofs.Common.{rules}
-use Rattle.version_texts.proofs.lemmas.order.Ties.{tied_as}
+use Rattle.version_texts.proofs.lemmas.Ties.{tied_as}
 use Rattle.version_texts.proofs.key.ties.compare_key_ties.Goals as goal
 
 pub returns-in-Complex-Complex-clause-versions : goal.returns-in-Complex-Complex-clause-versions

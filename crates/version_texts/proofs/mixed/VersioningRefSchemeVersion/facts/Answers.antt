@@ -1,4 +1,4 @@
-use Rattle.version_texts.proofs.lemmas.requirement.EndOrder.{mixed_within}
+use Rattle.version_texts.proofs.lemmas.EndOrder.{mixed_within}
 use Rattle.version_texts.proofs.mixed.VersioningRefSchemeVersion.facts.Goals as goal
 
 pub returns-clause-within : goal.returns-clause-within

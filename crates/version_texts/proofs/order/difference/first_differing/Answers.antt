@@ -1,5 +1,5 @@
 use Rattle.std.proofs.Common.{◌∙◌, ◌+◌, ap, arith, sym}
-use Rattle.version_texts.proofs.lemmas.order.Difference.{both_end, both_go_on, counted_from, differ_here, differ_later, first_goes_on, is_shorter, second_goes_on}
+use Rattle.version_texts.proofs.lemmas.Difference.{both_end, both_go_on, counted_from, differ_here, differ_later, first_goes_on, is_shorter, second_goes_on}
 use Rattle.version_texts.proofs.order.difference.first_differing.Goals as goal
 
 pub returns-then-is_ne : goal.returns-then-is_ne

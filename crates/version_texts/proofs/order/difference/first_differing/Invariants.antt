@@ -1,5 +1,5 @@
 use Rattle.std.proofs.Common.{◌≡◌, ◌+◌, ◌≤◌, length}
-use Rattle.version_texts.proofs.lemmas.order.Difference.{counted_from}
+use Rattle.version_texts.proofs.lemmas.Difference.{counted_from}
 use Rattle.version_texts.specs.{Key.parts_of, Order.first_differing}
 use Rattle.version_texts.proofs.order.difference.first_differing.Given as goal
 

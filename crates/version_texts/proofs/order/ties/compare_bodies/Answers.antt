@@ -1,6 +1,6 @@
 use Rattle.std.proofs.Common.{◌∙◌, arith, sym}
 use Rattle.std.proofs.lemmas.List.{length-drop}
-use Rattle.version_texts.proofs.lemmas.order.{Lasts.bodies_above, Lasts.bodies_below, Lasts.bodies_end, Lasts.bodies_go_on}
+use Rattle.version_texts.proofs.lemmas.Lasts.{bodies_above, bodies_below, bodies_end, bodies_go_on}
 use Rattle.version_pieces.proofs.lemmas.Pieces.{decides, leaves, tied}
 use Rattle.version_texts.proofs.order.ties.compare_bodies.Goals as goal
 

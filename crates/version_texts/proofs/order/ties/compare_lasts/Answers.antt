@@ -1,6 +1,6 @@
 use Rattle.std.proofs.Common.{◌∙◌, sym}
 use Rattle.std.specs.Cmp.Lexicographic.{same_text}
-use Rattle.version_texts.proofs.lemmas.order.Ties.{same_lasts}
+use Rattle.version_texts.proofs.lemmas.Ties.{same_lasts}
 use Rattle.version_texts.proofs.order.ties.compare_lasts.Goals as goal
 
 pub returns-then-eq : goal.returns-then-eq

@@ -1,5 +1,5 @@
 use Rattle.std.proofs.Common.{rules}
-use Rattle.version_commands.proofs.lemmas.lines.Ordered.{of_first}
+use Rattle.version_commands.proofs.lemmas.Ordered.{of_first}
 use Rattle.version_commands.proofs.lines.choice.Chooser.new.Goals as goal
 
 pub returns-in_err-filter-clause-faults : goal.returns-in_err-filter-clause-faults

@@ -2,7 +2,8 @@ use Rattle.std.proofs.Common.{ℕ, List, rules, sym, subst}
 use Rattle.version_commands.specs.{Run.Arranges, lines.Ordered.arranged_in, lines.Picked.reads_of}
 use Rattle.version_lines.specs.{Inputs.lines_left, Sort.Reads, Sort.version_in}
 use Rattle.version_schemes.specs.declared.scheme.Scheme.TheVariants.{Mixed}
-use Rattle.version_commands.proofs.lemmas.{Hints.hints-alike, lines.Ordered.filter-arranged, lines.Ordered.lines-alike}
+use Rattle.version_commands.proofs.lemmas.{Hints.hints-alike}
+use Rattle.version_commands.proofs.lemmas.Ordered.{filter-arranged, lines-alike}
 use Rattle.version_commands.proofs.lines.run.LineRun.write_arranged.Goals as goal
 
 pub returns-then-not-reverse : goal.returns-then-not-reverse

@@ -1,6 +1,6 @@
 use Rattle.std.proofs.Common.{◌∙◌, Bor, List, ℕ, ap, map}
 use Rattle.version_commands.specs.lines.Arranged.{arranged_by_schemes, version_by}
-use Rattle.version_commands.proofs.lemmas.lines.Ordered.{arranges}
+use Rattle.version_commands.proofs.lemmas.Ordered.{arranges}
 use Rattle.version_lines.specs.Inputs.{plain_line}
 use Rattle.version_commands.proofs.lines.run.LineRun.write_by_schemes.Goals as goal
 

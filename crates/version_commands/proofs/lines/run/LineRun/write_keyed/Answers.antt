@@ -1,6 +1,6 @@
 use Rattle.std.proofs.Common.{ℕ, List, rules, subst, ◌∙◌, ap, map}
 use Rattle.version_commands.specs.{Hints.IsOfLines, lines.Arranged.arranged, lines.Picked.bad_lines, lines.Picked.kept_of, lines.Picked.group_text}
-use Rattle.version_commands.proofs.lemmas.lines.Ordered.{arranges}
+use Rattle.version_commands.proofs.lemmas.Ordered.{arranges}
 use Rattle.version_lines.specs.{Inputs.lines_left, Inputs.plain_line, Sort.version_in}
 use Rattle.version_commands.proofs.lines.run.LineRun.write_keyed.Goals as goal
 

@@ -1,6 +1,7 @@
 use Rattle.std.proofs.Common.{ℕ, List, Option, None, ap, subst, sym, ◌∙◌, map}
 use Rattle.version_commands.specs.{Hints.first_of, Hints.IsOfNewest, lines.Picked.bad_lines, lines.Picked.kept_of}
-use Rattle.version_commands.proofs.lemmas.{Hints.first-row, lines.Ordered.arranges}
+use Rattle.version_commands.proofs.lemmas.{Hints.first-row}
+use Rattle.version_commands.proofs.lemmas.Ordered.{arranges}
 use Rattle.version_lines.specs.{Inputs.lines_left, Inputs.plain_line, Newest.newest_alone, Sort.version_in}
 use Rattle.version_commands.proofs.lines.run.LineRun.write_newest.Goals as goal
 

@@ -1,7 +1,7 @@
 use Rattle.std.proofs.Common.{◌≡◌, rules, sym, ◌∙◌}
 use Rattle.std.proofs.lemmas.Cmp.{tied_itself}
 use Rattle.version_texts.specs.Order.{kind_on, texts_tie}
-use Rattle.version_texts.proofs.lemmas.order.Ties.{texts_tie_total}
+use Rattle.version_texts.proofs.lemmas.Ties.{texts_tie_total}
 use Rattle.version_lines.proofs.sort.entry.Entry.compare_ties.Goals as goal
 
 pub returns-then-eq : goal.returns-then-eq

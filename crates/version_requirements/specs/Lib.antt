@@ -1,0 +1,3 @@
+pub mod Newest
+pub mod Range
+pub mod Requirement

@@ -1,2 +1,0 @@
-pub mod KeyRoom
-pub mod Pieces
