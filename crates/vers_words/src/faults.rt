@@ -9,7 +9,7 @@ use std::fmt;
 
 /// Why a run failed. It prints as the line that the program writes to standard error. Neither printing nor
 /// [`Fault::status`] allocates.
-#[derive(Debug, PartialEq, Eq, Drop)]
+#[derive(Debug, Drop)]
 pub enum Fault<'w> {
     /// The words are not a command of the program.
     Usage,

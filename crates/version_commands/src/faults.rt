@@ -14,7 +14,7 @@ use version_lines::NotWritten;
 
 /// Why a task failed. It prints as what the program `versions` writes to standard error, after its name. Of a word, a line or the name of a file a message shows what is UTF-8 in front of the first
 /// sixty bytes, with control characters escaped.
-#[derive(Debug, PartialEq, Eq, Drop)]
+#[derive(Debug, Drop)]
 pub enum TaskFault<'w> {
     /// The first word that should be a version but is not.
     NotVersion(&'w str, Option<Remark>),

@@ -60,24 +60,24 @@ pub trait LineCommand {
         ensures { (end : ℕ) → answer_text end result line.now ≡ line_output self.now end line.now };
 }
 
-/// Writes the answer for each line of the input, through an empty buffer. Does not allocate.
+/// Writes the answer for each line of the input, each ended by a byte, through an empty buffer. Does not allocate.
 pub fn answer_lines<C: LineCommand, W: Write>(
     command: &C,
-    end: LineEnd,
+    end: u8,
     input: &[u8],
     writer: &mut W,
     buffer: &mut Vec<u8>,
 ) -> Result<(), NotWritten>
     requires { buffer.old.items ≡ [] }
     ensures ok { OnOk result (Appends (W.contents writer.old) (W.contents writer.new)
-        (output_by end (C.line_output command.now end.byte) input.now)) }
+        (output_by (plain_end end) (C.line_output command.now end) input.now)) }
     ensures err { OnErr result (AppendsProperBeginning (W.contents writer.old) (W.contents writer.new)
-        (output_by end (C.line_output command.now end.byte) input.now)) }
+        (output_by (plain_end end) (C.line_output command.now end) input.now)) }
 {
     let mut rest = input;
     while !rest.is_empty() {
-        let (line, after) = split_line(end, rest);
-        put_answer(command.answer(line), end.byte, line, writer, buffer)?;
+        let (line, after) = split_line(LineEnd::plain(end), rest);
+        put_answer(command.answer(line), end, line, writer, buffer)?;
         rest = after;
     }
     write_whole(writer, buffer.as_slice())
@@ -85,6 +85,7 @@ pub fn answer_lines<C: LineCommand, W: Write>(
 
 /// Splits off the first line and the byte that ends it, and returns the line and the rest. A line of CSV whose quotes
 /// never close goes to the end of the text.
+#[inline(always)]
 pub fn split_line(end: LineEnd, text: &[u8]) -> (&[u8], &[u8])
     requires { 0 < length text.now }
     ensures lines { lines_of end text.now ≡ result.0.now ∷ lines_of end result.1.now }

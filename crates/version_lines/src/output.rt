@@ -71,7 +71,8 @@ pub fn put_line<W: Write>(
     ensures err { OnErr result (AppendsProperBeginning (W.contents writer.old)
         (W.contents writer.new) (buffer.old.items ++ labelled_line end label.now line.now)) }
 {
-    if label.len() + line.len() < buffer.capacity() - buffer.len() {
+    let room = buffer.capacity() - buffer.len();
+    if line.len() < room && label.len() < room - line.len() {
         add_line(buffer, end, label, line);
         return Ok(());
     }

@@ -6,7 +6,7 @@ use version_commands::TaskFault;
 use version_usage::faults::WordsFault;
 
 /// Why a run failed. It prints as the program writes it to standard error.
-#[derive(Debug, PartialEq, Eq, Drop)]
+#[derive(Debug, Drop)]
 pub enum Fault<'w> {
     /// The words mean no task.
     Words(WordsFault),

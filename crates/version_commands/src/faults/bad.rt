@@ -15,7 +15,7 @@ use version_lines::{Column, Invalid, Line};
 use version_schemes::Scheme;
 
 /// The first line that has no version, as a message tells of it.
-#[derive(Debug, PartialEq, Eq, Drop)]
+#[derive(Debug, Drop)]
 pub struct Blamed<'w> {
     /// Its number in its file, counted from 1.
     pub number: usize,

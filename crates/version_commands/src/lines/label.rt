@@ -9,7 +9,7 @@ use crate::lines::write::write_answers;
 use crate::options::Labels;
 use std::alloc::Global;
 use std::io::Write;
-use version_lines::{Answer, LineCommand, LineEnd, Source};
+use version_lines::{Answer, LineCommand, Source};
 use version_rules::Kind;
 use version_texts::VersioningRef;
 
@@ -24,13 +24,7 @@ pub fn write_labels<'w, R: Source, W: Write>(
         (ComesOfStandard (R.may_fail reader.old)) (W.contents writer.old) (W.contents writer.new) result }
 {
     let input = read_standard(alloc, reader)?;
-    write_answers(
-        alloc,
-        &labels,
-        LineEnd::plain(b'\n'),
-        input.as_slice(),
-        writer,
-    )
+    write_answers(alloc, &labels, b'\n', input.as_slice(), writer)
 }
 
 impl LineCommand for Labels {

@@ -7,7 +7,7 @@ use crate::files::inputs::read_standard;
 use crate::lines::write::{whole_if, write_answers};
 use std::alloc::Global;
 use std::io::Write;
-use version_lines::{Answer, LineCommand, LineEnd, Source};
+use version_lines::{Answer, LineCommand, Source};
 use version_requirements::RequirementsRef;
 
 /// Writes those lines of the reader that are versions which the list matches that a word is.
@@ -28,7 +28,7 @@ pub fn write_matched<'w, R: Source, W: Write>(
     write_answers(
         alloc,
         &Listed { list: &list },
-        LineEnd::plain(b'\n'),
+        b'\n',
         input.as_slice(),
         writer,
     )

@@ -2,7 +2,7 @@
 ghost use Rattle.std.specs.Prelude.{◌≡◌, ◌++◌, [], ℕ, List, map, if◌then◌else◌, IfErr, IfOk, OnErr, OnOk};
 ghost use Rattle.std.specs.Io.KnownBytes.{Appends};
 ghost use Rattle.version_commands.specs.{Fault.ComesOfPut, Files.AltersAtMost, Files.Leaves, Run.Ends, Run.Finishes, lines.Arranged.placed, lines.Arranged.policy, lines.Ordered.bad_file, lines.Ordered.put_of, lines.Ordered.IsPlaced};
-ghost use Rattle.version_lines.specs.Lines.{answer_text, lines_output, output_by, whole_line, AppendsProperBeginning, AppendsUpTo};
+ghost use Rattle.version_lines.specs.Lines.{answer_text, lines_output, output_by, plain_end, whole_line, AppendsProperBeginning, AppendsUpTo};
 
 use crate::faults::TaskFault;
 use crate::faults::bad::policy;
@@ -13,8 +13,7 @@ use crate::options::LineOptions;
 use std::alloc::{AllocError, Global};
 use std::io::Write;
 use version_lines::{
-    Answer, Invalid, Line, LineCommand, LineEnd, NotWritten, Trouble, answer_lines, make_buffer,
-    write_whole,
+    Answer, Invalid, Line, LineCommand, NotWritten, Trouble, answer_lines, make_buffer, write_whole,
 };
 
 impl<'w, C> LineRun<'_, 'w, C> {
@@ -149,16 +148,17 @@ fn joined_lines(alloc: Global, end: u8, lines: &[Line<'_, '_>]) -> Result<Vec<u8
     Ok(bytes)
 }
 
-/// Writes what a command answers for each line. Not inlined, so that each of its forms has the registers for itself.
+/// Writes what a command answers for each line, each ended by a byte. Not inlined, so that each of its forms has the
+/// registers for itself.
 #[inline(never)]
 pub fn write_answers<'w, C: LineCommand, W: Write>(
     alloc: Global,
     command: &C,
-    end: LineEnd,
+    end: u8,
     input: &[u8],
     writer: &mut W,
 ) -> Result<(), TaskFault<'w>>
-    ensures { Ends (λ output. output ≡ output_by end (C.line_output command.now end.byte) input.now)
+    ensures { Ends (λ output. output ≡ output_by (plain_end end) (C.line_output command.now end) input.now)
         (λ fault. fault ≡ TaskFault.Memory) (W.contents writer.old) (W.contents writer.new) result }
 {
     let mut buffer = make_buffer(alloc)?;
