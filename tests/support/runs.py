@@ -328,11 +328,9 @@ TABLES = (
 
 # The public calls of the programs' crates that may allocate, and a run that goes through each.
 CALLS = {
-    "vers_words::run": ("vers", "sort"),
-    "version_words::run": ("versions", "sort"),
-    # `run` makes these two calls. The last quotes a line that is no version.
+    "vers_words::task_of": ("vers", "key 1.2.3"),
     "version_words::read_words": ("versions", "key 1..2"),
-    "version_commands::Files::read": ("versions", "sort -t, -k2 table -"),
+    "version_runs::Files::read": ("versions", "sort -t, -k2 table -"),
     "version_commands::serve": ("versions", "compare --explain 1.10 1.9"),
     "version_answers::quoted": ("versions", "sort"),
     "version_answers::add_show": ("versions", "show 1:2.0-3"),

@@ -6,10 +6,13 @@ ghost use Rattle.std.specs.Prelude.{◌≡◌, MatchResult};
 ghost use Rattle.std.specs.Process.{exit_status};
 ghost use Rattle.vers_words.specs.Fault.{status_of};
 
+mod run;
+
+use run::run;
 use std::env;
 use std::env::Env;
 use std::process::ExitCode;
-use vers_words::{Fault, run};
+use vers_words::Fault;
 
 fn main(rt: HostRuntime) -> ExitCode {
     let Some(words) = words(&rt) else {

@@ -1,9 +1,9 @@
 -- What `vers` prints of a fault, and the status that it ends with.
 use Rattle.std.specs.Prelude.{ℕ, List, ◌++◌, codes, decimal}
-use Rattle.version_commands.specs.declared.faults.TaskFault.TheVariants.{NotVersion, NotRequirement, BadLine, Read}
+use Rattle.version_runs.specs.declared.faults.TaskFault.TheVariants.{NotVersion, NotRequirement, BadLine, Read}
 use Rattle.vers_words.specs.declared.faults.{Fault.Fault, Fault.TheVariants.Usage, Fault.TheVariants.Task}
-use Rattle.version_commands.specs.Fault as task
-use Rattle.version_commands.specs.declared.faults.TaskFault as commands
+use Rattle.version_runs.specs.Fault as task
+use Rattle.version_runs.specs.declared.faults.TaskFault as commands
 
 -- the text of the fault of a task: words stand there whole, and nothing more of a line than its number
 abbrev pub task_fault_text : commands.TaskFault → List ℕ

@@ -2,15 +2,15 @@
 use Rattle.std.specs.Prelude.{◌≡◌, ◌||◌, ⊤, ℕ, Bool, true, false, List, [], ◌∷◌, None, codes, map}
 use Rattle.std.specs.Str.{bytes_eq}
 use Rattle.vers_words.specs.declared.faults.{Fault.Fault, Fault.TheVariants.Usage, Fault.TheVariants.Task}
-use Rattle.version_commands.specs.declared.options.Task.TheVariants.{Compare, Each, Label, Lines, Match}
-use Rattle.version_commands.specs.declared.{faults.TaskFault.TheVariants.Memory, files.NoFiles.NoFiles, options.Arrangement.TheVariants.Sort, options.EachOptions.EachOptions}
+use Rattle.version_runs.specs.declared.options.Task.TheVariants.{Compare, Each, Label, Lines, Match}
+use Rattle.version_runs.specs.declared.{faults.TaskFault.TheVariants.Memory, files.NoFiles.NoFiles, options.Arrangement.TheVariants.Sort, options.EachOptions.EachOptions}
 use Rattle.version_lines.specs.declared.lines.Invalid.TheVariants.{Fail}
-use Rattle.version_commands.specs.declared.options.{Labels.TheVariants.Every, Labels.TheVariants.Strict, LineOptions.LineOptions, Question.TheVariants.Key}
+use Rattle.version_runs.specs.declared.options.{Labels.TheVariants.Every, Labels.TheVariants.Strict, LineOptions.LineOptions, Question.TheVariants.Key}
 use Rattle.version_answers.specs.declared.spelling.Naming.TheVariants.{Bare}
 use Rattle.version_lines.specs.Lines.{line_feed, plain_end}
 use Rattle.version_schemes.specs.declared.scheme.Scheme.TheVariants.{Mixed}
 use Rattle.version_tasks.specs.declared.stability.Stability.TheVariants.{Dev}
-use Rattle.version_commands.specs.declared.options.Task as options
+use Rattle.version_runs.specs.declared.options.Task as options
 
 -- whether the words are a command: its name, and as many words as it takes; none are `ideal`
 abbrev pub are_command : List (List ℕ) → Bool

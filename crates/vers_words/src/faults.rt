@@ -14,7 +14,7 @@ pub enum Fault<'w> {
     /// The words are not a command of the program.
     Usage,
     /// The task of the words failed.
-    Task(version_commands::TaskFault<'w>),
+    Task(version_runs::TaskFault<'w>),
 }
 
 impl Fault<'_> {
@@ -50,43 +50,43 @@ impl fmt::Display for Fault<'_> {
 // Writes the fault of a task. Words stand there whole, and nothing more of a line than its number.
 fn write_fault<W: fmt::Write>(
     f: &mut fmt::Formatter<W>,
-    fault: &version_commands::TaskFault<'_>,
+    fault: &version_runs::TaskFault<'_>,
 ) -> fmt::Result
     ensures { DisplaysOnOk W.write_str_gives f.old result (Some (task_fault_text fault.now)) f.new }
 {
     match fault {
-        version_commands::TaskFault::NotVersion(word, _) => write!(f, "not a version: {word}"),
-        version_commands::TaskFault::NotRequirement(word) => write!(f, "not a requirement: {word}"),
-        version_commands::TaskFault::BadLine(bad) => {
+        version_runs::TaskFault::NotVersion(word, _) => write!(f, "not a version: {word}"),
+        version_runs::TaskFault::NotRequirement(word) => write!(f, "not a requirement: {word}"),
+        version_runs::TaskFault::BadLine(bad) => {
             let number = bad.number;
             write!(f, "line {number} is not a version")
         }
-        version_commands::TaskFault::Read(_) => write!(f, "read failed"),
+        version_runs::TaskFault::Read(_) => write!(f, "read failed"),
         fault => write!(f, "{fault}"),
     }
 }
 
 impl Error for Fault<'_> {}
 
-impl<'w> From<version_commands::TaskFault<'w>> for Fault<'w> {
+impl<'w> From<version_runs::TaskFault<'w>> for Fault<'w> {
     ghost use Rattle.std.specs.Prelude.{◌≡◌};
     ghost use Rattle.vers_words.specs.declared.faults.Fault.TheVariants.{Task};
 
     ghost from_gives = { λ of fault. fault ≡ Task of };
 
-    fn from(fault: version_commands::TaskFault<'w>) -> Fault<'w> {
+    fn from(fault: version_runs::TaskFault<'w>) -> Fault<'w> {
         Fault::Task(fault)
     }
 }
 
 impl From<AllocError> for Fault<'_> {
     ghost use Rattle.std.specs.Prelude.{◌≡◌};
-    ghost use Rattle.version_commands.specs.declared.faults.TaskFault.TheVariants.{Memory};
+    ghost use Rattle.version_runs.specs.declared.faults.TaskFault.TheVariants.{Memory};
     ghost use Rattle.vers_words.specs.declared.faults.Fault.TheVariants.{Task};
 
     ghost from_gives = { λ _ fault. fault ≡ Task Memory };
 
     fn from(_refused: AllocError) -> Self {
-        Fault::Task(version_commands::TaskFault::Memory)
+        Fault::Task(version_runs::TaskFault::Memory)
     }
 }

@@ -1,10 +1,9 @@
-//! The program `vers` over any reader and writer: `run` reads the words of a command, and does what they mean.
+//! The words of the program `vers`: `task_of` reads those of a command as the task that they mean.
 //! docs/VERS.md has its rules.
 #![tactic(auto)]
 
 mod faults;
-mod program;
 mod words;
 
 pub use faults::Fault;
-pub use program::run;
+pub use words::task_of;

@@ -4,11 +4,11 @@ ghost use Rattle.vers_words.specs.Words.{are_command, ArePlain, Means};
 
 use std::alloc::{AllocError, Global};
 use version_answers::{Naming, Spelling};
-use version_commands::{
+use version_lines::{Column, Invalid, LineEnd, Separators};
+use version_runs::{
     Arrangement, Choice, ColumnNames, EachOptions, Labels, LineOptions, Question, Task,
     VersionPlace,
 };
-use version_lines::{Column, Invalid, LineEnd, Separators};
 use version_schemes::Scheme;
 use version_tasks::Stability;
 

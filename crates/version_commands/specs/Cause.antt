@@ -3,16 +3,19 @@
 use Rattle.std.proofs.Common.{Bor, Global, String}
 use Rattle.std.specs.Prelude.{◌≡◌, ◌⊎◌, ⊤, ℕ, Bool, false, List, [], ◌∷◌, ◌++◌, map, Option, None, Some, string_bytes}
 use Rattle.std.specs.Io.KnownBytes.{Consumes, IsAtEnd}
-use Rattle.version_commands.specs.Each.{has_version, place_of, spelling_of, AreTexts, IsFirstWithoutNext}
+use Rattle.version_commands.specs.Each.{has_version, AreTexts, IsFirstWithoutNext}
+use Rattle.version_runs.specs.Place.{place_of, spelling_of}
 use Rattle.version_commands.specs.Fault.{first_wrong, ComesOfLines, ComesOfMatching, ComesOfPut, ComesOfReading, ComesOfSets, ComesOfStandard, ComesOfTestOfSet, ComesOfTestOfSets, ComesOfTestOfTwo, ComesOfWords}
-use Rattle.version_commands.specs.{Files.inputs_of, Files.names_read, Files.AreInputs, Files.Reading, Lists.bad_lines_of, Lists.lines_of_list, Lists.names_of, declared.faults.TaskFault.TaskFault, declared.options.EachOptions.EachOptions}
-use Rattle.version_commands.specs.declared.options.{LineOptions.LineOptions, Lists.Lists, Question.Question, Question.TheVariants.Why, Task.Task}
+use Rattle.version_commands.specs.{Files.inputs_of, Files.names_read, Files.AreInputs, Files.Reading, Lists.bad_lines_of, Lists.lines_of_list, Lists.names_of}
+use Rattle.version_runs.specs.{declared.faults.TaskFault.TaskFault, declared.options.EachOptions.EachOptions}
+use Rattle.version_runs.specs.declared.options.{LineOptions.LineOptions, Lists.Lists, Question.Question, Question.TheVariants.Why, Task.Task}
 use Rattle.version_lines.specs.declared.lines.Invalid.TheVariants.{Fail}
-use Rattle.version_commands.specs.lines.{Arranged.policy, Choice.wrong_set, Choice.Finding, Choice.HoldsByWords, Ordered.body_of, Ordered.name_missing, Ordered.options_in, Ordered.versions_in, Picked.reads_of, Picked.Versions}
+use Rattle.version_commands.specs.lines.{Arranged.policy, Choice.wrong_set, Choice.Finding, Choice.HoldsByWords, Ordered.body_of, Ordered.name_missing, Ordered.options_in, Ordered.versions_in, Picked.Versions}
+use Rattle.version_runs.specs.Place.{reads_of}
 use Rattle.version_answers.specs.{Message.quoted, Message.IsRemark, Sets.IsWrongSet, Spelling.mixed_spelling, Spelling.spelled, Spelling.spelled_mixed, declared.set.WrongSet.WrongSet, declared.spelling.Naming.Naming}
 use Rattle.version_lines.specs.{Inputs.lines_of_input, Inputs.lines_of_inputs, Inputs.PlainLine, Lines.plain_end, Sort.version_in}
-use Rattle.version_commands.specs.declared.faults.TaskFault.TheVariants as fault
-use Rattle.version_commands.specs.declared.options.Task.TheVariants as task
+use Rattle.version_runs.specs.declared.faults.TaskFault.TheVariants as fault
+use Rattle.version_runs.specs.declared.options.Task.TheVariants as task
 
 -- the faults of a run over the lines of an input: of the lines that have no version, or of the file
 -- for these

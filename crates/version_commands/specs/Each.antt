@@ -3,34 +3,19 @@ use Rattle.std.proofs.Common.{Bor}
 use Rattle.std.specs.Prelude.{◌≡◌, ◌⊎◌, ⊤, ℕ, Bool, true, List, [], ◌∷◌, ◌++◌, map, not, Option, None, Some, is_some, IsSomeAnd}
 use Rattle.std.specs.{Io.KnownBytes.Consumes, Io.KnownBytes.IsAtEnd, List.filter, List.list_all, List.list_any}
 use Rattle.version_answers.specs.One.{json_line, key_line, show_text, NoNextBy, WritesNext, Adds, IsWhyHead, IsWhyLine}
-use Rattle.version_answers.specs.{Sets.keys_of, Spelling.before_named, Spelling.spelled, declared.spelling.Naming.Naming, declared.spelling.Spelling.Spelling}
-use Rattle.version_commands.specs.declared.options.Question.TheVariants.{Show, Json, Key, Why, Next}
-use Rattle.version_commands.specs.{declared.options.EachOptions.EachOptions, declared.options.Question.Question, declared.options.VersionPlace.VersionPlace, declared.words.each.Answers.Answers, lines.Picked.line_text}
+use Rattle.version_answers.specs.{Sets.keys_of, Spelling.before_named, Spelling.spelled, declared.spelling.Naming.Naming}
+use Rattle.version_runs.specs.declared.options.Question.TheVariants.{Show, Json, Key, Why, Next}
+use Rattle.version_commands.specs.{declared.words.each.Answers.Answers}
+use Rattle.version_runs.specs.Place.{line_text, spelling_of}
+use Rattle.version_runs.specs.{declared.options.EachOptions.EachOptions, declared.options.Question.Question}
 use Rattle.version_lines.specs.Lines.{lines_of, plain_end}
-use Rattle.version_schemes.specs.{any.Order.PlainAny, declared.scheme.Scheme.Scheme, declared.scheme.Scheme.TheVariants.Mixed}
+use Rattle.version_schemes.specs.{any.Order.PlainAny}
 use Rattle.version_sets.specs.Form.{has}
 use Rattle.version_rules.specs.grammar.Versioning.{PlainVersioning, versioning_of}
-
--- by which scheme a question reads versions: only `key` and `why` may ask for another than mixed
-abbrev pub scheme_of : Question → Scheme
-scheme_of Show = Mixed
-scheme_of Json = Mixed
-scheme_of (Key scheme) = scheme
-scheme_of (Why scheme set) = scheme
-scheme_of (Next step) = Mixed
-
--- how a text spells a version to it
-abbrev pub spelling_of : Question → Naming → Spelling
-spelling_of question naming = record { naming = naming; scheme = scheme_of question }
 
 -- the version that a text is to it
 abbrev pub version_asked : Question → Naming → List ℕ → Option PlainAny
 version_asked question naming = spelled (spelling_of question naming)
-
--- where the version of a line stands: the whole line spells it
-abbrev pub place_of : Question → Naming → Bool → VersionPlace
-place_of question naming crlf =
-    record { crlf = crlf; column = None; spelling = spelling_of question naming }
 
 -- something holds of the version of the scheme mixed that a version is
 abbrev pub OfMixed : PlainAny → (PlainVersioning → Type 0) → Type 0

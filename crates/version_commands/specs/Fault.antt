@@ -1,13 +1,16 @@
 -- The faults of a task: what a message says of them, and what they come of.
-use Rattle.std.specs.Prelude.{◌≡◌, ◌==◌, ◌&&◌, ℕ, Bool, List, [], ◌∷◌, Option, None, Some, length, not, string_bytes, ◌⊎◌, ⊤, false, true, ◌-◌, IsSome, IsSomeAnd, codes, if◌then◌else◌, ◌++◌}
-use Rattle.std.specs.{Fmt.decimal, List.slice_get, Option.option_map, Option.option_map_or, Option.option_or}
-use Rattle.version_commands.specs.declared.faults.TaskFault.TheVariants.{NotVersion, NotRequirement, NotSet, NotTested, NotTestedSet, BadLine, NoNext, NoColumn, Unclosed, Memory, Read, Write}
-use Rattle.version_commands.specs.{Files.ComesFirstAt, Files.EndsOpen, Files.MayFail, Files.Reading, declared.faults.TaskFault.TaskFault, declared.faults.bad.Blamed.Blamed}
+use Rattle.std.specs.Prelude.{◌≡◌, ◌==◌, ◌&&◌, ℕ, Bool, List, [], ◌∷◌, Option, None, Some, length, not, string_bytes, ◌⊎◌, ⊤, false, true, ◌-◌, IsSome, IsSomeAnd, codes}
+use Rattle.std.specs.{List.slice_get, Option.option_map, Option.option_map_or, Option.option_or}
+use Rattle.version_runs.specs.declared.faults.TaskFault.TheVariants.{NotVersion, NotRequirement, NotSet, NotTested, NotTestedSet, BadLine, NoColumn, Unclosed, Memory, Read, Write}
+use Rattle.version_commands.specs.{Files.ComesFirstAt, Files.EndsOpen, Files.MayFail, Files.Reading}
+use Rattle.version_runs.specs.{declared.faults.TaskFault.TaskFault, declared.faults.Blamed.Blamed}
 use Rattle.version_lines.specs.declared.lines.Invalid.{Invalid}
-use Rattle.version_commands.specs.{declared.options.LineOptions.LineOptions, declared.options.VersionPlace.VersionPlace, lines.Arranged.scheme_in}
-use Rattle.version_commands.specs.lines.Picked.{column_in, line_text, bad_lines, Versions}
-use Rattle.version_answers.specs.Message.{shown_front, quoted, no_version_text, others_text, IsRemark}
-use Rattle.version_answers.specs.{Sets.wrong_set_text, Sets.IsWrongSet, Sets.keys_of, Spelling.spelled, declared.message.remark.Remark.Remark, declared.spelling.Naming.Naming, declared.spelling.Spelling.Spelling}
+use Rattle.version_commands.specs.{lines.Arranged.scheme_in}
+use Rattle.version_runs.specs.{declared.options.LineOptions.LineOptions, declared.options.VersionPlace.VersionPlace}
+use Rattle.version_commands.specs.lines.Picked.{bad_lines, Versions}
+use Rattle.version_runs.specs.Place.{column_in, line_text}
+use Rattle.version_answers.specs.Message.{shown_front, IsRemark}
+use Rattle.version_answers.specs.{Sets.IsWrongSet, Sets.keys_of, Spelling.spelled, declared.message.remark.Remark.Remark, declared.spelling.Naming.Naming, declared.spelling.Spelling.Spelling}
 use Rattle.version_lines.specs.{Inputs.PlainLine, declared.column.Column.Column, declared.input.Trouble.Trouble, declared.lines.LineEnd.LineEnd}
 use Rattle.version_schemes.specs.declared.scheme.Scheme.{Scheme}
 use Rattle.version_rules.specs.requirement.Requirements.{requirements_of}
@@ -45,53 +48,6 @@ Reports place schemes (first ∷ others) bad =
     (bad.number ≡ first.number) × (option_map (λ name. name.now) bad.file ≡ first.file)
     × Tells place schemes first.text (string_bytes bad.text) bad.remark
     × (bad.ends_in_return ≡ (not place.crlf && ends_in_return first.text)) × (bad.more ≡ length others)
-
--- the status that a fault ends the program with
-abbrev pub status_of : TaskFault → ℕ
-status_of (NotVersion text remark) = 1
-status_of (NotRequirement text) = 1
-status_of (NotSet wrong) = 1
-status_of (NotTested text remark) = 2
-status_of (NotTestedSet wrong) = 2
-status_of (BadLine bad) = 1
-status_of (NoNext text) = 1
-status_of (NoColumn name) = 1
-status_of (Unclosed name number) = 1
-status_of Memory = 3
-status_of (Read name) = 3
-status_of (Write name) = 3
-
--- of which file
-abbrev pub file_text : Option (Bor (List ℕ)) → List ℕ
-file_text None = []
-file_text (Some name) = codes " of " ++ quoted name.now
-
--- what a message says of the first line that has no version, and of how many more have none
-abbrev pub bad_line_text : Blamed → List ℕ
-bad_line_text bad = codes "line " ++ (decimal bad.number ++ (file_text bad.file ++ (if bad.ends_in_return
-    then codes " ends in a carriage return: --crlf" ++ others_text bad.more
-    else codes " is not a version: " ++ no_version_text bad.remark (string_bytes bad.text) (others_text bad.more))))
-
--- what a message says of a word that is no version
-abbrev pub no_version_word : List ℕ → Option Remark → List ℕ
-no_version_word word remark = codes "not a version: " ++ no_version_text remark word []
-
--- what a message says of a fault
-abbrev pub fault_text : TaskFault → List ℕ
-fault_text (NotVersion word remark) = no_version_word word.now remark
-fault_text (NotRequirement word) = codes "not a requirement: " ++ quoted word.now
-fault_text (NotSet wrong) = wrong_set_text wrong
-fault_text (NotTested word remark) = no_version_word word.now remark
-fault_text (NotTestedSet wrong) = wrong_set_text wrong
-fault_text (BadLine bad) = bad_line_text bad
-fault_text (NoNext text) = codes "no version comes next at that place: " ++ string_bytes text
-fault_text (NoColumn name) = codes "no column is named " ++ quoted name.now
-fault_text (Unclosed name number) =
-    codes "line " ++ (decimal number ++ (codes " of " ++ (quoted name.now ++ codes ": its quotes never close")))
-fault_text Memory = codes "no memory"
-fault_text (Read name) = codes "cannot be read: " ++ quoted name.now
-fault_text (Write (Some name)) = codes "cannot be written: " ++ quoted name.now
-fault_text (Write None) = codes "write failed"
 
 -- the fault of the input of this name, which can't be read for this reason
 abbrev pub not_read : Bor (List ℕ) → Trouble → TaskFault

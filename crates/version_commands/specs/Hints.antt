@@ -2,20 +2,23 @@
 use Rattle.std.specs.Prelude.{◌≡◌, ◌&&◌, ◌||◌, ◌-◌, ◌<◌, ℕ, Bool, true, false, List, [], ◌∷◌, get_or, length, Option, Some, None, is_some, not, ◌⊎◌, map}
 use Rattle.std.specs.{List.list_any, Option.option_map_or, Ordering.is_lt, Str.bytes_eq, declared.cmp.Ordering.Ordering}
 use Rattle.std.specs.declared.cmp.Ordering.TheVariants.{Less, Equal, Greater}
-use Rattle.version_commands.specs.declared.files.Hint.TheVariants.{NotVersion, NoFile, Tags, WholeLines, Repeated, NothingKept}
-use Rattle.version_commands.specs.{Cause.ComesOfArranging, Each.spelling_of, Each.version_asked, Fault.ends_in_return, Files.inputs_of, Files.names_read, Files.AreInputs, Files.Reading}
-use Rattle.version_commands.specs.{Lists.first_rows, Lists.names_of, Lists.rows_of, Lists.Row, Output.answer_of_two, declared.files.Hint.Hint, declared.options.Arrangement.Arrangement}
-use Rattle.version_commands.specs.declared.options.{Arrangement.TheVariants.Sort, Arrangement.TheVariants.Newest, Arrangement.TheVariants.Filter, ColumnNames.ColumnNames, EachOptions.EachOptions, LineOptions.LineOptions, Lists.Lists}
-use Rattle.version_commands.specs.declared.options.{Question.Question, Question.TheVariants.Why, Question.TheVariants.Next, Task.Task, VersionPlace.VersionPlace}
-use Rattle.version_commands.specs.lines.{Choice.is_of, Choice.keeps_of, Choice.Finding, Choice.HoldsByWords, Ordered.body_of, Ordered.options_in, Ordered.ordered_in, Picked.group_text, Picked.text_of}
+use Rattle.version_runs.specs.declared.files.Hint.TheVariants.{NotVersion, NoFile, Tags, WholeLines, Repeated, NothingKept}
+use Rattle.version_commands.specs.{Cause.ComesOfArranging, Each.version_asked, Fault.ends_in_return, Files.inputs_of, Files.names_read, Files.AreInputs, Files.Reading}
+use Rattle.version_runs.specs.Place.{spelling_of}
+use Rattle.version_commands.specs.{Lists.first_rows, Lists.names_of, Lists.rows_of, Lists.Row, Output.answer_of_two}
+use Rattle.version_runs.specs.{declared.files.Hint.Hint, declared.options.Arrangement.Arrangement}
+use Rattle.version_runs.specs.declared.options.{Arrangement.TheVariants.Sort, Arrangement.TheVariants.Newest, Arrangement.TheVariants.Filter, ColumnNames.ColumnNames, EachOptions.EachOptions, LineOptions.LineOptions, Lists.Lists}
+use Rattle.version_runs.specs.declared.options.{Question.Question, Question.TheVariants.Why, Question.TheVariants.Next, Task.Task, VersionPlace.VersionPlace}
+use Rattle.version_commands.specs.lines.{Choice.is_of, Choice.keeps_of, Choice.Finding, Choice.HoldsByWords, Ordered.body_of, Ordered.options_in, Ordered.ordered_in, Picked.group_text}
+use Rattle.version_runs.specs.Place.{text_of}
 use Rattle.version_lines.specs.{Inputs.lines_of_inputs, Inputs.texts_of, Inputs.PlainLine, declared.column.Column.Column, declared.column.Separators.Separators, declared.column.Separators.TheVariants.Bytes}
 use Rattle.version_schemes.specs.{any.Order.PlainAny, any.Order.any_of, declared.scheme.Scheme.Scheme, declared.scheme.Scheme.TheVariants.Mixed}
 use Rattle.version_answers.specs.Tags.{is_bare, begins_with_v, tagged, differ, order_of_tags, begins_with_number, compare_otherwise, is_tested_otherwise, HasNextInTag}
 use Rattle.version_answers.specs.{Message.IsRemark, Sets.keys_of, declared.spelling.Naming.Naming}
 use Rattle.std.proofs.Common.{Bor}
-use Rattle.version_commands.specs.declared.options.Arrangement.TheVariants as arrangement
-use Rattle.version_commands.specs.declared.faults.TaskFault.TheVariants as fault
-use Rattle.version_commands.specs.declared.options.Task.TheVariants as task
+use Rattle.version_runs.specs.declared.options.Arrangement.TheVariants as arrangement
+use Rattle.version_runs.specs.declared.faults.TaskFault.TheVariants as fault
+use Rattle.version_runs.specs.declared.options.Task.TheVariants as task
 
 -- whether a text is a version that is kept
 abbrev pub is_kept_by : (PlainAny → Bool) → Option PlainAny → Bool

@@ -2,8 +2,10 @@
 use Rattle.std.specs.Prelude.{◌≡◌, ℕ, List, [], ◌∷◌, ◌++◌, map, codes, Option, Some, None, is_some, if◌then◌else◌}
 use Rattle.std.specs.{BTreeMap.get_by, Cmp.Lexicographic.slice_cmp, List.flat_map, Option.option_map, Option.option_map_or, Ordering.nat_cmp, Str.bytes_eq, declared.cmp.Ordering.Ordering}
 use Rattle.std.specs.declared.cmp.Ordering.TheVariants.{Less, Equal, Greater}
-use Rattle.version_commands.specs.declared.{lists.Named.Named, lists.Names.Names, lists.WhichList.WhichList, lists.WhichList.TheVariants.Old, lists.WhichList.TheVariants.New, options.Lists.Lists}
-use Rattle.version_commands.specs.lines.Picked.{bad_lines, column_text, line_text, reads_of}
+use Rattle.version_commands.specs.declared.{lists.Named.Named, lists.Names.Names, lists.WhichList.WhichList, lists.WhichList.TheVariants.Old, lists.WhichList.TheVariants.New}
+use Rattle.version_runs.specs.declared.{options.Lists.Lists}
+use Rattle.version_commands.specs.lines.Picked.{bad_lines}
+use Rattle.version_runs.specs.Place.{column_text, line_text, reads_of}
 use Rattle.version_lines.specs.{Inputs.lines_of_input, Inputs.PlainLine, Lines.lines_of, Lines.whole_line, Sort.version_in}
 use Rattle.version_schemes.specs.any.{AnyVersion.plain_any, Order.PlainAny, Order.any_precedence}
 

@@ -5,7 +5,7 @@ use Rattle.std.specs.{Io.KnownBytes.Consumes, Io.KnownBytes.IsAtEnd, List.list_a
 use Rattle.version_answers.specs.{One.kind_name, Sets.keys_of, Spelling.spelled, Spelling.spelled_mixed, Two.holds, Two.comparison_line, Two.difference_line, Two.explained_line, declared.spelling.Spelling.Spelling}
 use Rattle.version_answers.specs.declared.two.compare.Operator.{Operator}
 use Rattle.version_commands.specs.{Each.are_versions, Each.IsAnswered, Each.IsAsked, Files.names_read, Files.reads_standard, Files.AreInputs, Files.Reading, Lists.bad_lines_of, Lists.difference_text, Lists.names_of, Lists.rows_of}
-use Rattle.version_commands.specs.declared.options.{Labels.Labels, Labels.TheVariants.Strict, Labels.TheVariants.Every, Lists.Lists, Task.Task}
+use Rattle.version_runs.specs.declared.options.{Labels.Labels, Labels.TheVariants.Strict, Labels.TheVariants.Every, Lists.Lists, Task.Task}
 use Rattle.version_lines.specs.declared.lines.Invalid.TheVariants.{Fail}
 use Rattle.version_commands.specs.lines.{Choice.may_be_standard, Choice.Finding, Choice.HoldsByWords, Ordered.bad_file, Ordered.IsOrdered}
 use Rattle.version_lines.specs.Lines.{labelled_line, line_feed, output_by, plain_end, whole_line, ends_quoted}
@@ -14,7 +14,7 @@ use Rattle.version_rules.specs.{laws.Matching.matches_all_or_not, requirement.Re
 use Rattle.version_schemes.specs.{any.Order.any_precedence, declared.scheme.Scheme.Scheme}
 use Rattle.version_sets.specs.Form.{IsPart, Meet}
 use Rattle.std.proofs.Common.{inl, inr}
-use Rattle.version_commands.specs.declared.options.Task.TheVariants as task
+use Rattle.version_runs.specs.declared.options.Task.TheVariants as task
 
 -- ---- the lines of an input with the kinds of their versions
 

@@ -1,9 +1,11 @@
 -- How a run ends.
 use Rattle.std.specs.Prelude.{ℕ, Bool, false, true, List, Option, None, Result, MatchResult, ◌≡◌, IfErr, map, ◌⊎◌, Ok, Err, IfOk, IsErrAnd}
 use Rattle.std.specs.Io.KnownBytes.{Appends, Keeps}
-use Rattle.version_commands.specs.declared.faults.TaskFault.TheVariants.{Write, Memory, NotRequirement, NotSet, NotTested, NotTestedSet, NotVersion}
-use Rattle.version_commands.specs.{Cause.ComesOfArranged, Cause.ComesOf, Files.AltersAtMost, Files.Leaves, Files.Reading, Output.asks_reader, Output.file_of, Output.Answers, Output.IsOutput, declared.faults.TaskFault.TaskFault}
-use Rattle.version_commands.specs.{declared.lines.run.Input.Input, declared.options.LineOptions.LineOptions, declared.options.Task.Task, lines.Choice.Finding, lines.Ordered.bad_file, lines.Ordered.IsArranged, lines.Picked.Versions}
+use Rattle.version_runs.specs.declared.faults.TaskFault.TheVariants.{Write, Memory, NotRequirement, NotSet, NotTested, NotTestedSet, NotVersion}
+use Rattle.version_commands.specs.{Cause.ComesOfArranged, Cause.ComesOf, Files.AltersAtMost, Files.Leaves, Files.Reading, Output.asks_reader, Output.file_of, Output.Answers, Output.IsOutput}
+use Rattle.version_runs.specs.{declared.faults.TaskFault.TaskFault}
+use Rattle.version_commands.specs.{declared.lines.run.Input.Input, lines.Choice.Finding, lines.Ordered.bad_file, lines.Ordered.IsArranged, lines.Picked.Versions}
+use Rattle.version_runs.specs.{declared.options.LineOptions.LineOptions, declared.options.Task.Task}
 use Rattle.version_lines.specs.{Inputs.lines_left, Inputs.plain_line, Inputs.PlainLine, Lines.AppendsProperBeginning}
 
 -- ---- how a run ends: what it wrote, why it failed, and what a fault leaves as it was

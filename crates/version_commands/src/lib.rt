@@ -3,20 +3,12 @@
 //! allocator nor a buffer to add to.
 #![tactic(auto)]
 
-mod faults;
-mod files;
+mod bad;
 mod hints;
+mod inputs;
 mod lines;
 mod lists;
-mod options;
 mod program;
 mod words;
 
-pub use faults::TaskFault;
-pub use faults::bad::Blamed;
-pub use files::{Files, Hint, NoFiles, Stage};
-pub use options::{
-    Arrangement, Choice, ColumnNames, EachOptions, Labels, LineOptions, Lists, Question, Task,
-    VersionPlace,
-};
 pub use program::serve;

@@ -2,18 +2,18 @@
 ghost use Rattle.std.specs.Prelude.{◌≡◌, ◌∷◌, ◌++◌, [], length, map, List, IfOk, OnOk};
 ghost use Rattle.std.specs.Option.{option_map};
 ghost use Rattle.version_commands.specs.Lists.{difference_text, first_rows, bad_lines_of, lines_against, name_line, plain_row, row_text, rows_of, version_of, AreNames, Row};
-ghost use Rattle.version_commands.specs.{Hints.repeated, lines.Picked.reads_of};
+ghost use Rattle.version_commands.specs.{Hints.repeated};
+ghost use Rattle.version_runs.specs.Place.{reads_of};
 ghost use Rattle.version_lines.specs.{Inputs.plain_line, Lines.whole_line, Sort.version_in};
 ghost use Rattle.version_schemes.specs.any.AnyVersion.{plain_any};
 
-use crate::files::inputs::count_lines;
+use crate::inputs::count_lines;
 use crate::lines::pick::{EveryVersion, Takes, pick};
-use crate::lines::place::{column_text, line_text};
-use crate::options::Lists;
 use std::alloc::{AllocError, Global};
 use std::cmp::Ordering;
 use std::collections::BTreeMap;
 use version_lines::{Line, Lines};
+use version_runs::{Lists, column_text, line_text};
 use version_schemes::{AnyVersion, Scheme};
 
 /// A name, and the version beside it.
@@ -126,7 +126,8 @@ struct NamedList<'l, 'w, 'a> {
 impl<'a> Takes<'a> for NamedList<'_, '_, 'a> {
     ghost use Rattle.std.specs.Prelude.{◌≡◌, ⊤};
     ghost use Rattle.std.specs.List.{flat_map};
-    ghost use Rattle.version_commands.specs.{Lists.rows_of_line, Lists.AreNames, lines.Picked.reads_of};
+    ghost use Rattle.version_commands.specs.{Lists.rows_of_line, Lists.AreNames};
+    ghost use Rattle.version_runs.specs.Place.{reads_of};
     ghost use Rattle.version_lines.specs.Sort.{version_in};
 
     ghost versions = { λ list. version_in (reads_of list.lists.now.place) };

@@ -6,18 +6,14 @@ ghost use Rattle.version_commands.specs.{Lists.names_of, Run.IfOfWord, Run.Unles
 ghost use Rattle.version_answers.specs.{Spelling.mixed_spelling, Spelling.spelled, Spelling.spelled_mixed, Two.comparison_line, Two.sign_text, Two.explained_line, Two.difference_line};
 ghost use Rattle.version_lines.specs.{Inputs.plain_line, Lines.line_feed};
 
-use crate::faults::TaskFault;
-use crate::faults::bad::refuse_first;
-use crate::files::Files;
-use crate::files::inputs::read_input;
+use crate::bad::refuse_first;
 use crate::hints::of_lines::{tell_of_fault, tell_of_repeated, tell_of_separators};
 use crate::hints::of_words::{tell_of_next, tell_of_two, tell_of_why, tell_others};
+use crate::inputs::read_input;
 use crate::lines::first_word::serve_by_words;
-use crate::lines::label::write_labels;
-use crate::lines::matched::write_matched;
+use crate::lines::standard::{write_labels, write_matched};
 use crate::lines::write::write_answer;
 use crate::lists::{add_lists, read_names, repeated};
-use crate::options::{Lists, Task};
 use crate::words::each::answer_each;
 use crate::words::test::{answer_line, implies, meets, test_set, test_two};
 use crate::words::word::{mixed_of_word, version_of_word};
@@ -26,6 +22,7 @@ use std::cmp::Ordering;
 use std::io::Write;
 use version_answers::{Naming, Spelling, add_difference, add_explained};
 use version_lines::{Invalid, Line, Source};
+use version_runs::{Files, Lists, Task, TaskFault};
 use version_schemes::Scheme;
 
 /// Does a task, and returns whether it answers yes: one that answers by its output alone does. What it writes is

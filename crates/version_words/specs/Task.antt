@@ -2,7 +2,7 @@
 use Rattle.std.specs.Prelude.{◌≡◌, ◌⊎◌, ⊤, ℕ, true, false, List, [], ◌∷◌, Option, None, Some, codes, map, option_map, unwrap_or, if◌then◌else◌}
 use Rattle.std.specs.Str.{bytes_eq}
 use Rattle.clap.specs.Words.{all_of, first_of, Row}
-use Rattle.version_commands.specs.declared.options.{Arrangement.Arrangement, Choice.Choice, ColumnNames.ColumnNames, EachOptions.EachOptions, LineOptions.LineOptions, Lists.Lists, Question.Question, Task.Task, VersionPlace.VersionPlace}
+use Rattle.version_runs.specs.declared.options.{Arrangement.Arrangement, Choice.Choice, ColumnNames.ColumnNames, EachOptions.EachOptions, LineOptions.LineOptions, Lists.Lists, Question.Question, Task.Task, VersionPlace.VersionPlace}
 use Rattle.version_answers.specs.declared.{one.next.Step.Step, spelling.Naming.Naming, spelling.Naming.TheVariants.Bare, spelling.Naming.TheVariants.Prefix, spelling.Naming.TheVariants.Tag, spelling.Spelling.Spelling}
 use Rattle.version_lines.specs.declared.column.{Column.Column, Separators.Separators}
 use Rattle.version_schemes.specs.declared.scheme.Scheme.{Scheme}
@@ -13,10 +13,10 @@ use Rattle.version_usage.specs.Named.{operator_named, place_named}
 use Rattle.version_usage.specs.Wrong.{Quotes}
 use Rattle.version_usage.specs.declared.faults.WordsFault.{WordsFault}
 use Rattle.version_usage.specs.declared.named.Verb.{Verb}
-use Rattle.version_commands.specs.declared.options.Arrangement.TheVariants as arrangement
-use Rattle.version_commands.specs.declared.options.Question.TheVariants as question
+use Rattle.version_runs.specs.declared.options.Arrangement.TheVariants as arrangement
+use Rattle.version_runs.specs.declared.options.Question.TheVariants as question
 use Rattle.version_answers.specs.declared.one.next.Step.TheVariants as step
-use Rattle.version_commands.specs.declared.options.Task.TheVariants as task
+use Rattle.version_runs.specs.declared.options.Task.TheVariants as task
 
 -- how a version stands in its column: `--tags` and `--prefix` exclude each other
 abbrev pub IsNaming : List Row → Naming → Type 0

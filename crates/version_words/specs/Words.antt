@@ -8,7 +8,7 @@ use Rattle.version_usage.specs.Rows.{command_in}
 use Rattle.version_usage.specs.Wrong.{ComesOfWrong, HasText}
 use Rattle.version_usage.specs.declared.faults.WordsFault.{WordsFault}
 use Rattle.version_usage.specs.declared.named.Verb.{Verb}
-use Rattle.version_commands.specs.declared.options.{Task.Task, Task.TheVariants.Say}
+use Rattle.version_runs.specs.declared.options.{Task.Task, Task.TheVariants.Say}
 use Rattle.version_words.specs.declared.faults.Fault.TheVariants as fault
 
 -- this is the task of a command

@@ -2,7 +2,7 @@
 use Rattle.std.specs.Prelude.{ℕ, List, codes, string_bytes}
 use Rattle.version_usage.specs.declared.faults.WordsFault.TheVariants.{Memory, Usage}
 use Rattle.version_words.specs.declared.faults.Fault.{Fault, TheVariants.Words, TheVariants.Task}
-use Rattle.version_commands.specs.Fault as task
+use Rattle.version_runs.specs.Fault as task
 
 -- the text of a fault
 abbrev pub fault_text : Fault → List ℕ

@@ -2,7 +2,7 @@
 
 use std::error::Error;
 use std::fmt;
-use version_commands::TaskFault;
+use version_runs::TaskFault;
 use version_usage::faults::WordsFault;
 
 /// Why a run failed. It prints as the program writes it to standard error.

@@ -1,12 +1,10 @@
-//! The program `versions` over any files, reader and writer: `run` reads the words of a command, and does what they mean.
-//! docs/VERSIONS.md has its rules.
+//! The words of the program `versions`: `read_words` reads those of a command as the task that they mean, or says what is
+//! wrong with them. docs/VERSIONS.md has its rules.
 #![tactic(auto)]
 
 mod faults;
-mod program;
 mod task;
 mod words;
 
 pub use faults::Fault;
-pub use program::run;
 pub use words::read_words;

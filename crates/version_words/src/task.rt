@@ -12,10 +12,10 @@ ghost use Rattle.version_usage.specs.Wrong.{ComesOfWrong};
 use clap::ArgMatches;
 use std::alloc::Global;
 use version_answers::{Naming, Spelling, Step};
-use version_commands::{
+use version_lines::{Column, Separators};
+use version_runs::{
     Arrangement, Choice, ColumnNames, EachOptions, LineOptions, Lists, Question, Task, VersionPlace,
 };
-use version_lines::{Column, Separators};
 use version_usage::faults::WordsFault;
 use version_usage::named::{Verb, operator_named, place_named};
 use version_usage::rows::{

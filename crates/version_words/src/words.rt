@@ -11,7 +11,7 @@ use clap::Error;
 use clap::error::ErrorKind;
 use std::alloc::{AllocError, Global};
 use version_answers::quoted;
-use version_commands::Task;
+use version_runs::Task;
 use version_usage::faults::WordsFault;
 use version_usage::grammar::{ABOUT, program};
 use version_usage::named::{LEVELS, names_of};

@@ -1,4 +1,3 @@
-pub mod Cited
 pub mod Conversions
 pub mod Errors
 pub mod Keys

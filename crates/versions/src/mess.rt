@@ -72,7 +72,7 @@ impl Mess {
 
     /// Returns the number of the chunk at `x`, counted from 0, in the first section that no colon follows, or None if
     /// the chunk is not `Digits`. So an epoch is skipped.
-    #[tactic(auto, using(crate::proofs::lemmas::Mess::first_is, crate::proofs::lemmas::Mess::lent_item, crate::proofs::lemmas::Cited::nth_cites))]
+    #[tactic(auto, using(crate::proofs::lemmas::Mess::first_is, crate::proofs::lemmas::Mess::lent_item, crate::proofs::lemmas::Mess::nth_cites))]
     pub fn nth(&self, x: usize) -> Option<u32>
         ensures { result ≡ nth_number (plain_mess self.now) x }
     {

@@ -5,8 +5,8 @@ use std::cell::Cell;
 use std::fs;
 use std::io::{self, Read, Write};
 use version_answers::Shown;
-use version_commands::{Files, Hint, Stage, TaskFault};
 use version_lines::{Trouble, read_all, write_whole};
+use version_runs::{Files, Hint, Stage, TaskFault};
 
 /// The files of the system, and why it refused one. What they hold is not known to any contract.
 #[derive(Drop)]

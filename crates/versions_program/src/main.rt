@@ -8,16 +8,18 @@ ghost use Rattle.version_words.specs.Wrong.{status_of};
 
 mod files;
 mod output;
+mod run;
 
 use files::SystemFiles;
 use output::Output;
+use run::run;
 use std::cell::Cell;
 use std::env::Env;
 use std::process::ExitCode;
 use std::{env, io};
-use version_commands::TaskFault;
+use version_runs::TaskFault;
 use version_usage::faults::WordsFault;
-use version_words::{Fault, run};
+use version_words::Fault;
 
 // The status that a shell gives for a program whose reader has gone: that of the signal SIGPIPE.
 const READER_GONE: u8 = 141;

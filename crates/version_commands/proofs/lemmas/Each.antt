@@ -4,9 +4,11 @@ use Rattle.std.proofs.lemmas.{Bool.cases_Bool, Bool.ne_eqb, List.length-map, Lis
 use Rattle.std.specs.{Io.KnownBytes.Consumes, Io.KnownBytes.IsAtEnd, List.filter, List.list_all, List.list_any}
 use Rattle.version_answers.proofs.lemmas.One.{texts-next}
 use Rattle.version_commands.specs.Each.{AnsweredOr, AreAnswered, AreTexts, HasNoNext, HasSet, HaveAnswered, IsAnswer, are_versions, has_version, is_version, others_among, version_asked, versions_among}
-use Rattle.version_commands.specs.declared.options.Question.TheVariants.{Json, Key, Next, Show, Why}
-use Rattle.version_commands.specs.{Cause.ComesOfAnswering, Cause.ComesOfAsking, Run.is_of_word, declared.faults.TaskFault.TaskFault, declared.options.EachOptions.EachOptions, declared.options.Question.Question}
-use Rattle.version_commands.specs.{declared.words.each.Answers.Answers, lines.Picked.line_text}
+use Rattle.version_runs.specs.declared.options.Question.TheVariants.{Json, Key, Next, Show, Why}
+use Rattle.version_commands.specs.{Cause.ComesOfAnswering, Cause.ComesOfAsking, Run.is_of_word}
+use Rattle.version_runs.specs.{declared.faults.TaskFault.TaskFault, declared.options.EachOptions.EachOptions, declared.options.Question.Question}
+use Rattle.version_commands.specs.{declared.words.each.Answers.Answers}
+use Rattle.version_runs.specs.Place.{line_text}
 use Rattle.version_answers.specs.{One.Adds, declared.spelling.Naming.Naming}
 use Rattle.version_lines.specs.Lines.{lines_of, plain_end}
 use Rattle.version_schemes.specs.any.Order.{PlainAny}

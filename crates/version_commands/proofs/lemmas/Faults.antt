@@ -1,9 +1,10 @@
 -- How a run ends, what is written at a fault, and what it comes of.
 use Rattle.std.proofs.Common.{◌≡◌, ℕ, false, true, Bool, List, Option, Result, Ok, Err, rules, ◌++◌, ◌∷◌, Bor, arith}
 use Rattle.std.specs.List.{list_any}
-use Rattle.version_commands.specs.{Fault.ComesOfBad, Fault.ComesOfReading, Fault.ComesOfReadingOne, Files.AreInputs, Files.ComesFirstAt, Files.Reading, Run.takes_no_more, Run.Ends, Run.StopsBy, declared.faults.TaskFault.TaskFault}
-use Rattle.version_commands.specs.declared.faults.{TaskFault.TheVariants.BadLine, TaskFault.TheVariants.Unclosed, TaskFault.TheVariants.Memory, TaskFault.TheVariants.Read, bad.Blamed.Blamed}
-use Rattle.version_commands.specs.declared.options.VersionPlace.{VersionPlace}
+use Rattle.version_commands.specs.{Fault.ComesOfBad, Fault.ComesOfReading, Fault.ComesOfReadingOne, Files.AreInputs, Files.ComesFirstAt, Files.Reading, Run.takes_no_more, Run.Ends, Run.StopsBy}
+use Rattle.version_runs.specs.{declared.faults.TaskFault.TaskFault}
+use Rattle.version_runs.specs.declared.faults.{TaskFault.TheVariants.BadLine, TaskFault.TheVariants.Unclosed, TaskFault.TheVariants.Memory, TaskFault.TheVariants.Read, Blamed.Blamed}
+use Rattle.version_runs.specs.declared.options.VersionPlace.{VersionPlace}
 use Rattle.version_lines.specs.declared.lines.Invalid.{Invalid}
 use Rattle.version_lines.specs.{Inputs.PlainLine, Lines.ends_quoted, declared.column.Column.Column, declared.lines.LineEnd.LineEnd}
 

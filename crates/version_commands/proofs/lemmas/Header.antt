@@ -2,8 +2,9 @@
 use Rattle.std.proofs.Common.{◌≡◌, ◌∙◌, ◌<◌, ◌+◌, ◌-◌, ℕ, suc, map, Bool, false, List, [], ◌∷◌, Option, None, Some, Result, IsSomeAnd, length, arith, refl, sym, ap, Bor}
 use Rattle.std.specs.List.{slice_get}
 use Rattle.version_commands.specs.lines.Ordered.{first_unnamed, last_of, body_of, head_of, name_missing, names_line, options_in, ordered_in, versions_in, IsArranged, IsArrangedIn}
-use Rattle.version_commands.specs.{Cause.ComesOfArranged, Cause.ComesOfInput, Run.takes_no_more, Run.Finishes, declared.faults.TaskFault.TaskFault, declared.faults.TaskFault.TheVariants.NoColumn, declared.options.LineOptions.LineOptions}
-use Rattle.version_commands.specs.lines.Picked.{line_text}
+use Rattle.version_commands.specs.{Cause.ComesOfArranged, Cause.ComesOfInput, Run.takes_no_more, Run.Finishes}
+use Rattle.version_runs.specs.{declared.faults.TaskFault.TaskFault, declared.faults.TaskFault.TheVariants.NoColumn, declared.options.LineOptions.LineOptions}
+use Rattle.version_runs.specs.Place.{line_text}
 use Rattle.version_lines.specs.{Inputs.plain_line, Inputs.texts_of, Inputs.PlainLine, declared.inputs.Line.Line}
 use Rattle.version_commands.proofs.lemmas.{Faults.ends-weaker}
 use Rattle.version_commands.proofs.lemmas.Ordered.{held-texts}

@@ -3,13 +3,15 @@ use Rattle.std.proofs.Common.{◌≡◌, inl, inr, ◌+◌, ◌-◌, ℕ, Bool, 
 use Rattle.std.specs.Option.{option_map}
 use Rattle.version_commands.proofs.lemmas.Ordered.{lines-alike}
 use Rattle.version_commands.specs.Hints.{first_of, IfTags, IsOfArranged, IsOfArranging, IsOfBody, IsOfEach, IsOfInput, IsOfLines, IsOfRun, TagsMatter}
-use Rattle.version_commands.specs.declared.files.Hint.TheVariants.{NoFile, Tags, WholeLines, Repeated, NothingKept}
-use Rattle.version_commands.specs.{Cause.ComesOfArranging, Cause.ComesOfFirst, Files.inputs_of, Files.Reading, Lists.named_in, declared.faults.TaskFault.TaskFault, declared.files.Hint.Hint, declared.options.Arrangement.Arrangement}
-use Rattle.version_commands.specs.declared.options.{EachOptions.EachOptions, LineOptions.LineOptions, Lists.Lists, Question.Question}
-use Rattle.version_commands.specs.lines.{Choice.without_set, Choice.Finding, Choice.HoldsByWords, Ordered.arranged_in, Ordered.body_of, Ordered.options_in, Ordered.ordered_in, Picked.bad_lines, Picked.reads_of}
+use Rattle.version_runs.specs.declared.files.Hint.TheVariants.{NoFile, Tags, WholeLines, Repeated, NothingKept}
+use Rattle.version_commands.specs.{Cause.ComesOfArranging, Cause.ComesOfFirst, Files.inputs_of, Files.Reading, Lists.named_in}
+use Rattle.version_runs.specs.{declared.faults.TaskFault.TaskFault, declared.files.Hint.Hint, declared.options.Arrangement.Arrangement}
+use Rattle.version_runs.specs.declared.options.{EachOptions.EachOptions, LineOptions.LineOptions, Lists.Lists, Question.Question}
+use Rattle.version_commands.specs.lines.{Choice.without_set, Choice.Finding, Choice.HoldsByWords, Ordered.arranged_in, Ordered.body_of, Ordered.options_in, Ordered.ordered_in, Picked.bad_lines}
+use Rattle.version_runs.specs.Place.{reads_of}
 use Rattle.version_lines.specs.{Inputs.lines_of_inputs, Inputs.texts_of, Inputs.PlainLine, Newest.rows_in, Sort.version_in}
 use Rattle.version_schemes.specs.{any.Order.PlainAny, declared.scheme.Scheme.TheVariants.Mixed}
-use Rattle.version_commands.specs.declared.files.Hint.TheVariants as told
+use Rattle.version_runs.specs.declared.files.Hint.TheVariants as told
 
 -- the one line of a list of one or none
 pub first-row : (line : Option (Bor (List ℕ))) → first_of (rows_in line) ≡ option_map (λ line. line.now) line

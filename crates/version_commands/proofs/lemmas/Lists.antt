@@ -3,8 +3,11 @@ use Rattle.std.proofs.Common.{◌≡◌, ◌∙◌, ℕ, Bool, true, false, List
 use Rattle.std.proofs.lemmas.{Bool.cases_Bool, List.drop_all, List.map-append, List.Folds.flat_map-map, Slice.Eq.bytes_eq-Decides}
 use Rattle.std.specs.{BTreeMap.get_by, Cmp.Lexicographic.slice_cmp, List.flat_map, Map.update, Option.option_map, Option.option_or, Ordering.nat_cmp, Str.bytes_eq}
 use Rattle.version_commands.specs.Lists.{AreNames, Row, first_after, first_rows, lines_against, plain_row, rows_of_line, version_of, bad_lines_of, names_of}
-use Rattle.version_commands.specs.{Cause.ComesOfChanges, Cause.ComesOfEither, Fault.ComesOfBad, Fault.ComesOfReading, Files.IsInput, Files.Reading, declared.faults.TaskFault.TaskFault, declared.faults.TaskFault.TheVariants.BadLine}
-use Rattle.version_commands.specs.{declared.lists.Named.Named, declared.lists.Names.Names, declared.options.Lists.Lists, lines.Picked.has, lines.Picked.kept_lines, lines.Picked.reads_of}
+use Rattle.version_commands.specs.{Cause.ComesOfChanges, Cause.ComesOfEither, Fault.ComesOfBad, Fault.ComesOfReading, Files.IsInput, Files.Reading}
+use Rattle.version_runs.specs.{declared.faults.TaskFault.TaskFault, declared.faults.TaskFault.TheVariants.BadLine}
+use Rattle.version_commands.specs.{declared.lists.Named.Named, declared.lists.Names.Names, lines.Picked.has, lines.Picked.kept_lines}
+use Rattle.version_runs.specs.Place.{reads_of}
+use Rattle.version_runs.specs.{declared.options.Lists.Lists}
 use Rattle.version_lines.specs.declared.lines.Invalid.TheVariants.{Fail}
 use Rattle.version_lines.specs.{Inputs.plain_line, Inputs.PlainLine, Sort.version_in, declared.inputs.Line.Line}
 use Rattle.version_schemes.specs.{any.AnyVersion.plain_any, any.Order.PlainAny, declared.any.AnyVersion.AnyVersion}

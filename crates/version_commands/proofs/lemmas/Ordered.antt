@@ -8,11 +8,14 @@ use Rattle.version_lines.specs.Lines.{lines_output, whole_line, AppendsProperBeg
 use Rattle.version_lines.specs.{Sort.version_in, Sort.Reads, declared.column.Column.Column, declared.inputs.Line.Line}
 use Rattle.version_lines.proofs.lemmas.{Lines.AppendsProperBeginning-then, Lines.AppendsProperBeginning-with_more, Lines.AppendsUpTo-then, Sorting.by_test}
 use Rattle.version_commands.specs.Files.{inputs_of, Leaves, names_read, AreInputs, Reading}
-use Rattle.version_commands.specs.declared.faults.TaskFault.TheVariants.{NotVersion, NotRequirement, NotSet, NotTested, NotTestedSet, BadLine, NoNext, NoColumn, Unclosed, Memory, Read, Write}
+use Rattle.version_runs.specs.declared.faults.TaskFault.TheVariants.{NotVersion, NotRequirement, NotSet, NotTested, NotTestedSet, BadLine, NoNext, NoColumn, Unclosed, Memory, Read, Write}
 use Rattle.version_commands.specs.lines.Arranged.{is_named, schemes_after, scheme_in, version_as, with_scheme, arranged, policy}
-use Rattle.version_commands.specs.lines.Picked.{kept_lines, reads_as, Versions, bad_lines, kept_of, reads_of}
-use Rattle.version_commands.specs.{Cause.ComesOfArranged, Cause.ComesOfArranging, Cause.ComesOfInput, Fault.ComesOfSet, Fault.ComesOfSets, Fault.ComesOfPut, Run.head_lines, Run.Arranges, Run.Finishes, declared.faults.TaskFault.TaskFault}
-use Rattle.version_commands.specs.declared.{lines.run.Input.Input, options.Arrangement.TheVariants.Filter, options.LineOptions.LineOptions, options.VersionPlace.VersionPlace}
+use Rattle.version_commands.specs.lines.Picked.{kept_lines, Versions, bad_lines, kept_of}
+use Rattle.version_runs.specs.Place.{reads_as, reads_of}
+use Rattle.version_commands.specs.{Cause.ComesOfArranged, Cause.ComesOfArranging, Cause.ComesOfInput, Fault.ComesOfSet, Fault.ComesOfSets, Fault.ComesOfPut, Run.head_lines, Run.Arranges, Run.Finishes}
+use Rattle.version_runs.specs.{declared.faults.TaskFault.TaskFault}
+use Rattle.version_commands.specs.declared.{lines.run.Input.Input}
+use Rattle.version_runs.specs.declared.{options.Arrangement.TheVariants.Filter, options.LineOptions.LineOptions, options.VersionPlace.VersionPlace}
 use Rattle.version_lines.specs.declared.lines.Invalid.TheVariants.{Fail}
 use Rattle.version_commands.specs.lines.{Choice.wrong_word, Choice.keeps_of, Ordered.arranged_in, Ordered.IsArrangedIn, Ordered.IsOrdered, Ordered.IsPlaced}
 use Rattle.version_schemes.specs.{any.Order.PlainAny, declared.scheme.Scheme.Scheme, declared.scheme.Scheme.TheVariants.Mixed}

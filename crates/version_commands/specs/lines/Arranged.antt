@@ -1,11 +1,12 @@
 -- The lines that are written, in their order.
 use Rattle.std.specs.Prelude.{ℕ, Bool, false, true, List, ◌++◌, Option, None, Some, ◌==◌, [], ◌∷◌, if◌then◌else◌, option_and_then}
 use Rattle.std.specs.{List.flat_map, List.list_any, Option.option_map_or}
-use Rattle.version_commands.specs.declared.options.{Arrangement.Arrangement, Arrangement.TheVariants.Sort, Arrangement.TheVariants.Newest, Arrangement.TheVariants.Filter}
+use Rattle.version_runs.specs.declared.options.{Arrangement.Arrangement, Arrangement.TheVariants.Sort, Arrangement.TheVariants.Newest, Arrangement.TheVariants.Filter}
 use Rattle.version_lines.specs.declared.lines.Invalid.{Invalid}
-use Rattle.version_commands.specs.declared.options.{LineOptions.LineOptions, VersionPlace.VersionPlace}
+use Rattle.version_runs.specs.declared.options.{LineOptions.LineOptions, VersionPlace.VersionPlace}
 use Rattle.version_lines.specs.declared.lines.Invalid.TheVariants.{Fail, Skip, First, Last}
-use Rattle.version_commands.specs.lines.Picked.{kept_lines, group_text, reads_as, Versions}
+use Rattle.version_commands.specs.lines.Picked.{kept_lines, group_text, Versions}
+use Rattle.version_runs.specs.Place.{reads_as}
 use Rattle.version_lines.specs.Sort.{Reads, lines_cmp, in_order, turned, version_in}
 use Rattle.version_lines.specs.{Newest.first_of_ties, Newest.newest, declared.column.Column.Column}
 use Rattle.version_schemes.specs.{Scheme.scheme_named, Scheme.scheme_number, declared.scheme.Scheme.Scheme}

@@ -2,15 +2,16 @@
 use Rattle.version_order.specs.texts.Front.{◌>>=◌}
 use Rattle.std.specs.Prelude.{◌&&◌, ℕ, Bool, true, List, Option, Some, None, is_some, nat_le, not, if◌then◌else◌, ◌≡◌, ◌⊎◌, ◌∷◌, ◌||◌, false, IfSome, IsSome}
 use Rattle.std.specs.Option.{option_map, option_map_or, option_or}
-use Rattle.version_commands.specs.{Files.is_standard, declared.lines.choice.Chooser.Chooser, declared.lines.choice.Filter.Filter, declared.options.Arrangement.Arrangement, declared.options.Choice.Choice}
-use Rattle.version_commands.specs.declared.options.LineOptions.{LineOptions}
+use Rattle.version_commands.specs.{Files.is_standard, declared.lines.choice.Chooser.Chooser, declared.lines.choice.Filter.Filter}
+use Rattle.version_runs.specs.{declared.options.Arrangement.Arrangement, declared.options.Choice.Choice}
+use Rattle.version_runs.specs.declared.options.LineOptions.{LineOptions}
 use Rattle.version_answers.specs.{Sets.keys_of, Sets.IsWrongSet, declared.set.WrongSet.WrongSet}
 use Rattle.version_rules.specs.grammar.Versioning.{versioning_of}
 use Rattle.version_schemes.specs.{any.Order.PlainAny, declared.scheme.Scheme.Scheme, declared.scheme.Scheme.TheVariants.Mixed, declared.scheme.Scheme.TheVariants.SemVer}
 use Rattle.version_sets.specs.Form.{has}
 use Rattle.version_tasks.specs.{Stability.of_text, Stability.rank, Stability.stability_of, declared.stability.Stability.Stability, declared.stability.Stability.TheVariants.Dev}
 use Rattle.std.proofs.Common.{Bor}
-use Rattle.version_commands.specs.declared.options.Arrangement.TheVariants as arrangement
+use Rattle.version_runs.specs.declared.options.Arrangement.TheVariants as arrangement
 
 -- ---- which versions are kept
 

@@ -3,9 +3,12 @@ use Rattle.std.proofs.Common.{Bor}
 use Rattle.std.specs.Prelude.{ℕ, List, [], ◌∷◌, Option, None, Some, ◌≡◌, ◌++◌, Bool, false, drop, take}
 use Rattle.std.specs.{List.list_any, Option.option_map_or, Option.option_or, Option.option_map}
 use Rattle.version_commands.specs.lines.Arranged.{arranged, placed, policy, arranged_by_schemes, version_by}
-use Rattle.version_commands.specs.lines.Picked.{bad_lines, kept_of, group_text, line_text, reads_of, Versions}
-use Rattle.version_commands.specs.{Files.inputs_of, Files.names_read, Files.AreInputs, Files.Reading, declared.options.Arrangement.Arrangement, declared.options.Arrangement.TheVariants.Newest, declared.options.ColumnNames.ColumnNames}
-use Rattle.version_commands.specs.{declared.options.LineOptions.LineOptions, declared.options.VersionPlace.VersionPlace, lines.Choice.keeps_of}
+use Rattle.version_commands.specs.lines.Picked.{bad_lines, kept_of, group_text, Versions}
+use Rattle.version_runs.specs.Place.{line_text, reads_of}
+use Rattle.version_commands.specs.{Files.inputs_of, Files.names_read, Files.AreInputs, Files.Reading}
+use Rattle.version_runs.specs.{declared.options.Arrangement.Arrangement, declared.options.Arrangement.TheVariants.Newest, declared.options.ColumnNames.ColumnNames}
+use Rattle.version_commands.specs.{lines.Choice.keeps_of}
+use Rattle.version_runs.specs.{declared.options.LineOptions.LineOptions, declared.options.VersionPlace.VersionPlace}
 use Rattle.version_lines.specs.declared.lines.Invalid.TheVariants.{Fail}
 use Rattle.version_lines.specs.{Column.column_named, Inputs.lines_of_inputs, Inputs.texts_of, Inputs.PlainLine, Lines.ends_quoted, Lines.lines_output, Lines.whole_line, Sort.Reads, Sort.version_in, declared.column.Column.Column}
 use Rattle.version_schemes.specs.any.Order.{PlainAny}

@@ -8,16 +8,14 @@ ghost use Rattle.version_answers.specs.Tags.{begins_with_number, begins_with_v, 
 ghost use Rattle.version_lines.specs.{Entry.lines_in, Inputs.lines_left, Inputs.texts_of};
 ghost use Rattle.version_schemes.specs.any.Order.{any_of};
 
-use crate::faults::TaskFault;
-use crate::faults::bad::ends_in_return;
-use crate::files::{Files, Hint};
+use crate::bad::ends_in_return;
 use crate::lines::pick::Chooses;
 use crate::lines::place::ByColumn;
 use crate::lines::run::LineRun;
-use crate::options::{Arrangement, ColumnNames, LineOptions, VersionPlace};
 use std::cmp::Ordering;
 use version_answers::{begins_with_number, begins_with_v, order_of_tags, tagged};
 use version_lines::{Column, GroupBy, KeyedLines, Separators, SortBy};
+use version_runs::{Arrangement, ColumnNames, Files, Hint, LineOptions, TaskFault, VersionPlace};
 use version_schemes::{AnyVersion, Scheme};
 
 impl<C: Chooses> LineRun<'_, '_, C> {

@@ -7,15 +7,13 @@ ghost use Rattle.version_commands.specs.{Each.HasSet, Hints.is_kept_otherwise, H
 ghost use Rattle.version_answers.specs.{Message.IsRemark, Spelling.spelled, Tags.begins_with_v, Tags.compare_otherwise, Tags.is_bare, Tags.is_tested_otherwise, declared.message.remark.Remark.Remark};
 ghost use Rattle.version_sets.specs.Form.{has};
 
-use crate::faults::TaskFault;
-use crate::files::{Files, Hint};
 use crate::hints::of_lines::is_kept_otherwise;
-use crate::options::{EachOptions, Question};
 use std::alloc::{AllocError, Global};
 use version_answers::{
     Naming, Operator, Set, Spelling, begins_with_v, compare_otherwise, has_next_in_tag,
     is_tested_otherwise,
 };
+use version_runs::{EachOptions, Files, Hint, Question, TaskFault};
 use version_schemes::Scheme;
 
 /// Tells where two versions compare otherwise by the versions in their tags.

@@ -4,23 +4,22 @@ ghost use Rattle.version_commands.specs.Hints.{first_of, IsOfBody, IsOfFilter, I
 ghost use Rattle.version_commands.specs.Run.{head_lines, IfOfWord, Ends, Arranges, Finishes};
 ghost use Rattle.version_commands.specs.lines.Ordered.{body_of, head_of, arranged_in, ordered_in, versions_in, IsArrangedIn, IsOrdered};
 ghost use Rattle.version_commands.specs.{Cause.ComesOfArranging, Cause.ComesOfInput, Files.names_read, Files.reads_standard};
-ghost use Rattle.version_commands.specs.lines.{Arranged.arranged, Arranged.is_reversed, Arranged.arranged_by_schemes, Arranged.version_by, Choice.is_kept, Picked.kept_of, Picked.group_text, Picked.reads_of};
+ghost use Rattle.version_commands.specs.lines.{Arranged.arranged, Arranged.is_reversed, Arranged.arranged_by_schemes, Arranged.version_by, Choice.is_kept, Picked.kept_of, Picked.group_text};
+ghost use Rattle.version_runs.specs.Place.{reads_of};
 ghost use Rattle.version_lines.specs.{Entry.lines_in, Entry.AreRead, Inputs.lines_left, Inputs.PlainLine, Newest.newest_alone, Sort.version_in};
 
-use crate::faults::TaskFault;
-use crate::faults::bad::refuse_bad;
-use crate::files::inputs::read_inputs;
-use crate::files::{Files, Stage};
+use crate::bad::refuse_bad;
+use crate::inputs::read_inputs;
 use crate::lines::by_schemes::{LinesOfSchemes, arrange_by_schemes};
 use crate::lines::choice::Chooser;
-use crate::lines::header::{names_line, options_by};
+use crate::lines::header::{names_line, options_by, refuse_unnamed};
 use crate::lines::pick::{Chooses, EveryVersion, Takes, pick};
 use crate::lines::place::{ByColumn, ByVersion};
 use crate::lines::run::{Input, LineRun, split_lines, tell};
-use crate::options::{Arrangement, LineOptions, VersionPlace};
 use std::alloc::{AllocError, Global};
 use std::io::Write;
 use version_lines::{Column, KeyedLines, Lines, NewestLine, SortBy, Source, WholeLines};
+use version_runs::{Arrangement, Files, LineOptions, Stage, TaskFault, VersionPlace};
 use version_schemes::{AnyVersion, Scheme};
 
 /// Reads the inputs, and writes those of their lines that the arrangement asks for.
@@ -74,7 +73,7 @@ fn write_asked<'w, F: Files, W: Write>(
 {
     let header = names_line(options, input.head);
     if !input.is_empty() {
-        options.names.refuse_unnamed(header)?;
+        refuse_unnamed(&options.names, header)?;
     }
     let run = LineRun {
         alloc,

@@ -2,17 +2,18 @@
 ghost use Rattle.std.specs.Prelude.{◌≡◌, ◌++◌, [], map, true, IfOk, OnOk};
 ghost use Rattle.std.specs.Option.{option_map};
 ghost use Rattle.version_commands.specs.lines.Arranged.{is_reversed, arranged_as, arranged_by_schemes, is_among, scheme_in, schemes_after, version_as, version_by, with_scheme};
-ghost use Rattle.version_commands.specs.lines.Picked.{kept_lines, reads_of};
+ghost use Rattle.version_commands.specs.lines.Picked.{kept_lines};
+ghost use Rattle.version_runs.specs.Place.{reads_of};
 ghost use Rattle.version_lines.specs.Entry.{lines_in, AreRead};
 ghost use Rattle.version_schemes.specs.any.AnyVersion.{plain_any};
 
 use crate::lines::arrange::{arrange, is_reversed};
 use crate::lines::pick::Takes;
-use crate::lines::place::{ByVersion, column_text, line_text};
-use crate::options::{Arrangement, VersionPlace};
+use crate::lines::place::ByVersion;
 use std::alloc::{AllocError, Global};
 use version_answers::Spelling;
 use version_lines::{Column, KeyedLines};
+use version_runs::{Arrangement, VersionPlace, column_text, line_text};
 use version_schemes::{AnyVersion, Scheme};
 
 /// Lines of many schemes that are kept.

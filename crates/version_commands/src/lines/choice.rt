@@ -4,12 +4,11 @@ ghost use Rattle.version_commands.specs.lines.Choice.{filter_word, is_kept, is_s
 ghost use Rattle.version_commands.specs.Fault.{ComesOfSets};
 ghost use Rattle.version_schemes.specs.any.{AnyVersion.plain_any, Order.PlainAny};
 
-use crate::faults::TaskFault;
 use crate::lines::pick::Chooses;
-use crate::options::{Arrangement, Choice};
 use crate::words::word::set_of_word;
 use std::alloc::Global;
 use version_answers::Set;
+use version_runs::{Arrangement, Choice, TaskFault};
 use version_schemes::{AnyVersion, Scheme};
 use version_tasks::{Stability, stability_of, stability_of_text};
 use version_texts::VersioningRef;

@@ -3,14 +3,12 @@ ghost use Rattle.std.specs.Prelude.{◌≡◌, ◌∷◌, false, map, IfNone, If
 ghost use Rattle.version_commands.specs.lines.Choice.{asks, may_be_standard, without_set, word_for_file, HoldsByWords, IsFirstFile, StaysWord};
 ghost use Rattle.version_commands.specs.{Cause.ComesOfFirst, Files.names_read, Files.reads_standard, Hints.IsOfRun, Hints.MayTell, Run.IfOfWord, Run.Finishes, lines.Ordered.IsOrdered};
 
-use crate::faults::TaskFault;
-use crate::files::Files;
 use crate::lines::arrange::serve_lines;
-use crate::options::{Arrangement, Choice, LineOptions};
 use std::alloc::{AllocError, Global};
 use std::io::Write;
 use version_answers::Set;
 use version_lines::Source;
+use version_runs::{Arrangement, Choice, Files, LineOptions, TaskFault};
 use version_tasks::Stability;
 
 /// Reads the inputs, and writes those of their lines that the arrangement asks for. Where the first word of `filter` is no

@@ -3,10 +3,9 @@ ghost use Rattle.std.specs.Prelude.{◌≡◌, ◌<◌, ◌+◌, [], drop, false
 ghost use Rattle.version_commands.specs.Run.{head_lines};
 ghost use Rattle.version_lines.specs.Inputs.{lines_left, plain_line};
 
-use crate::files::{Files, Stage};
-use crate::options::LineOptions;
 use std::alloc::{AllocError, Global};
 use version_lines::{Line, Lines};
+use version_runs::{Files, LineOptions, Stage};
 
 /// The lines of a run: those that stay on top, and what follows them.
 #[derive(Clone, Copy)]

@@ -4,17 +4,15 @@ ghost use Rattle.std.specs.Io.KnownBytes.{Appends};
 ghost use Rattle.version_commands.specs.{Fault.ComesOfPut, Files.AltersAtMost, Files.Leaves, Run.Ends, Run.Finishes, lines.Arranged.placed, lines.Arranged.policy, lines.Ordered.bad_file, lines.Ordered.put_of, lines.Ordered.IsPlaced};
 ghost use Rattle.version_lines.specs.Lines.{answer_text, lines_output, output_by, plain_end, whole_line, AppendsProperBeginning, AppendsUpTo};
 
-use crate::faults::TaskFault;
-use crate::faults::bad::policy;
-use crate::files::Files;
+use crate::bad::policy;
 use crate::lines::rows::{Rows, put_rows};
 use crate::lines::run::LineRun;
-use crate::options::LineOptions;
 use std::alloc::{AllocError, Global};
 use std::io::Write;
 use version_lines::{
     Answer, Invalid, Line, LineCommand, NotWritten, Trouble, answer_lines, make_buffer, write_whole,
 };
+use version_runs::{Files, LineOptions, TaskFault};
 
 impl<'w, C> LineRun<'_, 'w, C> {
     /// Writes the lines in their order behind the head, with those that have no version before or after them, or into the

@@ -1,27 +1,25 @@
 //! The commands that ask the same of each of several versions: `show`, `key`, `why` and `next`.
 ghost use Rattle.std.specs.Prelude.{◌≡◌, ◌==◌, ◌<◌, ◌++◌, ◌∷◌, [], false, length, map, ℕ, Bool, List, Option, Some, IfErr, IfOk, OnOk};
 ghost use Rattle.std.specs.Io.KnownBytes.{Consumes, IsAtEnd};
-ghost use Rattle.version_commands.specs.Each.{are_versions, others_among, place_of, scheme_of, spelling_of, version_asked, versions_among, AreAnswered, HasSet, HaveAnswered, IsAnswer, IsAnswered, IsAsked, IsHead};
-ghost use Rattle.version_commands.specs.{Cause.ComesOfAnswering, Cause.ComesOfAsking, Cause.ComesOfQuestion, Hints.IsOfEach, Hints.MayTell, Run.is_of_word, Run.IfOfWord, declared.words.each.Answers.Answers, lines.Picked.line_text};
+ghost use Rattle.version_commands.specs.Each.{are_versions, others_among, version_asked, versions_among, AreAnswered, HasSet, HaveAnswered, IsAnswer, IsAnswered, IsAsked, IsHead};
+ghost use Rattle.version_runs.specs.Place.{place_of, scheme_of};
+ghost use Rattle.version_commands.specs.{Cause.ComesOfAnswering, Cause.ComesOfAsking, Cause.ComesOfQuestion, Hints.IsOfEach, Hints.MayTell, Run.is_of_word, Run.IfOfWord, declared.words.each.Answers.Answers};
+ghost use Rattle.version_runs.specs.Place.{line_text};
 ghost use Rattle.version_answers.specs.One.{Adds};
 ghost use Rattle.version_lines.specs.Lines.{lines_of, plain_end};
 ghost use Rattle.version_schemes.specs.any.AnyVersion.{plain_any};
 
-use crate::faults::TaskFault;
-use crate::faults::bad::refuse_first;
-use crate::files::Files;
-use crate::files::inputs::read_standard;
+use crate::bad::refuse_first;
 use crate::hints::of_words::tell_others;
+use crate::inputs::read_standard;
 use crate::lines::pick::{EveryVersion, Takes, pick};
-use crate::lines::place::line_text;
-use crate::options::{EachOptions, Question, VersionPlace};
 use crate::words::word::set_of_word;
 use std::alloc::{AllocError, Global};
 use version_answers::{
-    Naming, Set, Spelling, add_head, add_json, add_key_line, add_next, add_show, add_why, quoted,
-    room_of,
+    Naming, Set, add_head, add_json, add_key_line, add_next, add_show, add_why, quoted, room_of,
 };
 use version_lines::{LineEnd, Lines, Source};
+use version_runs::{EachOptions, Files, Question, TaskFault, line_text};
 use version_schemes::{AnyVersion, Scheme};
 
 /// The answers to a question, and the words that were left out.
@@ -284,7 +282,8 @@ impl<'a> Answers<'_, 'a> {
 
 impl<'a> Takes<'a> for Answers<'_, 'a> {
     ghost use Rattle.std.specs.Prelude.{◌≡◌, ⊤, map};
-    ghost use Rattle.version_commands.specs.{Each.place_of, Each.HasSet, Each.HaveAnswered, lines.Picked.line_text, lines.Picked.reads_of};
+    ghost use Rattle.version_commands.specs.{Each.HasSet, Each.HaveAnswered};
+    ghost use Rattle.version_runs.specs.Place.{place_of, line_text, reads_of};
     ghost use Rattle.version_lines.specs.Sort.{version_in};
 
     ghost versions = { λ answers. version_in (reads_of (place_of answers.question answers.naming answers.crlf)) };
@@ -301,38 +300,5 @@ impl<'a> Takes<'a> for Answers<'_, 'a> {
 
     fn take(&mut self, version: &AnyVersion<'a>, line: &'a [u8]) -> Result<(), AllocError> {
         self.add(line_text(self.crlf, line), version)
-    }
-}
-
-impl<'w> Question<'w> {
-    /// Returns how a text spells a version to it.
-    pub fn spelling(self, naming: Naming<'w>) -> Spelling<'w>
-        ensures { result ≡ spelling_of self.entry naming.entry }
-    {
-        Spelling {
-            naming,
-            scheme: self.scheme(),
-        }
-    }
-
-    // Returns where the version of a line stands: the whole line spells it.
-    fn place(self, naming: Naming<'w>, crlf: bool) -> VersionPlace<'w>
-        ensures { result ≡ place_of self.entry naming.entry crlf }
-    {
-        VersionPlace {
-            crlf,
-            column: None,
-            spelling: self.spelling(naming),
-        }
-    }
-
-    // Returns the scheme by which it reads versions.
-    fn scheme(self) -> Scheme
-        ensures { result ≡ scheme_of self.entry }
-    {
-        match self {
-            Question::Key(scheme) | Question::Why(scheme, _) => scheme,
-            Question::Show | Question::Json | Question::Next(_) => Scheme::Mixed,
-        }
     }
 }

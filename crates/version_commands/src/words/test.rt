@@ -6,12 +6,11 @@ ghost use Rattle.version_commands.specs.Output.{answer_line, answer_of_set, answ
 ghost use Rattle.version_answers.specs.{Spelling.spelled, Tags.is_bare, Tags.is_tested_otherwise};
 ghost use Rattle.version_sets.specs.Form.{IsPart, Meet};
 
-use crate::faults::TaskFault;
-use crate::files::Files;
 use crate::hints::of_words::{tell_of_set, tell_of_test};
 use crate::words::word::{tested_set, tested_version};
 use std::alloc::Global;
 use version_answers::{Operator, Spelling, holds};
+use version_runs::{Files, TaskFault};
 use version_schemes::Scheme;
 
 /// Returns whether an operator holds between two versions by their precedence. Otherwise the fault has the first word

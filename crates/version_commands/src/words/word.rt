@@ -6,9 +6,9 @@ ghost use Rattle.version_schemes.specs.any.AnyVersion.{plain_any};
 ghost use Rattle.version_sets.specs.Form.{has};
 ghost use Rattle.version_texts.specs.VersioningRef.{plain_versioning_ref};
 
-use crate::faults::TaskFault;
 use std::alloc::Global;
 use version_answers::{Naming, Set, Spelling};
+use version_runs::TaskFault;
 use version_schemes::{AnyVersion, Scheme};
 use version_texts::VersioningRef;
 

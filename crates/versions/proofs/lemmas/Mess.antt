@@ -5,7 +5,7 @@ use Rattle.versions.specs.Mess.{behind_sign, flat_layer, plain_mess, plain_secti
 use Rattle.versions.specs.declared.mess.{Mess.Mess, Mess.TheFolds.fold_out-Mess, Mess.TheViews.out-Mess}
 use Rattle.version_rules.specs.grammar.Mess.{PlainMess, Further, Section, further_front, mess_front, mess_of, section_front, further_text, joined_section}
 use Rattle.version_rules.specs.{grammar.MChunk.mchunk_text, key.Key.section_epoch}
-use Rattle.std.proofs.lemmas.{Bool.cases_Bool, Bool.eqb-true, List.Sums.take_while-cons, List.Sums.fold-append, Option.slice_get_past, Option.slice_get_read}
+use Rattle.std.proofs.lemmas.{Bool.cases_Bool, Bool.eqb-true, List.Sums.take_while-cons, List.Sums.fold-append, Option.slice_get-map, Option.slice_get_past, Option.slice_get_read}
 use Rattle.std.specs.List.{slice_get, list_all, take_while, flat_map, fold}
 use Rattle.std.specs.{Borrow.Bor, Char.is_ascii_digit, Cmp.first_so, Cmp.second_so, Hash.HashWrites, Option.option_map, Result.IsErr, Slice.IsItemAt, Str.Parse.digits_value, declared.alloc.AllocError.AllocError}
 use Rattle.version_order.specs.texts.{Front.repeated, Front.is_digits, Grammar.PlainSep, Grammar.sep_byte}
@@ -191,3 +191,6 @@ pub written_next : (written : List ℕ) (one : Further) (more : List Further) (a
     ≡ all
 written_next written one more all e =
     append_assoc written (further_text one) (flat_map further_text more) ∙ e
+
+-- what `nth` cites, where a name can't stand in an attribute
+pub ruleset nth_cites = (slice_get-map)

@@ -1,5 +1,6 @@
 use Rattle.std.proofs.Common.{◌∙◌, Some, List, ap, subst}
-use Rattle.version_commands.specs.{Lists.named_in, Lists.AreNames, Lists.Row, lines.Picked.bad_lines, lines.Picked.reads_of}
+use Rattle.version_commands.specs.{Lists.named_in, Lists.AreNames, Lists.Row, lines.Picked.bad_lines}
+use Rattle.version_runs.specs.Place.{reads_of}
 use Rattle.version_commands.proofs.lemmas.{Files.numbered-texts, Lists.rows-kept}
 use Rattle.version_lines.specs.{Inputs.lines_left, Inputs.texts_of, Lines.lines_of, Sort.version_in}
 use Rattle.version_commands.proofs.lists.read_names.Goals as goal

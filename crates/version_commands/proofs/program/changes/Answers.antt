@@ -1,6 +1,7 @@
 use Rattle.std.proofs.Common.{◌++◌, inl, inr, ◌∷◌, [], ℕ, Bool, List, None, map, refl, rules, subst, ap, sym, ◌∙◌}
 use Rattle.std.proofs.lemmas.Result.{IfErr-weaker}
-use Rattle.version_commands.specs.{Fault.ComesOfBad, Fault.ComesOfReadingOne, Hints.repeated, Lists.bad_lines_of, Lists.difference_text, Lists.names_of, Lists.rows_of, declared.files.Hint.TheVariants.Repeated}
+use Rattle.version_commands.specs.{Fault.ComesOfBad, Fault.ComesOfReadingOne, Hints.repeated, Lists.bad_lines_of, Lists.difference_text, Lists.names_of, Lists.rows_of}
+use Rattle.version_runs.specs.{declared.files.Hint.TheVariants.Repeated}
 use Rattle.version_lines.specs.Inputs.{plain_line, PlainLine}
 use Rattle.version_commands.proofs.lemmas.{Faults.reading-at, Lists.changes-bad, Lists.changes-reading, Lists.input-good}
 use Rattle.version_commands.proofs.program.changes.Goals as goal

@@ -1,5 +1,6 @@
 use Rattle.std.proofs.Common.{◌≡◌, ◌||◌, ℕ, Bool, Bor, true, false, List, Option, Result, Err, Ok, ap, map, refl, rules, subst, sym}
-use Rattle.version_commands.specs.{Hints.IsOfRun, Run.Ends, declared.faults.TaskFault.TaskFault, lines.Choice.HoldsByWords}
+use Rattle.version_commands.specs.{Hints.IsOfRun, Run.Ends, lines.Choice.HoldsByWords}
+use Rattle.version_runs.specs.{declared.faults.TaskFault.TaskFault}
 use Rattle.version_commands.proofs.lemmas.Hints.{of-run}
 use Rattle.version_commands.proofs.program.serve.Goals as goal
 

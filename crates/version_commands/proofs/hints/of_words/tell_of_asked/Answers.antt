@@ -1,7 +1,9 @@
 use Rattle.std.proofs.Common.{◌≡◌, ◌∙◌, Bor, true, List, ℕ, ap, rules, subst}
 use Rattle.std.specs.List.{list_any}
 use Rattle.version_commands.proofs.lemmas.Hints.{if-tags, tags-of-each}
-use Rattle.version_commands.specs.{Each.spelling_of, Hints.is_kept_otherwise, declared.options.Question.Question, lines.Choice.is_of}
+use Rattle.version_commands.specs.{Hints.is_kept_otherwise, lines.Choice.is_of}
+use Rattle.version_runs.specs.Place.{spelling_of}
+use Rattle.version_runs.specs.{declared.options.Question.Question}
 use Rattle.version_answers.specs.{Tags.is_bare, declared.spelling.Spelling.Spelling}
 use Rattle.version_sets.specs.Form.{has}
 use Rattle.version_commands.proofs.hints.of_words.tell_of_asked.Goals as goal

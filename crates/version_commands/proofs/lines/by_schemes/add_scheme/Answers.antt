@@ -1,6 +1,7 @@
 use Rattle.std.proofs.Common.{◌≡◌, ◌++◌, List, [], map, drop, rules, sym, ap, ◌∙◌, arith, append-nil, Bor, ℕ}
 use Rattle.std.proofs.Math.ListN.{drop_of_length-le}
-use Rattle.version_commands.specs.lines.{Arranged.arranged, Arranged.arranged_as, Picked.group_text, Picked.reads_of}
+use Rattle.version_commands.specs.lines.{Arranged.arranged, Arranged.arranged_as, Picked.group_text}
+use Rattle.version_runs.specs.Place.{reads_of}
 use Rattle.version_lines.specs.Entry.{lines_in}
 use Rattle.version_commands.proofs.lines.by_schemes.add_scheme.Goals as goal
 

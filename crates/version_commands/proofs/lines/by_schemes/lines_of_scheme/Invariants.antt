@@ -1,6 +1,7 @@
 -- With the lines that are left, those of the scheme are there.
 use Rattle.std.proofs.Common.{◌≡◌, ◌++◌, drop, map, true}
-use Rattle.version_commands.specs.lines.{Arranged.version_as, Picked.kept_lines, Picked.reads_of}
+use Rattle.version_commands.specs.lines.{Arranged.version_as, Picked.kept_lines}
+use Rattle.version_runs.specs.Place.{reads_of}
 use Rattle.version_lines.specs.Entry.{lines_in, AreRead}
 use Rattle.version_commands.proofs.lines.by_schemes.lines_of_scheme.Given as goal
 

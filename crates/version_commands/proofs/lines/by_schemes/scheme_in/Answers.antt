@@ -1,6 +1,6 @@
 use Rattle.std.proofs.Common.{ap, ◌∙◌, Some}
 use Rattle.version_schemes.specs.Scheme.{scheme_named}
-use Rattle.version_commands.specs.lines.Picked.{column_text}
+use Rattle.version_runs.specs.Place.{column_text}
 use Rattle.version_commands.proofs.lines.by_schemes.scheme_in.Goals as goal
 
 pub returns : goal.returns

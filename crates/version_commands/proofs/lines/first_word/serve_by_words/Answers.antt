@@ -2,7 +2,8 @@ use Rattle.std.proofs.Common.{◌≡◌, ◌∷◌, ℕ, false, Bor, List, [], m
 use Rattle.std.specs.{List.list_any, Option.option_map_or}
 use Rattle.version_commands.specs.Files.{AltersAtMost, Leaves, is_standard, names_read, reads_standard}
 use Rattle.version_commands.specs.lines.Choice.{without_set, Finding, HoldsByWords, IsFirstFile, StaysWord}
-use Rattle.version_commands.specs.{Cause.ComesOfArranging, Hints.IsOfRun, declared.options.LineOptions.LineOptions, lines.Ordered.bad_file, lines.Ordered.IsOrdered}
+use Rattle.version_commands.specs.{Cause.ComesOfArranging, Hints.IsOfRun, lines.Ordered.bad_file, lines.Ordered.IsOrdered}
+use Rattle.version_runs.specs.{declared.options.LineOptions.LineOptions}
 use Rattle.version_commands.proofs.lemmas.{Faults.ends-weaker, Hints.comes-of-first}
 use Rattle.version_commands.proofs.lines.first_word.serve_by_words.Goals as goal
 

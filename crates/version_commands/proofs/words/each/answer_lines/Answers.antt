@@ -1,6 +1,7 @@
 use Rattle.std.proofs.Common.{◌≡◌, [], None, true, map, sym, ap, ◌∙◌, rules}
 use Rattle.std.proofs.lemmas.Result.{IfErr-weaker, IfOk-weaker}
-use Rattle.version_commands.specs.{Each.place_of, lines.Picked.bad_lines, lines.Picked.kept_of, lines.Picked.line_text, lines.Picked.reads_of}
+use Rattle.version_commands.specs.{lines.Picked.bad_lines, lines.Picked.kept_of}
+use Rattle.version_runs.specs.Place.{place_of, line_text, reads_of}
 use Rattle.version_lines.specs.{Inputs.lines_left, Inputs.plain_line, Inputs.texts_of, Lines.lines_of, Lines.plain_end, Sort.version_in, declared.lines.LineEnd.LineEnd}
 use Rattle.version_commands.proofs.lemmas.{Each.answering-early, Each.asking-answering, Each.line-texts, Files.numbered-texts}
 use Rattle.version_commands.proofs.lemmas.Picked.{all-kept}

@@ -2,7 +2,7 @@ use Rattle.std.proofs.Common.{◌≡◌, Bool, ◌≢◌, ◌<◌, ◌≤◌, �
 use borrow.Author.Tests.{ltb-true}
 use Rattle.std.proofs.lemmas.{List.take_all, Result.IfErr-weaker, Result.IfOk-weaker}
 use Rattle.version_commands.specs.Each.{HasSet, HaveAnswered, is_version, version_asked, versions_among}
-use Rattle.version_commands.specs.declared.options.Question.{Question}
+use Rattle.version_runs.specs.declared.options.Question.{Question}
 use Rattle.version_schemes.specs.any.AnyVersion.{plain_any}
 use Rattle.version_commands.proofs.lemmas.Each.{among-next, among-still, asking-answering, last-apart, none-is, ok-asked, some-is, still-held, word-texts}
 use Rattle.version_commands.proofs.words.each.answer_words.Goals.{in-Some+in_ok-add-in-Some, in-None+in_ok-add_other-in-None, in_default-via-then-words-lt1, in_default-via-in-len1-up+else-len-words}

@@ -1,5 +1,6 @@
 use Rattle.std.proofs.Common.{◌∙◌, List, ℕ, Option, rules, inl, inr, subst, sym}
-use Rattle.version_commands.specs.{Hints.IsOfNewest, declared.files.Hint.TheVariants.Tags}
+use Rattle.version_commands.specs.{Hints.IsOfNewest}
+use Rattle.version_runs.specs.{declared.files.Hint.TheVariants.Tags}
 use Rattle.version_lines.specs.Inputs.{lines_left}
 use Rattle.version_commands.proofs.lines.run.LineRun.tell_of_arranged.Goals.{then-stand_otherwise, else-stand_otherwise}
 use Rattle.version_commands.proofs.lines.run.LineRun.tell_of_arranged.Goals as goal

@@ -1,5 +1,6 @@
 use Rattle.std.proofs.Common.{ℕ, List, rules, sym, subst}
-use Rattle.version_commands.specs.{Run.Arranges, lines.Ordered.arranged_in, lines.Picked.reads_of}
+use Rattle.version_commands.specs.{Run.Arranges, lines.Ordered.arranged_in}
+use Rattle.version_runs.specs.Place.{reads_of}
 use Rattle.version_lines.specs.{Inputs.lines_left, Sort.Reads, Sort.version_in}
 use Rattle.version_schemes.specs.declared.scheme.Scheme.TheVariants.{Mixed}
 use Rattle.version_commands.proofs.lemmas.{Hints.hints-alike}

@@ -1,5 +1,6 @@
 use Rattle.std.proofs.Common.{Bor, ℕ, List, ap, map, subst, ◌∙◌}
-use Rattle.version_commands.specs.{Hints.IsOfFilter, lines.Picked.reads_of}
+use Rattle.version_commands.specs.{Hints.IsOfFilter}
+use Rattle.version_runs.specs.Place.{reads_of}
 use Rattle.version_lines.specs.{Inputs.lines_left, Inputs.plain_line, Sort.version_in}
 use Rattle.version_commands.proofs.lemmas.Ordered.{arranges}
 use Rattle.version_commands.proofs.lines.run.LineRun.write_kept.Goals as goal

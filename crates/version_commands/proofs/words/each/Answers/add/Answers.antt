@@ -1,6 +1,7 @@
 use Rattle.std.proofs.Common.{◌≡◌, ◌∙◌, ◌++◌, ◌∷◌, [], Bool, None, refl, rules, sym, subst}
 use Rattle.version_answers.specs.{One.Adds, Spelling.named_text}
-use Rattle.version_commands.specs.{Each.HaveAnswered, Each.IsAnswer, Each.scheme_of, declared.words.each.Answers.Answers}
+use Rattle.version_commands.specs.{Each.HaveAnswered, Each.IsAnswer, declared.words.each.Answers.Answers}
+use Rattle.version_runs.specs.Place.{scheme_of}
 use Rattle.version_schemes.specs.any.AnyVersion.{plain_any}
 use Rattle.version_schemes.proofs.lemmas.Any.{is_of}
 use Rattle.version_commands.proofs.lemmas.Each.{have-next, have-none, have-still}

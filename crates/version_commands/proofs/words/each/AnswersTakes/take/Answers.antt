@@ -1,6 +1,7 @@
 use Rattle.std.proofs.Common.{◌++◌, ◌∷◌, [], ℕ, Bool, List, map, sym, subst, ap, ◌∙◌}
 use Rattle.std.proofs.lemmas.{List.map_push, Result.on_ok_weaker}
-use Rattle.version_commands.specs.{Each.HaveAnswered, lines.Picked.line_text}
+use Rattle.version_commands.specs.{Each.HaveAnswered}
+use Rattle.version_runs.specs.Place.{line_text}
 use Rattle.version_commands.proofs.words.each.AnswersTakes.take.Goals as goal
 
 pub returns-clause-taken : goal.returns-clause-taken
